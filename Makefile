@@ -1,0 +1,4 @@
+# make test: what the gate runs.
+.PHONY: test
+test:
+	bash .ci/run

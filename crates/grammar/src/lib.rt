@@ -1,0 +1,1 @@
+// Books, their meaning and the theorems about them: definitions and laws alone, under specs/.

@@ -1,0 +1,103 @@
+-- The operations of `Sets` on numbers below 2 ^ 32 are the machine's: union is `|`, meet is `&`, and the two tests compare an `&`.
+-- Assumes nothing.
+use Prim.Native.Nat.{ℕ, zero, suc, _/_, _%_, _^_, _<_, min, max}
+use mathlib.Core.Path.{_≡_, refl, sym, ap, _∙_}
+use mathlib.Core.Bool.{Bool, true, false, not, _&&_, _||_}
+use native.Mathlib.Omega.{arith}
+use lib.Dec.{eqb}
+use lib.Bits.{bitAnd, bitOr, and-step, or-step, and-shr, or-shr, and-lt, or-lt}
+use borrow.Author.Tests.{eq-eqb, ne-eqb, eqb-true}
+use Rattle.sets.specs.Sets.{bit, empty, union, meet, subset, meets}
+use Rattle.sets.specs.SetsLaws.{bit-empty, bit-union, bit-meet, empty-lt, union-lt, meet-lt, same-set, subset-holds, subset-true, meets-holds, meets-false}
+
+-- ---- the bits of `|` and `&`
+
+-- what holds of 0 and of 1 holds of a binary digit
+digit : (P : ℕ → Type 0) → P 0 → P 1 → (x : ℕ) → x < 2 → P x
+digit P p q zero h = p
+digit P p q (suc zero) h = q
+digit P p q (suc (suc x)) h = absurd (omega arith)
+
+max-or : (x y : ℕ) → x < 2 → y < 2 → eqb (max x y) 1 ≡ (eqb x 1 || eqb y 1)
+max-or x y p q =
+    digit (λ x. eqb (max x y) 1 ≡ (eqb x 1 || eqb y 1))
+    (digit (λ y. eqb (max 0 y) 1 ≡ (eqb 0 1 || eqb y 1)) refl refl y q)
+    (digit (λ y. eqb (max 1 y) 1 ≡ (eqb 1 1 || eqb y 1)) refl refl y q) x p
+
+min-and : (x y : ℕ) → x < 2 → y < 2 → eqb (min x y) 1 ≡ (eqb x 1 && eqb y 1)
+min-and x y p q =
+    digit (λ x. eqb (min x y) 1 ≡ (eqb x 1 && eqb y 1))
+    (digit (λ y. eqb (min 0 y) 1 ≡ (eqb 0 1 && eqb y 1)) refl refl y q)
+    (digit (λ y. eqb (min 1 y) 1 ≡ (eqb 1 1 && eqb y 1)) refl refl y q) x p
+
+pub bit-or : (a b i : ℕ) → bit (bitOr a b) i ≡ (bit a i || bit b i)
+unfolding bit
+bit-or a b i =
+    let x : ℕ = a / 2 ^ i in
+    let y : ℕ = b / 2 ^ i in
+    let low : bitOr x y % 2 ≡ max (x % 2) (y % 2) = omega (arith, or-step x y) in
+    ap (λ (n : ℕ). eqb (n % 2) 1) (or-shr a b i) ∙ ap (λ (n : ℕ). eqb n 1) low ∙ max-or (x % 2) (y % 2) (omega arith) (omega arith)
+
+pub bit-and : (a b i : ℕ) → bit (bitAnd a b) i ≡ (bit a i && bit b i)
+unfolding bit
+bit-and a b i =
+    let x : ℕ = a / 2 ^ i in
+    let y : ℕ = b / 2 ^ i in
+    let low : bitAnd x y % 2 ≡ min (x % 2) (y % 2) = omega (arith, and-step x y) in
+    ap (λ (n : ℕ). eqb (n % 2) 1) (and-shr a b i) ∙ ap (λ (n : ℕ). eqb n 1) low ∙ min-and (x % 2) (y % 2) (omega arith) (omega arith)
+
+-- ---- the operations
+
+pub union-or : (a b : ℕ) → a < 2 ^ 32 → b < 2 ^ 32 → union a b ≡ bitOr a b
+union-or a b la lb =
+    same-set (union a b) (bitOr a b) (union-lt a b) (or-lt 32 a b la lb) (λ i h. bit-union a b i h ∙ sym (bit-or a b i))
+
+pub meet-and : (a b : ℕ) → a < 2 ^ 32 → b < 2 ^ 32 → meet a b ≡ bitAnd a b
+meet-and a b la lb =
+    same-set (meet a b) (bitAnd a b) (meet-lt a b) (and-lt 32 a b la lb) (λ i h. bit-meet a b i h ∙ sym (bit-and a b i))
+
+-- ---- the tests
+
+same-truth : (s t : Bool) → (s ≡ true → t ≡ true) → (t ≡ true → s ≡ true) → s ≡ t
+same-truth true t p q = sym (p refl)
+same-truth false true p q = q refl
+same-truth false false p q = refl
+
+absorbed : (s t : Bool) → (s ≡ true → t ≡ true) → (s && t) ≡ s
+absorbed true t h = h refl
+absorbed false t h = refl
+
+kept : (s t : Bool) → (s && t) ≡ s → s ≡ true → t ≡ true
+kept true t e q = e
+kept false t e q = cc
+
+pub subset-and : (a b : ℕ) → a < 2 ^ 32 → b < 2 ^ 32 → subset a b ≡ eqb (bitAnd a b) a
+subset-and a b la lb =
+    same-truth (subset a b) (eqb (bitAnd a b) a)
+    (λ e. eq-eqb (bitAnd a b) a
+    (same-set (bitAnd a b) a (and-lt 32 a b la lb) la (λ i h. bit-and a b i ∙ absorbed (bit a i) (bit b i) (subset-holds a b e i h))))
+    (λ e. subset-true a b
+    (λ i h. kept (bit a i) (bit b i) (sym (bit-and a b i) ∙ ap (λ (x : ℕ). bit x i) (eqb-true (bitAnd a b) a e))))
+
+apart : (s t : Bool) → (s ≡ true → t ≡ true → ⊥) → (s && t) ≡ false
+apart true true h = absurd (h refl refl)
+apart true false h = refl
+apart false t h = refl
+
+pub meets-and : (a b : ℕ) → a < 2 ^ 32 → b < 2 ^ 32 → meets a b ≡ not (eqb (bitAnd a b) 0)
+unfolding empty
+meets-and a b la lb = go (meets a b) refl
+  where
+    go : (t : Bool) → meets a b ≡ t → meets a b ≡ not (eqb (bitAnd a b) 0)
+    go true e =
+        let m = meets-holds a b e in
+        e ∙ ap not (sym (ne-eqb (bitAnd a b) 0 (λ q.
+        let l : bit a (m .number) ≡ true = m .left in
+        let r : bit b (m .number) ≡ true = m .right in
+        let f : bit (bitAnd a b) (m .number) ≡ (bit a (m .number) && bit b (m .number)) = bit-and a b (m .number) in
+        let g : bit 0 (m .number) ≡ false = bit-empty (m .number) in
+        let z : _≡_ {A = ℕ} 0 1 = cc in omega arith)))
+    go false e =
+        e ∙ ap not (sym (eq-eqb (bitAnd a b) 0
+        (same-set (bitAnd a b) 0 (and-lt 32 a b la lb) empty-lt
+        (λ i h. bit-and a b i ∙ apart (bit a i) (bit b i) (meets-false a b e i h) ∙ sym (bit-empty i)))))

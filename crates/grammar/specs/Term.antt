@@ -12,6 +12,7 @@ pub data Term (A : Type 0) : Type 0 where
   leaf : A → Term A
   both : Operator → Term A → Term A → Term A
   pick : Term A → Term A → Term A → Term A
+  deriving Discrete as Term-discrete
 
 -- "Each bracket, and each number that is itself an expression, counts as one node"
 unfoldable pub nodes : {A : Type 0} → Term A → ℕ

@@ -3,5 +3,8 @@ pub mod ClassLaws
 pub mod Numeral
 pub mod NumeralLaws
 pub mod Positional
+pub mod Reading
+pub mod ReadingLaws
 pub mod Rest
 pub mod RestLaws
+pub mod Table

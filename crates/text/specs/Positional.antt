@@ -53,6 +53,14 @@ pub record Was (S : System) (n : ℕ) (bs r : List ℕ) : Type 0 where
 module _ (S : System) where
   -- The clauses, as laws
 
+  pub digit-is : (b : ℕ) → classOf b ≡ S .class → digitOf S b ≡ b - S .zero-byte
+  unfolding digitOf
+  digit-is b h = rw (eq-eqb (classOf b) (S .class) h)
+
+  pub digit-none : (b : ℕ) → (classOf b ≡ S .class → ⊥) → digitOf S b ≡ S .base
+  unfolding digitOf
+  digit-none b h = rw (ne-eqb (classOf b) (S .class) h)
+
   pub written-small : (f n : ℕ) (r : List ℕ) → n < S .base → written S (suc f) n r ≡ (S .zero-byte + n) ∷ r
   unfolding written
   written-small f n r h = rw (lt-ltb n (S .base), written)
@@ -88,6 +96,13 @@ module _ (S : System) where
   unfolding numeral
   numeral-some b r h k = rw (ne-eqb (digitOf S b) 0 h, numeral) (rw (ne-eqb (digitOf S b) (S .base) k))
 
+  -- the first digit is the number so far
+  pub numeral-first : (b : ℕ) (r : List ℕ) → (digitOf S b ≡ 0 → ⊥) → (digitOf S b ≡ S .base → ⊥) → digitOf S b ≤ S .limit
+      → numeral S (b ∷ r) ≡ digits S (digitOf S b) r
+  numeral-first b r h k l =
+      let s : 0 * S .base + digitOf S b ≡ digitOf S b = omega (arith, zero-mul (S .base)) in
+      numeral-some b r h k ∙ (digits-more 0 b r k (rw s l) ∙ rw s)
+
 module _ (S : System) (P : Positional S) where
   -- a byte that is a digit is the digit's byte, and the digit is below the base
   pub digit-byte : (b : ℕ) → (digitOf S b ≡ S .base → ⊥) → S .zero-byte + digitOf S b ≡ b
@@ -107,6 +122,13 @@ module _ (S : System) (P : Positional S) where
           let e = eqb-true (classOf b) (S .class) q in
           rw q (omega (arith, P .from-zero b e, P .to-base b e))
       go false q = absurd (h (rw q))
+
+  pub digit-most : (b : ℕ) → digitOf S b ≤ S .base
+  digit-most b = go (eqb (digitOf S b) (S .base)) refl
+    where
+      go : (t : Bool) → eqb (digitOf S b) (S .base) ≡ t → digitOf S b ≤ S .base
+      go true q = omega (arith, eqb-true (digitOf S b) (S .base) q)
+      go false q = omega (arith, digit-below b (eqb-false (digitOf S b) (S .base) q))
 
   fewer : (n : ℕ) → S .base ≤ n → n / S .base < n
   fewer n h = div-lt-self (omega (arith, P .base-is)) (P .base-is)

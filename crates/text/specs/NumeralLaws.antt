@@ -1,8 +1,6 @@
 -- Laws of the readers of numbers and words: what they read was written, what is written they read, and how much they leave.
 -- Assumes nothing.
 use Prim.Native.Nat.{ℕ, suc, _+_, _*_, _≤_, _<_}
-use Prim.Native.String.{String, [] as []ˢ, _∷_ as _∷ˢ_}
-use Prim.Native.Char.{code}
 use mathlib.Core.Path.{_≡_, refl, sym, ap, _∙_}
 use mathlib.Core.Bool.{Bool, true, false}
 use mathlib.Core.List.{List, [], _∷_}
@@ -14,7 +12,7 @@ use Rattle.text.specs.Class.{classOf, digit, open-bracket}
 use Rattle.text.specs.ClassLaws.{range-digit}
 use Rattle.text.specs.Rest.{Rest, lost, left, found, must, mark, size}
 use Rattle.text.specs.RestLaws.{lost≢left, left-is, found-got, must-got, mark-other, size-must, size-found}
-use Rattle.text.specs.Numeral.{System, decimal, letters, Read, bad, got, digitOf, digits, numeral, write, numberOf, restOf, read, value, past, wordOf, keyword, opens}
+use Rattle.text.specs.Numeral.{System, decimal, letters, Read, bad, got, digitOf, digits, numeral, write, numberOf, restOf, read, value, past, keyword}
 use Rattle.text.specs.Positional.{Positional, decimal-positional, letters-positional, Was, no-digit, written-number, read-written, written-begins}
 
 -- From a reader that left something to what it was given
@@ -136,38 +134,3 @@ size-keyword w o = omega (arith, size-must (eqb (value letters o) w) (past lette
 pub less-keyword : (w : ℕ) (o : Rest) → found o ≡ true → size (keyword w o) < size o
 unfolding keyword
 less-keyword w o h = omega (arith, size-must (eqb (value letters o) w) (past letters o), less-past letters o h)
-
--- Examples, computed
-
-bytes : String → List ℕ
-bytes []ˢ = []
-bytes (c ∷ˢ s) = code c ∷ bytes s
-
--- a word is written as its letters, in front of any rest
-word-written : (r : List ℕ) → write letters (wordOf "inhdef") r ≡ 105 ∷ 110 ∷ 104 ∷ 100 ∷ 101 ∷ 102 ∷ r
-unfolding opens
-word-written r = refl
-
-word-read : numeral letters (bytes "inh i0") ≡ got (wordOf "inh") (bytes " i0")
-unfolding opens bytes classOf
-word-read = refl
-
-largest : numeral decimal (bytes "4294967295)") ≡ got 4294967295 (bytes ")")
-unfolding opens bytes classOf
-largest = refl
-
-too-large : numeral decimal (bytes "4294967296)") ≡ bad
-unfolding opens bytes classOf
-too-large = refl
-
-leading-zero : numeral decimal (bytes "01") ≡ got 0 (bytes "1")
-unfolding opens bytes classOf
-leading-zero = refl
-
-no-number : numeral decimal (bytes "x") ≡ bad
-unfolding opens bytes classOf
-no-number = refl
-
-ended : (r : List ℕ) → no-digit decimal (32 ∷ r) ≡ true
-unfolding no-digit digitOf classOf
-ended r = refl

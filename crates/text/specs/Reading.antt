@@ -3,14 +3,15 @@
 use Prim.Native.Nat.{ℕ, _≤_}
 use mathlib.Core.Path.{_≡_}
 use mathlib.Core.List.{List}
-use lib.ListN.{length, drop}
+use native.Mathlib.Omega.{arith}
+use lib.ListN.{length}
 use Rattle.text.specs.declared.Notation.{Notation}
 use Rattle.text.specs.Table.{table}
 use Rattle.text.specs.Rest.{rest}
-use Rattle.text.specs.Numeral.{System, Read, numberOf, restOf, digits, value, past}
-use Rattle.text.specs.Positional.{Positional}
+use Rattle.text.specs.Numeral.{System, decimal, letters, Read, numberOf, restOf, value, past}
+use Rattle.text.specs.Positional.{Positional, decimal-positional, letters-positional}
 
--- what is lent to each reader: the table of classes, and a text that is not too long
+-- what is lent to a reader: the table of classes, and a text that is not too long
 pub record Lent (classes text : List ℕ) : Type 0 where
   pub table-is : classes ≡ table
   pub short : length text ≤ 65536
@@ -18,25 +19,30 @@ pub record Lent (classes text : List ℕ) : Type 0 where
 abbrev pub systemOf : Notation → System
 systemOf s = record { class = s .class; zero-byte = s .zero; base = s .base; limit = s .limit }
 
--- a system that the code can work with: one digit is a number, and no number passes a word
+-- a system that the code can read: one digit is a number, and a number is a word of 32 bits
 pub record Valid (S : System) : Type 0 where
   pub positional : Positional S
   pub one-digit : S .base ≤ S .limit
   pub base-fits : S .base ≤ 256
   pub limit-fits : S .limit ≤ 4294967295
 
+pub decimal-valid : Valid decimal
+decimal-valid = record { positional = decimal-positional; one-digit = omega arith; base-fits = omega arith; limit-fits = omega arith }
+
+pub letters-valid : Valid letters
+letters-valid = record { positional = letters-positional; one-digit = omega arith; base-fits = omega arith; limit-fits = omega arith }
+
 -- the number that stands at a position, and the position after it
 pub record Reads (S : System) (text : List ℕ) (at number next : ℕ) : Type 0 where
   pub value-is : number ≡ value S (rest text at)
   pub rest-is : rest text next ≡ past S (rest text at)
 
--- the same of a number in the midst of its digits
-pub record Tells (m : Read) (text : List ℕ) (number next : ℕ) : Type 0 where
-  pub number-is : number ≡ numberOf m
-  pub next-is : rest text next ≡ restOf m
+-- amid the digits of a number: the number so far, and the position of the next byte
+pub record Amid (S : System) (text : List ℕ) (number at : ℕ) : Type 0 where
+  pub within : at ≤ length text
+  pub small : number ≤ S .limit
 
--- the loop over the digits: what stands at i, with v so far, is what stood at the beginning
-pub record Going (S : System) (text : List ℕ) (first at v i : ℕ) : Type 0 where
-  pub within : i ≤ length text
-  pub small : v ≤ S .limit
-  pub same : digits S first (drop at text) ≡ digits S v (drop i text)
+-- what was read, as a number and the position after it
+pub record Answers (what : Read) (text : List ℕ) (number next : ℕ) : Type 0 where
+  pub number-is : number ≡ numberOf what
+  pub next-is : rest text next ≡ restOf what

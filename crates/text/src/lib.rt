@@ -8,7 +8,7 @@ ghost use Rattle.text.specs.Class.{classOf};
 ghost use Rattle.text.specs.Table.{table};
 ghost use Rattle.text.specs.Rest.{rest, mark, must};
 ghost use Rattle.text.specs.Numeral.{decimal, letters, digitOf, digits, keyword};
-ghost use Rattle.text.specs.Reading.{Lent, Valid, Reads, Tells, systemOf};
+ghost use Rattle.text.specs.Reading.{Lent, Valid, Reads, Amid, Answers, systemOf};
 
 // The numbers of the classes.
 pub const DIGIT: u8 = 1;
@@ -99,8 +99,8 @@ pub fn digit(t: &[u8; 256], s: Notation, b: u8) -> u64
 
 // Reads on, with the number so far, up to the first byte that is no digit.
 fn digits(t: &[u8; 256], text: &[u8], s: Notation, first: u64, at: usize) -> Cursor
-    requires { ⌜ Lent (now t) (now text) × Valid (systemOf s) × (first ≤ s .limit) × (at ≤ length (now text)) ⌝ }
-    ensures { λ r. ⌜ Tells (digits (systemOf s) first (drop at (now (text .entry)))) (now (text .entry)) (r .value) (r .at) ⌝ }
+    requires { ⌜ Lent (now t) (now text) × Valid (systemOf s) × Amid (systemOf s) (now text) first at ⌝ }
+    ensures { λ r. ⌜ Answers (digits (systemOf s) first (drop at (now (text .entry)))) (now (text .entry)) (r .value) (r .at) ⌝ }
 {
     let n = text.len();
     let base = s.base;

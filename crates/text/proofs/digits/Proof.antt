@@ -1,9 +1,9 @@
 use Prim.Native.Nat.{_-_}
 use native.Mathlib.Omega.{arith}
 use lib.ListN.{length, getD}
-use Rattle.text.specs.Reading.{Going, systemOf}
+use Rattle.text.specs.Reading.{systemOf}
 use Rattle.text.specs.Positional.{digit-most}
-use Rattle.text.specs.ReadingLaws.{going-start, going-stop, going-over, going-turn, going-end, next-fits}
+use Rattle.text.proofs.Steps.{Going, going-start, going-stop, going-over, going-turn, going-end, next-fits}
 use borrow.Author.Needs.{needs}
 use Rattle.text.proofs.digits.Statement.{statement}
 use Rattle.text.proofs.digits.Tie as tie
@@ -19,8 +19,7 @@ abbrev μ-loop : tie.MeasureT-loop
 
 -- src/lib.rt:110:5
 loop-holds : tie.Need-loop-holds Inv-loop μ-loop
-loop-holds c = let p = c .before .pre in
-    going-start _ _ _ _ (p .3) (p .2)
+loop-holds c = going-start _ _ _ _ (c .before .pre .2)
 
 -- src/lib.rt:111:29
 shared-slice-read-digit : tie.Need-shared-slice-read-digit Inv-loop μ-loop
@@ -44,14 +43,14 @@ returns c = let k = c .before in
 -- src/lib.rt:115:13
 mul-v : tie.Need-mul-v Inv-loop μ-loop
 mul-v c = let a = c .before .before .before .before in
-    omega (arith, next-fits (a .before .before .pre .1) (a .loop .inv .small))
+    omega (arith, next-fits (a .before .before .pre .1) (a .loop .inv .amid .small))
 
 -- src/lib.rt:115:13
 add-v : tie.Need-add-v Inv-loop μ-loop
 add-v c = let k = c .before in
     let a = k .before .before .before in
     let p = a .before .before .pre .1 in
-    omega (arith, next-fits p (a .loop .inv .small), p .base-fits, k .digit .ensures, digit-most _ (p .positional) (getD (a .before .before .args .text .now) (a .loop .i) 0))
+    omega (arith, next-fits p (a .loop .inv .amid .small), p .base-fits, k .digit .ensures, digit-most _ (p .positional) (getD (a .before .before .args .text .now) (a .loop .i) 0))
 
 -- src/lib.rt:117:43
 add-t17 : tie.Need-add-t17 Inv-loop μ-loop

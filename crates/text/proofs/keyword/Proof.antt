@@ -1,4 +1,4 @@
-use Rattle.text.specs.ReadingLaws.{keyword-at}
+use Rattle.text.proofs.Steps.{keyword-at}
 use borrow.Author.Needs.{needs}
 use Rattle.text.proofs.keyword.Statement.{statement}
 use Rattle.text.proofs.keyword.Tie as tie

@@ -1,6 +1,6 @@
 use native.Mathlib.Omega.{arith}
 use mathlib.Core.Path.{sym, _∙_}
-use Rattle.text.specs.ReadingLaws.{mark-out, mark-not, mark-at}
+use Rattle.text.proofs.Steps.{mark-out, mark-not, mark-at}
 use borrow.Author.Needs.{needs}
 use Rattle.text.proofs.mark.Statement.{statement}
 use Rattle.text.proofs.mark.Tie as tie

@@ -1,4 +1,4 @@
-use Rattle.text.specs.ReadingLaws.{decimal-valid}
+use Rattle.text.specs.Reading.{decimal-valid}
 use borrow.Author.Needs.{needs}
 use Rattle.text.proofs.number.Statement.{statement}
 use Rattle.text.proofs.number.Tie as tie

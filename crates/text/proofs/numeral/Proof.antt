@@ -1,5 +1,5 @@
 use native.Mathlib.Omega.{arith}
-use Rattle.text.specs.ReadingLaws.{first-fits, reads-out, reads-zero, reads-none, reads-some}
+use Rattle.text.proofs.Steps.{first-fits, reads-out, reads-zero, reads-none, reads-some}
 use borrow.Author.Needs.{needs}
 use Rattle.text.proofs.numeral.Statement.{statement}
 use Rattle.text.proofs.numeral.Tie as tie
@@ -50,7 +50,7 @@ add-digits c = search needs
 digits-requires : tie.Need-digits-requires
 digits-requires c κs = let k = c .before .before .before in
     let p = k .before .before .before .before .pre in
-    (p .0, p .1, first-fits _ (p .1) (k .digit .ensures) (c .if3 .left), omega (arith, k .before .before .if1 .left))
+    (p .0, p .1, record { within = omega (arith, k .before .before .if1 .left); small = first-fits _ (p .1) (k .digit .ensures) (c .if3 .left) })
 
 -- src/lib.rt:125:1
 returns-4 : tie.Need-returns-4

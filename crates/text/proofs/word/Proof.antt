@@ -1,4 +1,4 @@
-use Rattle.text.specs.ReadingLaws.{letters-valid}
+use Rattle.text.specs.Reading.{letters-valid}
 use borrow.Author.Needs.{needs}
 use Rattle.text.proofs.word.Statement.{statement}
 use Rattle.text.proofs.word.Tie as tie

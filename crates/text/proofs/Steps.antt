@@ -1,4 +1,4 @@
--- Laws from the code's answers to what the readers say: at one position, and through the loop over the digits.
+-- The steps of the readers in code: each way out of `mark`, `numeral`, `digits` and `keyword`, and each turn of the loop over the digits.
 -- Assumes nothing.
 use Prim.Native.Nat.{ℕ, _+_, _*_, _≤_, _<_}
 use mathlib.Core.Path.{_≡_, refl, sym, ap, _∙_}
@@ -6,47 +6,21 @@ use mathlib.Core.Bool.{Bool, true, false}
 use mathlib.Core.List.{List, [], _∷_}
 use native.Mathlib.Omega.{arith}
 use native.Mathlib.Nat.{mul-le-mul}
-use native.Mathlib.Numerals.{add-one}
-use lib.Dec.{leb, eqb}
+use lib.Dec.{eqb}
 use lib.ListN.{length, drop, getD, drop-of-length-le}
-use lib.Seq.{drop-cons}
 use borrow.Author.Tests.{eq-eqb}
 use Rattle.text.specs.Class.{classOf}
 use Rattle.text.specs.Rest.{Rest, lost, left, rest, must, mark, markIn}
-use Rattle.text.specs.RestLaws.{rest-in, rest-out, mark-class, mark-other}
-use Rattle.text.specs.Numeral.{System, decimal, letters, Read, bad, got, digitOf, digits, numeral, read, numberOf, restOf, value, past, keyword}
-use Rattle.text.specs.Positional.{decimal-positional, letters-positional, no-digit, digit-below, digits-stop, digits-over, digits-more, numeral-zero, numeral-none, numeral-first}
-use Rattle.text.specs.Reading.{Valid, Reads, Tells, Going}
-
-pub decimal-valid : Valid decimal
-decimal-valid = record { positional = decimal-positional; one-digit = omega arith; base-fits = omega arith; limit-fits = omega arith }
-
-pub letters-valid : Valid letters
-letters-valid = record { positional = letters-positional; one-digit = omega arith; base-fits = omega arith; limit-fits = omega arith }
-
--- What stands at a position
-
--- the rest at i is the element there and the rest at i + 1
-pub drop-more : (l : List ℕ) (i : ℕ) → i < length l → drop i l ≡ getD l i 0 ∷ drop (i + 1) l
-drop-more l i h = rw (add-one) (drop-cons l i 0 h)
-
-pub rest-at : (text : List ℕ) (at : ℕ) → at < length text → rest text at ≡ left (getD text at 0 ∷ drop (at + 1) text)
-rest-at text at h = rest-in text at (omega arith) ∙ rw (drop-more text at h)
-
--- at the end or past it
-by-end : {C : Type 0} (text : List ℕ) (at : ℕ) → length text ≤ at → (rest text at ≡ lost → C) → (rest text at ≡ left [] → C) → C
-unfolding rest
-by-end {C} text at h out end = go (leb at (length text)) refl
-  where
-    go : (t : Bool) → leb at (length text) ≡ t → C
-    go true q = end (rw (q, rest, drop-of-length-le text h))
-    go false q = out (rw (q, rest))
+use Rattle.text.specs.RestLaws.{rest-in, rest-out, rest-at, rest-end, drop-more, mark-class, mark-other}
+use Rattle.text.specs.Numeral.{System, letters, Read, bad, got, digitOf, digits, numeral, read, numberOf, restOf, value, past, keyword}
+use Rattle.text.specs.Positional.{no-digit, digit-below, digits-stop, digits-over, digits-more, numeral-zero, numeral-none, numeral-first}
+use Rattle.text.specs.Reading.{Valid, Reads, Amid, Answers}
 
 -- One byte
 
 pub mark-out : (c : ℕ) (text : List ℕ) (at next : ℕ) → length text ≤ at → length text < next → rest text next ≡ mark c (rest text at)
 unfolding mark markIn
-mark-out c text at next h k = by-end text at h (λ e. rw (e, rest-out text next k)) (λ e. rw (e, rest-out text next k))
+mark-out c text at next h k = rest-end text at h (λ e. rw (e, rest-out text next k)) (λ e. rw (e, rest-out text next k))
 
 pub mark-at : (c : ℕ) (text : List ℕ) (at : ℕ) → at < length text → classOf (getD text at 0) ≡ c → rest text (at + 1) ≡ mark c (rest text at)
 mark-at c text at h e = rw (rest-at text at h, mark-class (getD text at 0) c (drop (at + 1) text) e) (rest-in text (at + 1) (omega arith))
@@ -58,55 +32,58 @@ mark-not c text at next h e k = rw (rest-at text at h, mark-other (getD text at 
 -- Numbers
 
 module _ {m : Read} (text : List ℕ) where
-  pub tells-got : (n next : ℕ) → next ≤ length text → m ≡ got n (drop next text) → Tells m text n next
+  answers-got : (n next : ℕ) → next ≤ length text → m ≡ got n (drop next text) → Answers m text n next
   unfolding numberOf restOf
-  tells-got n next h e = record { number-is = sym (ap numberOf e); next-is = rest-in text next h ∙ sym (ap restOf e) }
+  answers-got n next h e = record { number-is = sym (ap numberOf e); next-is = rest-in text next h ∙ sym (ap restOf e) }
 
-  pub tells-bad : (next : ℕ) → length text < next → m ≡ bad → Tells m text 0 next
+  answers-bad : (next : ℕ) → length text < next → m ≡ bad → Answers m text 0 next
   unfolding numberOf restOf
-  tells-bad next h e = record { number-is = sym (ap numberOf e); next-is = rest-out text next h ∙ sym (ap restOf e) }
+  answers-bad next h e = record { number-is = sym (ap numberOf e); next-is = rest-out text next h ∙ sym (ap restOf e) }
 
 -- the first digit is a number, as any other
 pub first-fits : {S : System} {d : ℕ} (b : ℕ) → Valid S → d ≡ digitOf S b → (d ≡ S .base → ⊥) → d ≤ S .limit
 first-fits {S} b k e h = omega (arith, k .one-digit, e, digit-below S (k .positional) b (λ q. h (e ∙ q)))
 
 module _ (S : System) (text : List ℕ) (at : ℕ) where
-  reads-of : {m : Read} {v next : ℕ} → read S (rest text at) ≡ m → Tells m text v next → Reads S text at v next
+  reads-of : {m : Read} {v next : ℕ} → read S (rest text at) ≡ m → Answers m text v next → Reads S text at v next
   unfolding value past
   reads-of e t = record { value-is = t .number-is ∙ sym (ap numberOf e); rest-is = t .next-is ∙ sym (ap restOf e) }
 
   read-out : length text ≤ at → read S (rest text at) ≡ bad
   unfolding read numeral
-  read-out h = by-end text at h (λ e. rw e) (λ e. rw e)
+  read-out h = rest-end text at h (λ e. rw e) (λ e. rw e)
 
   read-at : at < length text → read S (rest text at) ≡ numeral S (getD text at 0 ∷ drop (at + 1) text)
   unfolding read
   read-at h = ap (read S) (rest-at text at h)
 
   pub reads-out : {next : ℕ} → length text ≤ at → length text < next → Reads S text at 0 next
-  reads-out {next} h l = reads-of (read-out h) (tells-bad text next l refl)
+  reads-out {next} h l = reads-of (read-out h) (answers-bad text next l refl)
 
   -- by the first byte's digit: it is 0, it is none, it begins a number
   module _ {d : ℕ} (h : at < length text) (e : d ≡ digitOf S (getD text at 0)) where
     pub reads-zero : d ≡ 0 → Reads S text at 0 (at + 1)
     reads-zero z =
-        reads-of (read-at h ∙ numeral-zero S (getD text at 0) (drop (at + 1) text) (sym e ∙ z)) (tells-got text 0 (at + 1) (omega arith) refl)
+        reads-of (read-at h ∙ numeral-zero S (getD text at 0) (drop (at + 1) text) (sym e ∙ z)) (answers-got text 0 (at + 1) (omega arith) refl)
 
     pub reads-none : {next : ℕ} → (d ≡ 0 → ⊥) → d ≡ S .base → length text < next → Reads S text at 0 next
     reads-none {next} z k l =
-        reads-of (read-at h ∙ numeral-none S (getD text at 0) (drop (at + 1) text) (λ q. z (e ∙ q)) (sym e ∙ k)) (tells-bad text next l refl)
+        reads-of (read-at h ∙ numeral-none S (getD text at 0) (drop (at + 1) text) (λ q. z (e ∙ q)) (sym e ∙ k)) (answers-bad text next l refl)
 
-    pub reads-some : {v next : ℕ} → Valid S → (d ≡ 0 → ⊥) → (d ≡ S .base → ⊥) → Tells (digits S d (drop (at + 1) text)) text v next → Reads S text at v next
+    pub reads-some : {v next : ℕ} → Valid S → (d ≡ 0 → ⊥) → (d ≡ S .base → ⊥) → Answers (digits S d (drop (at + 1) text)) text v next → Reads S text at v next
     reads-some k z n t =
         reads-of
         (read-at h ∙ (numeral-first S (getD text at 0) (drop (at + 1) text) (λ q. z (e ∙ q)) (λ q. n (e ∙ q)) (rw (← e) (first-fits (getD text at 0) k e n)) ∙ rw (← e)))
         t
 
--- The loop over the digits
+-- The loop over the digits: what stands at i, with v so far, is what stood at the beginning
+pub record Going (S : System) (text : List ℕ) (first at v i : ℕ) : Type 0 where
+  pub amid : Amid S text v i
+  pub same : digits S first (drop at text) ≡ digits S v (drop i text)
 
 module _ (S : System) (text : List ℕ) (first at : ℕ) where
-  pub going-start : at ≤ length text → first ≤ S .limit → Going S text first at first at
-  going-start h l = record { within = h; small = l; same = refl }
+  pub going-start : Amid S text first at → Going S text first at first at
+  going-start a = record { amid = a; same = refl }
 
   module _ {v i : ℕ} (g : Going S text first at v i) where
     here : i < length text → digits S first (drop at text) ≡ digits S v (getD text i 0 ∷ drop (i + 1) text)
@@ -117,26 +94,25 @@ module _ (S : System) (text : List ℕ) (first at : ℕ) where
         → Going S text first at (v * S .base + d) (i + 1)
     going-turn {d} h e k l =
         record {
-          within = omega arith;
-          small = l;
+          amid = record { within = omega arith; small = l };
           same = here h ∙ (digits-more S v (getD text i 0) (drop (i + 1) text) (λ q. k (e ∙ q)) (rw (← e) l) ∙ rw e);
         }
 
     -- a byte that is no digit, a digit too many, the end of the text
-    pub going-stop : {d : ℕ} → i < length text → d ≡ digitOf S (getD text i 0) → d ≡ S .base → Tells (digits S first (drop at text)) text v i
+    pub going-stop : {d : ℕ} → i < length text → d ≡ digitOf S (getD text i 0) → d ≡ S .base → Answers (digits S first (drop at text)) text v i
     unfolding no-digit
     going-stop {d} h e k =
         let z : no-digit S (getD text i 0 ∷ drop (i + 1) text) ≡ true = eq-eqb (digitOf S (getD text i 0)) (S .base) (sym e ∙ k) in
-        tells-got text v i (g .within) (here h ∙ (digits-stop S v (getD text i 0 ∷ drop (i + 1) text) z ∙ rw (drop-more text i h)))
+        answers-got text v i (g .amid .within) (here h ∙ (digits-stop S v (getD text i 0 ∷ drop (i + 1) text) z ∙ rw (drop-more text i h)))
 
     pub going-over : {d next : ℕ} → i < length text → d ≡ digitOf S (getD text i 0) → (d ≡ S .base → ⊥) → S .limit < v * S .base + d
-        → length text < next → Tells (digits S first (drop at text)) text 0 next
+        → length text < next → Answers (digits S first (drop at text)) text 0 next
     going-over {d} {next} h e k l m =
-        tells-bad text next m (here h ∙ digits-over S v (getD text i 0) (drop (i + 1) text) (λ q. k (e ∙ q)) (rw (← e) l))
+        answers-bad text next m (here h ∙ digits-over S v (getD text i 0) (drop (i + 1) text) (λ q. k (e ∙ q)) (rw (← e) l))
 
-    pub going-end : length text ≤ i → Tells (digits S first (drop at text)) text v i
+    pub going-end : length text ≤ i → Answers (digits S first (drop at text)) text v i
     unfolding digits
-    going-end h = tells-got text v i (g .within) (g .same ∙ rw (drop-of-length-le text h))
+    going-end h = answers-got text v i (g .amid .within) (g .same ∙ rw (drop-of-length-le text h))
 
 -- no sum passes 64 bits
 pub next-fits : {S : System} {v : ℕ} → Valid S → v ≤ S .limit → v * S .base ≤ 1099511627520

@@ -2,15 +2,15 @@
 -- Assumes nothing.
 use Prim.Native.Nat.{ℕ, _+_, _*_, _≤_, _<_}
 use mathlib.Core.Path.{_≡_, refl, sym, ap, _∙_}
-use mathlib.Core.Bool.{Bool, true, false}
-use mathlib.Core.List.{List, [], _∷_}
+use mathlib.Core.Bool.{true}
+use mathlib.Core.List.{List, _∷_}
 use native.Mathlib.Omega.{arith}
 use native.Mathlib.Nat.{mul-le-mul}
 use lib.Dec.{eqb}
 use lib.ListN.{length, drop, getD, drop-of-length-le}
 use borrow.Author.Tests.{eq-eqb}
 use Rattle.text.specs.Class.{classOf}
-use Rattle.text.specs.Rest.{Rest, lost, left, rest, must, mark, markIn}
+use Rattle.text.specs.Rest.{rest, must, mark, markIn}
 use Rattle.text.specs.RestLaws.{rest-in, rest-out, rest-at, rest-end, drop-more, mark-class, mark-other}
 use Rattle.text.specs.Numeral.{System, letters, Read, bad, got, digitOf, digits, numeral, read, numberOf, restOf, value, past, keyword}
 use Rattle.text.specs.Positional.{no-digit, digit-below, digits-stop, digits-over, digits-more, numeral-zero, numeral-none, numeral-first}
@@ -72,9 +72,8 @@ module _ (S : System) (text : List ℕ) (at : ℕ) where
 
     pub reads-some : {v next : ℕ} → Valid S → (d ≡ 0 → ⊥) → (d ≡ S .base → ⊥) → Answers (digits S d (drop (at + 1) text)) text v next → Reads S text at v next
     reads-some k z n t =
-        reads-of
-        (read-at h ∙ (numeral-first S (getD text at 0) (drop (at + 1) text) (λ q. z (e ∙ q)) (λ q. n (e ∙ q)) (rw (← e) (first-fits (getD text at 0) k e n)) ∙ rw (← e)))
-        t
+        let l : digitOf S (getD text at 0) ≤ S .limit = rw (← e) (first-fits (getD text at 0) k e n) in
+        reads-of (read-at h ∙ (numeral-first S (getD text at 0) (drop (at + 1) text) (λ q. z (e ∙ q)) (λ q. n (e ∙ q)) l ∙ rw (← e))) t
 
 -- The loop over the digits: what stands at i, with v so far, is what stood at the beginning
 pub record Going (S : System) (text : List ℕ) (first at v i : ℕ) : Type 0 where

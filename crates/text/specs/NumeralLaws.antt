@@ -2,18 +2,18 @@
 -- Assumes nothing.
 use Prim.Native.Nat.{ℕ, suc, _+_, _*_, _≤_, _<_}
 use mathlib.Core.Path.{_≡_, refl, sym, ap, _∙_}
-use mathlib.Core.Bool.{Bool, true, false}
+use mathlib.Core.Bool.{Bool, true, false, false≢true}
 use mathlib.Core.List.{List, [], _∷_}
 use native.Mathlib.Omega.{arith}
 use lib.Dec.{ltb, eqb}
 use lib.ListN.{length}
 use borrow.Author.Tests.{eqb-true, eq-eqb, ne-eqb}
-use Rattle.text.specs.Class.{classOf, digit, open-bracket}
+use Rattle.text.specs.Class.{classOf, digit}
 use Rattle.text.specs.ClassLaws.{range-digit}
-use Rattle.text.specs.Rest.{Rest, lost, left, found, must, mark, size}
-use Rattle.text.specs.RestLaws.{lost≢left, left-is, found-got, must-got, mark-other, size-must, size-found}
+use Rattle.text.specs.Rest.{Rest, lost, left, found, mark, size}
+use Rattle.text.specs.RestLaws.{lost≢left, left-is, found-got, must-got, mark-other, size-must}
 use Rattle.text.specs.Numeral.{System, decimal, letters, Read, bad, got, digitOf, digits, numeral, write, numberOf, restOf, read, value, past, keyword}
-use Rattle.text.specs.Positional.{Positional, decimal-positional, letters-positional, Was, no-digit, written-number, read-written, written-begins}
+use Rattle.text.specs.Positional.{Positional, decimal-positional, letters-positional, no-digit, written-number, read-written, written-begins}
 
 -- From a reader that left something to what it was given
 
@@ -124,7 +124,7 @@ module _ (S : System) where
   -- a number that was found was passed
   pub found-past : (o : Rest) → found (past S o) ≡ true → size (past S o) < size o
   unfolding past read restOf found
-  found-past lost h = absurd (let z : _≡_ {A = Bool} false true = h in let y : _≡_ {A = ℕ} 0 1 = cc in let x : ⊥ = omega arith in x)
+  found-past lost h = absurd (false≢true h)
   found-past (left bs) h = less-past (left bs) refl
 
 pub size-keyword : (w : ℕ) (o : Rest) → size (keyword w o) ≤ size o

@@ -5,12 +5,13 @@ use mathlib.Core.Path.{_≡_, refl, sym, ap, _∙_}
 use mathlib.Core.Bool.{Bool, true, false}
 use mathlib.Core.List.{List, [], _∷_}
 use native.Mathlib.Omega.{arith}
-use native.Mathlib.Nat.{div-lt-self, div-eq-sub-div, mod-lt, div-add-mod', mul-add-div-right, mul-add-mod-self-right, div-eq-of-lt, mod-eq-of-lt, mul-le-mul-right, zero-mul, one-mul}
+use native.Mathlib.Nat.{div-lt-self, div-eq-sub-div, div-eq-of-lt, div-add-mod', mod-lt, mod-eq-of-lt}
+use native.Mathlib.Nat.{mul-add-div-right, mul-add-mod-self-right, mul-le-mul-right, zero-mul, one-mul}
 use lib.Dec.{ltb, eqb}
 use borrow.Author.Tests.{ltb-true, ltb-false, eqb-true, eqb-false, lt-ltb, le-ltb, eq-eqb, ne-eqb}
-use Rattle.text.specs.Class.{classOf, digit, letter}
-use Rattle.text.specs.ClassLaws.{digit-range, letter-range, range-digit}
-use Rattle.text.specs.Numeral.{System, decimal, letters, Read, bad, got, digitOf, digits, numeral, written, write}
+use Rattle.text.specs.Class.{classOf}
+use Rattle.text.specs.ClassLaws.{digit-range, letter-range}
+use Rattle.text.specs.Numeral.{System, decimal, letters, bad, got, digitOf, digits, numeral, written, write}
 
 pub bad≢got : {n : ℕ} {r : List ℕ} → bad ≡ got n r → ⊥
 bad≢got e = let z : _≡_ {A = ℕ} 0 1 = cc in omega arith

@@ -1,8 +1,8 @@
 -- Laws on what is left of a text: at a position, after a byte of a class, after a test; and how much is left.
 -- Assumes nothing.
-use Prim.Native.Nat.{ℕ, suc, _+_, _≤_, _<_}
+use Prim.Native.Nat.{ℕ, _+_, _≤_, _<_}
 use mathlib.Core.Path.{_≡_, refl, ap, _∙_}
-use mathlib.Core.Bool.{Bool, true, false}
+use mathlib.Core.Bool.{Bool, true, false, false≢true}
 use mathlib.Core.List.{List, [], _∷_}
 use native.Mathlib.Omega.{arith}
 use native.Mathlib.Numerals.{add-one}
@@ -72,7 +72,7 @@ found-left o e = ap found e
 module _ {C : Type 0} where
   pub found-got : (o : Rest) → found o ≡ true → ((bs : List ℕ) → o ≡ left bs → C) → C
   unfolding found
-  found-got lost h k = absurd (let z : _≡_ {A = Bool} false true = h in let y : _≡_ {A = ℕ} 0 1 = cc in let x : ⊥ = omega arith in x)
+  found-got lost h k = absurd (false≢true h)
   found-got (left bs) h k = k bs refl
 
   pub must-got : {r : List ℕ} (t : Bool) (o : Rest) → must t o ≡ left r → (t ≡ true → o ≡ left r → C) → C

@@ -1,8 +1,7 @@
 // The bytes of a text: the class of each byte, and the readers of a byte, a number and a word. A position past the end of the text says
 // that it is misspelt; a reader that is given such a position, or that does not find what it looks for, hands one back.
 ghost use mathlib.Core.Path.{_≡_};
-ghost use Prim.Native.Nat.{ℕ, _+_, _≤_, _<_};
-ghost use mathlib.Core.List.{List};
+ghost use Prim.Native.Nat.{_+_, _≤_, _<_};
 ghost use lib.ListN.{length, drop};
 ghost use Rattle.text.specs.Class.{classOf};
 ghost use Rattle.text.specs.Table.{table};
@@ -10,7 +9,7 @@ ghost use Rattle.text.specs.Rest.{rest, mark, must};
 ghost use Rattle.text.specs.Numeral.{decimal, letters, digitOf, digits, keyword};
 ghost use Rattle.text.specs.Reading.{Lent, Valid, Reads, Amid, Answers, systemOf};
 
-// The numbers of the classes.
+// The numbers of the classes; any other byte has 0.
 pub const DIGIT: u8 = 1;
 
 pub const LETTER: u8 = 2;
@@ -23,13 +22,14 @@ pub const SPACE: u8 = 5;
 
 pub const FEED: u8 = 6;
 
-// The class of each byte. A constant is built anew wherever it is named: the outermost caller binds `classes()` once, and lends it.
+// The table of classes. A constant is built anew wherever it is named, so the outermost caller binds this once and lends it.
 pub fn classes() -> [u8; 256]
     ensures { λ r. ⌜ r ≡ table ⌝ }
 {
     CLASS
 }
 
+// The class of a byte.
 pub fn class(t: &[u8; 256], b: u8) -> u8
     requires { ⌜ now t ≡ table ⌝ }
     ensures { λ r. ⌜ r ≡ classOf b ⌝ }
@@ -87,7 +87,7 @@ pub struct Notation {
 }
 
 // The digit that a byte is, and the base for a byte that is no digit.
-pub fn digit(t: &[u8; 256], s: Notation, b: u8) -> u64
+fn digit(t: &[u8; 256], s: Notation, b: u8) -> u64
     requires { ⌜ (now t ≡ table) × Valid (systemOf s) ⌝ }
     ensures { λ r. ⌜ r ≡ digitOf (systemOf s) b ⌝ }
 {
@@ -130,7 +130,7 @@ fn digits(t: &[u8; 256], text: &[u8], s: Notation, first: u64, at: usize) -> Cur
     }
 }
 
-// A number: at least one digit; one that begins with the digit 0 is 0.
+// A number: at least one digit. One that begins with the digit 0 is 0, and what follows that digit is left.
 pub fn numeral(t: &[u8; 256], text: &[u8], s: Notation, at: usize) -> Cursor
     requires { ⌜ Lent (now t) (now text) × Valid (systemOf s) ⌝ }
     ensures { λ r. ⌜ Reads (systemOf s) (now (text .entry)) at (r .value) (r .at) ⌝ }
@@ -195,6 +195,7 @@ pub fn keyword(t: &[u8; 256], text: &[u8], at: usize, w: u32) -> usize
     require(text, c.at, c.value == w)
 }
 
+// The class of each of the 256 byte values.
 pub const CLASS: [u8; 256] = [
     0,
     0,

@@ -11,7 +11,7 @@ use borrow.Author.Tests.{eqb-true, eq-eqb, ne-eqb}
 use Rattle.text.specs.Class.{classOf, digit}
 use Rattle.text.specs.ClassLaws.{range-digit}
 use Rattle.text.specs.Rest.{Rest, lost, left, found, mark, size}
-use Rattle.text.specs.RestLaws.{lost≢left, left-is, found-got, must-got, mark-other, size-must}
+use Rattle.text.specs.RestLaws.{lost≢left, left-is, found-got, found-left, must-got, mark-other, size-must}
 use Rattle.text.specs.Numeral.{System, decimal, letters, Read, bad, got, digitOf, digits, numeral, write, numberOf, restOf, read, value, past, keyword}
 use Rattle.text.specs.Positional.{Positional, decimal-positional, letters-positional, no-digit, written-number, read-written, written-begins}
 
@@ -134,3 +134,6 @@ size-keyword w o = omega (arith, size-must (eqb (value letters o) w) (past lette
 pub less-keyword : (w : ℕ) (o : Rest) → found o ≡ true → size (keyword w o) < size o
 unfolding keyword
 less-keyword w o h = omega (arith, size-must (eqb (value letters o) w) (past letters o), less-past letters o h)
+
+pub found-keyword : (w : ℕ) (o : Rest) → found (keyword w o) ≡ true → size (keyword w o) < size o
+found-keyword w o h = found-got (keyword w o) h λ r e. keyword-got w o e λ bs p q. less-keyword w o (found-left o p)

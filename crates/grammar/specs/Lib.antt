@@ -9,6 +9,7 @@ pub mod Fixpoint
 pub mod Formula
 pub mod Items
 pub mod Limits
+pub mod Packing
 pub mod ReachSets
 pub mod Slots
 pub mod StateCases

@@ -3,6 +3,7 @@ pub mod First
 pub mod Formula
 pub mod Items
 pub mod Limits
+pub mod Postfix
 pub mod States
 pub mod Symbol
 pub mod Term

@@ -1,9 +1,17 @@
 pub mod Book
+pub mod Expression
 pub mod First
 pub mod Formula
 pub mod Items
 pub mod Limits
+pub mod Ordered
+pub mod Parse
+pub mod ParseCases
 pub mod Postfix
+pub mod Print
+pub mod Printer
+pub mod Reader
+pub mod Repeat
 pub mod States
 pub mod Symbol
 pub mod Term

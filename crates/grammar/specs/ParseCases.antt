@@ -5,11 +5,12 @@ use Prim.Native.String.{String}
 use mathlib.Core.Path.{_≡_, refl}
 use mathlib.Core.List.{List, [], _∷_, _++_}
 use mathlib.Core.Option.{Option, none, some}
+use native.Mathlib.Omega.{arith}
 use Rattle.text.specs.Class.{opens as opens-class}
 use Rattle.text.specs.Rest.{opens as opens-rest}
 use Rattle.text.specs.Numeral.{opens as opens-numeral}
 use Rattle.grammar.specs.Symbol.{terminal, nonterminal, Rule}
-use Rattle.grammar.specs.Term.{add, Term, number, leaf, both, pick}
+use Rattle.grammar.specs.Term.{add, sub, min, max, Term, number, leaf, both, pick}
 use Rattle.grammar.specs.Book.{own, at, val, InheritedDefinition, SynthesizedDefinition, Kernel, Go, Book}
 use Rattle.grammar.specs.Postfix.{opens as opens-postfix}
 use Rattle.grammar.specs.Printer.{bytes, opens as opens-printer}
@@ -120,3 +121,97 @@ S-read = refl
 S-printed : printBook S ≡ S-text
 unfolding opens S-text S S-grammar S-definitions S-kernels S-goes
 S-printed = refl
+
+-- Refused with 2
+
+-- S with other grammar, kernel and last lines
+unfoldable pub S-but : List String → List String → List String → List ℕ
+S-but grammar kernels end = unlines (grammar ++ (S-definitions ++ (kernels ++ (S-goes ++ end))))
+
+-- "(rule 01 n1 t1 n2)"
+leading-zero : parseBook (S-but (
+  "(book 2 2 6)" ∷ "(inh i0 n2)" ∷ "(syn s0 n1)" ∷ "(syn s1 n2)" ∷ "(rule 0 n0 n1)" ∷ "(rule 01 n1 t1 n2)" ∷ "(rule 2 n2)" ∷ "(rule 3 n2 t2 n2)" ∷ []
+) S-kernels ("(end)" ∷ [])) ≡ none
+unfolding opens S-but S-definitions S-kernels S-goes
+leading-zero = refl
+
+-- the letter belongs to the form
+wrong-letter : parseBook (S-but (
+  "(book 2 2 6)" ∷ "(inh s0 n1)" ∷ "(syn s0 n1)" ∷ "(syn s1 n2)" ∷ "(rule 0 n0 n1)" ∷ "(rule 1 n1 t1 n2)" ∷ "(rule 2 n2)" ∷ "(rule 3 n2 t2 n2)" ∷ []
+) S-kernels ("(end)" ∷ [])) ≡ none
+unfolding opens S-but S-definitions S-kernels S-goes
+wrong-letter = refl
+
+no-lookahead : parseBook (S-but S-grammar ("(kernel 0 0 0)" ∷ []) ("(end)" ∷ [])) ≡ none
+unfolding opens S-but S-grammar S-definitions S-goes
+no-lookahead = refl
+
+equal-lookaheads : parseBook (S-but S-grammar ("(kernel 0 0 0 t0 t0)" ∷ []) ("(end)" ∷ [])) ≡ none
+unfolding opens S-but S-grammar S-definitions S-goes
+equal-lookaheads = refl
+
+kernels-out-of-order : parseBook (S-but S-grammar ("(kernel 1 1 1 t0)" ∷ "(kernel 0 0 0 t0)" ∷ []) ("(end)" ∷ [])) ≡ none
+unfolding opens S-but S-grammar S-definitions S-goes
+kernels-out-of-order = refl
+
+-- the same kernels in order are read, so that it is the order that was refused
+kernels-in-order : (parseBook (S-but S-grammar ("(kernel 0 0 0 t0)" ∷ "(kernel 1 1 1 t0)" ∷ []) ("(end)" ∷ [])) ≡ none) → ⊥
+unfolding opens S-but S-grammar S-definitions S-goes
+kernels-in-order e = let z : _≡_ {A = ℕ} 0 1 = cc in omega arith
+
+second-end : parseBook (S-but S-grammar S-kernels ("(end)" ∷ "(end)" ∷ [])) ≡ none
+unfolding opens S-but S-grammar S-definitions S-kernels S-goes
+second-end = refl
+
+no-end : parseBook (S-but S-grammar S-kernels []) ≡ none
+unfolding opens S-but S-grammar S-definitions S-kernels S-goes
+no-end = refl
+
+no-final-line-feed : parseBook (S-but S-grammar S-kernels [] ++ bytes "(end)") ≡ none
+unfolding opens S-but S-grammar S-definitions S-kernels S-goes
+no-final-line-feed = refl
+
+bytes-after-the-end : parseBook (S-text ++ bytes " ") ≡ none
+unfolding opens S-text S-grammar S-definitions S-kernels S-goes
+bytes-after-the-end = refl
+
+empty-text : parseBook [] ≡ none
+unfolding opens
+empty-text = refl
+
+-- zero lines of every kind but book and end is no spelling fault
+no-lines : parseBook (unlines ("(book 0 0 4294967295)" ∷ "(end)" ∷ []))
+    ≡ some (record {
+      terminals = 0; nonterminals = 0; states = 4294967295; inheritedOwners = []; synthesizedOwners = []; rules = [];
+      inheritedDefinitions = []; synthesizedDefinitions = []; kernels = []; goes = [];
+    })
+unfolding opens
+no-lines = refl
+
+too-large : parseBook (unlines ("(book 0 0 4294967296)" ∷ "(end)" ∷ [])) ≡ none
+unfolding opens
+too-large = refl
+
+-- every form of expression
+forms : parseBook (unlines ("(book 1 1 1)" ∷ "(syndef 0 s0 (pick (sub 1 (val 2)) (min (at 3 s4) (own i5)) (max 6 (add 7 8))))" ∷ "(end)" ∷ []))
+    ≡ some (record {
+      terminals = 1; nonterminals = 1; states = 1; inheritedOwners = []; synthesizedOwners = []; rules = []; inheritedDefinitions = [];
+      synthesizedDefinitions =
+          record {
+            rule = 0; attribute = 0;
+            expression =
+                pick (both sub (number 1) (leaf (val 2))) (both min (leaf (at 3 4)) (leaf (own 5))) (both max (number 6) (both add (number 7) (number 8)));
+          }
+          ∷ [];
+      kernels = []; goes = [];
+    })
+unfolding opens
+forms = refl
+
+unknown-word : parseBook (unlines ("(book 1 1 1)" ∷ "(syndef 0 s0 (mul 1 2))" ∷ "(end)" ∷ [])) ≡ none
+unfolding opens
+unknown-word = refl
+
+missing-operand : parseBook (unlines ("(book 1 1 1)" ∷ "(syndef 0 s0 (pick 1 2))" ∷ "(end)" ∷ [])) ≡ none
+unfolding opens
+missing-operand = refl

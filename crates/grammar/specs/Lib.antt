@@ -11,7 +11,9 @@ pub mod Postfix
 pub mod Print
 pub mod Printer
 pub mod Reader
+pub mod ReaderLaws
 pub mod Repeat
+pub mod SectionLaws
 pub mod States
 pub mod Symbol
 pub mod Term

@@ -1,4 +1,5 @@
 pub mod Book
+pub mod Decides
 pub mod First
 pub mod Formula
 pub mod Items

@@ -1,4 +1,7 @@
 pub mod Book
+pub mod ConditionTests
+pub mod ConditionTestsLaws
+pub mod Conditions
 pub mod Decides
 pub mod First
 pub mod Formula

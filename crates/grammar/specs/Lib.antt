@@ -2,7 +2,11 @@ pub mod Actions
 pub mod Book
 pub mod ClosureSets
 pub mod Compiled
+pub mod ConditionTests
+pub mod ConditionTestsLaws
+pub mod Conditions
 pub mod CoreItems
+pub mod Decides
 pub mod Expression
 pub mod First
 pub mod FirstSets

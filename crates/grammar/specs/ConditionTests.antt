@@ -7,13 +7,34 @@ use lib.Dec.{leb, ltb, eqb}
 use lib.ListN.{length}
 use Rattle.grammar.specs.Decides.{oneTo, all, any, allBelow, allOneTo, few}
 use Rattle.grammar.specs.Limits.{
-  MAX-TERMINALS, MAX-NONTERMINALS, MAX-STATES, MAX-INHERITED, MAX-SYNTHESIZED, MAX-OWNED, MAX-RULES, MAX-RIGHT, MAX-DEFINITIONS, MAX-NODES, MAX-KERNELS,
-  MAX-STATE-KERNELS, MAX-GOES
+  MAX-TERMINALS,
+  MAX-NONTERMINALS,
+  MAX-STATES,
+  MAX-INHERITED,
+  MAX-SYNTHESIZED,
+  MAX-OWNED,
+  MAX-RULES,
+  MAX-RIGHT,
+  MAX-DEFINITIONS,
+  MAX-NODES,
+  MAX-KERNELS,
+  MAX-STATE-KERNELS,
+  MAX-GOES,
 }
 use Rattle.grammar.specs.Symbol.{Symbol, terminal, nonterminal, leftOf, rightOf, symbolAt}
 use Rattle.grammar.specs.Term.{Term, number, leaf, both, pick, nodes}
 use Rattle.grammar.specs.Book.{
-  Place, own, at, val, InheritedDefinition, SynthesizedDefinition, Kernel, Go, Book, inheritedOwner, synthesizedOwner
+  Place,
+  own,
+  at,
+  val,
+  InheritedDefinition,
+  SynthesizedDefinition,
+  Kernel,
+  Go,
+  Book,
+  inheritedOwner,
+  synthesizedOwner,
 }
 use Rattle.grammar.specs.Conditions.{kernelStates}
 
@@ -49,11 +70,11 @@ module _ (b : Book) where
   withinLimits =
       (oneTo MAX-TERMINALS (b .terminals) && oneTo MAX-NONTERMINALS (b .nonterminals) && oneTo MAX-STATES (b .states))
       && (leb (length (b .inheritedOwners)) MAX-INHERITED && leb (length (b .synthesizedOwners)) MAX-SYNTHESIZED
-        && few MAX-OWNED (b .inheritedOwners) && few MAX-OWNED (b .synthesizedOwners))
+      && few MAX-OWNED (b .inheritedOwners) && few MAX-OWNED (b .synthesizedOwners))
       && (oneTo MAX-RULES (length (b .rules)) && all (λ r. leb (length (r .right)) MAX-RIGHT) (b .rules))
       && (leb (length (b .inheritedDefinitions) + length (b .synthesizedDefinitions)) MAX-DEFINITIONS
-        && all (λ d. leb (nodes (d .expression)) MAX-NODES) (b .inheritedDefinitions)
-        && all (λ d. leb (nodes (d .expression)) MAX-NODES) (b .synthesizedDefinitions))
+      && all (λ d. leb (nodes (d .expression)) MAX-NODES) (b .inheritedDefinitions)
+      && all (λ d. leb (nodes (d .expression)) MAX-NODES) (b .synthesizedDefinitions))
       && (leb (length (b .kernels)) MAX-KERNELS && few MAX-STATE-KERNELS (kernelStates b) && leb (length (b .goes)) MAX-GOES)
 
   -- 4, each line
@@ -93,8 +114,8 @@ module _ (b : Book) where
   declared =
       (all (oneTo (b .nonterminals)) (b .inheritedOwners) && all (oneTo (b .nonterminals)) (b .synthesizedOwners))
       && (eqb (leftOf (b .rules) 0) 0 && oneNonterminal (rightOf (b .rules) 0)
-        && allBelow (length (b .rules)) (λ P. elim (ltb 0 P) [ true ↦ oneTo (b .nonterminals) (leftOf (b .rules) P) | false ↦ true ])
-        && all (λ r. all rightSymbol (r .right)) (b .rules))
+      && allBelow (length (b .rules)) (λ P. elim (ltb 0 P) [ true ↦ oneTo (b .nonterminals) (leftOf (b .rules) P) | false ↦ true ])
+      && all (λ r. all rightSymbol (r .right)) (b .rules))
       && (all declaredInherited (b .inheritedDefinitions) && all declaredSynthesized (b .synthesizedDefinitions))
       && (all declaredKernel (b .kernels) && all declaredGo (b .goes))
 
@@ -129,13 +150,13 @@ module _ (b : Book) where
   unfoldable pub defined : Bool
   defined =
       allBelow (length (b .rules)) (λ P. allOneTo (length (rightOf (b .rules) P)) λ J. allBelow (length (b .inheritedOwners)) λ K.
-        elim (nonterminalAt P J (inheritedOwner b K)) [ true ↦ definesInherited P J K | false ↦ true ])
+      elim (nonterminalAt P J (inheritedOwner b K)) [ true ↦ definesInherited P J K | false ↦ true ])
       && allBelow (length (b .rules)) (λ P. allBelow (length (b .synthesizedOwners)) λ K.
-        elim (eqb (synthesizedOwner b K) (leftOf (b .rules) P)) [ true ↦ definesSynthesized P K | false ↦ true ])
+      elim (eqb (synthesizedOwner b K) (leftOf (b .rules) P)) [ true ↦ definesSynthesized P K | false ↦ true ])
 
 -- opens every definition of this module
 unfoldable pub opens : Unit {0}
 unfolding allLeaves isNonterminal isTerminal oneNonterminal before withinLimits rightSymbol goSymbol isPosition declaredPlace declaredInherited
-  declaredSynthesized declaredKernel declaredGo declared nonterminalAt ownedPlace ownedInherited ownedSynthesized owned definesInherited
-  definesSynthesized defined
+    declaredSynthesized declaredKernel declaredGo declared nonterminalAt ownedPlace ownedInherited ownedSynthesized owned definesInherited
+    definesSynthesized defined
 opens = tt

@@ -160,10 +160,16 @@ book = do
   moves ← goes
   endLine
   pure (record {
-    terminals = T; nonterminals = N; states = Q;
-    inheritedOwners = inherited; synthesizedOwners = synthesized; rules = grammar;
-    inheritedDefinitions = inheritedRules; synthesizedDefinitions = synthesizedRules;
-    kernels = items; goes = moves;
+    terminals = T;
+    nonterminals = N;
+    states = Q;
+    inheritedOwners = inherited;
+    synthesizedOwners = synthesized;
+    rules = grammar;
+    inheritedDefinitions = inheritedRules;
+    synthesizedDefinitions = synthesizedRules;
+    kernels = items;
+    goes = moves;
   })
 
 -- nothing stands after the end line

@@ -1,8 +1,14 @@
 pub mod Book
+pub mod Decorated
 pub mod First
 pub mod Formula
 pub mod Items
 pub mod Limits
+pub mod Machine
+pub mod Rows
+pub mod RowsLaws
 pub mod States
 pub mod Symbol
 pub mod Term
+pub mod TermLaws
+pub mod Tree

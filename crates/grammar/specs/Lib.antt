@@ -5,6 +5,8 @@ pub mod Formula
 pub mod Items
 pub mod Limits
 pub mod Machine
+pub mod Premises
+pub mod PremisesLaws
 pub mod Rows
 pub mod RowsLaws
 pub mod States

@@ -1,6 +1,9 @@
 pub mod Book
+pub mod Chains
 pub mod Decorated
+pub mod Demand
 pub mod First
+pub mod FirstOfLeaves
 pub mod Formula
 pub mod Items
 pub mod Limits

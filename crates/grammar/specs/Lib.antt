@@ -8,10 +8,12 @@ pub mod Formula
 pub mod Items
 pub mod Limits
 pub mod Machine
+pub mod Moves
 pub mod Premises
 pub mod PremisesLaws
 pub mod Rows
 pub mod RowsLaws
+pub mod Runs
 pub mod States
 pub mod Symbol
 pub mod Term

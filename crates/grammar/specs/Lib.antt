@@ -1,6 +1,7 @@
 pub mod Book
 pub mod Chains
 pub mod Decorated
+pub mod DecoratedLaws
 pub mod Demand
 pub mod First
 pub mod FirstOfLeaves
@@ -14,8 +15,10 @@ pub mod PremisesLaws
 pub mod Rows
 pub mod RowsLaws
 pub mod Runs
+pub mod Simulate
 pub mod States
 pub mod Symbol
 pub mod Term
 pub mod TermLaws
 pub mod Tree
+pub mod TreeLaws

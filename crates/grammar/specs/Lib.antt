@@ -1,5 +1,6 @@
 pub mod Book
 pub mod Chains
+pub mod Complete
 pub mod Decorated
 pub mod DecoratedLaws
 pub mod Demand
@@ -12,10 +13,13 @@ pub mod Machine
 pub mod Moves
 pub mod Premises
 pub mod PremisesLaws
+pub mod Rebuild
 pub mod Rows
 pub mod RowsLaws
+pub mod RunLaws
 pub mod Runs
 pub mod Simulate
+pub mod Soundness
 pub mod States
 pub mod Symbol
 pub mod Term

@@ -1,9 +1,11 @@
 pub mod Book
 pub mod Chains
 pub mod Complete
+pub mod Decorate
 pub mod Decorated
 pub mod DecoratedLaws
 pub mod Demand
+pub mod DemandProof
 pub mod First
 pub mod FirstOfLeaves
 pub mod Formula

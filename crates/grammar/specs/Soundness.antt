@@ -21,6 +21,10 @@ use Rattle.grammar.specs.Premises.{Premises}
 use Rattle.grammar.specs.PremisesLaws.{drop-step, dotted, start-length, start-unreached, start-only, start-dot, start-lookahead, go-back}
 
 module _ (b : Book) where
+  -- ks is the leaves of a tree of a whole message
+  abbrev pub Parsed : List Token → Type 0
+  Parsed ks = (t : Tree) × Stands b t (goal (b .rules)) × (leaves t ≡ ks)
+
   token-at : (w : List Token) (k : Token) (z : List Token) → TokensOf b (w ++ (k ∷ z)) → TokenOf b k
   token-at [] k z (and-tokens o os) = o
   token-at (j ∷ w) k z (and-tokens o os) = token-at w k z os
@@ -51,10 +55,6 @@ module _ (b : Book) (T : Tables) where
   -- the tokens shifted and those left are ks
   data Good (ks : List Token) : Config → Type 0 where
     good : {S p : ℕ} {st : List Frame} {w z : List Token} {rs : List Row} → Along S st w → w ++ z ≡ ks → Good ks (config st S z p rs)
-
-  -- ks is the leaves of a tree of a whole message
-  abbrev pub Parsed : List Token → Type 0
-  Parsed ks = (t : Tree) × Stands b t (goal (b .rules)) × (leaves t ≡ ks)
 
   pushLeft-accepted : (P : ℕ) (q : Popped) (z : List Token) (p : ℕ) (rs : List Row) {qs : List Row} → pushLeft b T P q z p rs ≡ stop (accepted qs) → ⊥
   unfolding pushLeft
@@ -118,7 +118,7 @@ module _ (b : Book) (T : Tables) where
 
     -- the tree on top, where the machine accepts
     topmost : {ks : List Token} {S : ℕ} {st : List Frame} {v : List Token} (z : List Token) → TokensOf b ks → Along S st v → v ++ z ≡ ks
-        → Closure b S 0 (length (rightOf (b .rules) 0)) (next z) → Parsed ks
+        → Closure b S 0 (length (rightOf (b .rules) 0)) (next z) → Parsed b ks
     topmost z os bottom y c =
         let e = start-only b T H (dotted b {D = 0} (rw (start-length b T H) at c)) .1 in
         absurd (omega arith)
@@ -134,7 +134,7 @@ module _ (b : Book) (T : Tables) where
         (t, rw (← x) s, rw (← u, low, z′, append-nil) at y)
 
     takes : {ks : List Token} {S : ℕ} {w : List Token} (st : List Frame) (z : List Token) (p : ℕ) (rs : List Row) {qs : List Row} (x : Option Action)
-        → TokensOf b ks → Along S st w → w ++ z ≡ ks → T .act S (next z) ≡ x → perform b T x st S z p rs ≡ stop (accepted qs) → Parsed ks
+        → TokensOf b ks → Along S st w → w ++ z ≡ ks → T .act S (next z) ≡ x → perform b T x st S z p rs ≡ stop (accepted qs) → Parsed b ks
     unfolding perform shiftToken
     takes st z p rs none os al y a e = let f : _≡_ {A = ℕ} 0 1 = cc in absurd (omega arith)
     takes {S = S} st z p rs (some accept) os al y a e = topmost z os al y (accept-item b (H .act-only S (next z) accept a))
@@ -142,10 +142,10 @@ module _ (b : Book) (T : Tables) where
     takes st (k ∷ z) p rs (some shift) os al y a e = absurd (arrive-accepted _ _ z (suc p) _ (symbol-accepted st (row-accepted rs e)))
     takes st z p rs (some (reduce P)) os al y a e = absurd (pushLeft-accepted P _ z p rs (rule-accepted (rightOf (b .rules) P) st (row-accepted rs e)))
 
-    sound-from : {ks : List Token} {c : Config} {rs : List Row} → TokensOf b ks → Ends b T c (accepted rs) → Good ks c → Parsed ks
+    sound-from : {ks : List Token} {c : Config} {rs : List Row} → TokensOf b ks → Ends b T c (accepted rs) → Good ks c → Parsed b ks
     unfolding step
     sound-from os (halts e) (good {S = S} {p = p} {st = st} {z = z} {rs = rs} al y) = takes st z p rs (T .act S (next z)) os al y refl e
     sound-from os (moves e s) g = sound-from os s (good-moves os g e)
 
-    pub sound : {ks : List Token} {rs : List Row} → TokensOf b ks → Ends b T (start ks) (accepted rs) → Parsed ks
+    pub sound : {ks : List Token} {rs : List Row} → TokensOf b ks → Ends b T (start ks) (accepted rs) → Parsed b ks
     sound os e = sound-from os e (good bottom refl)

@@ -1,4 +1,5 @@
 pub mod Book
+pub mod CaseS
 pub mod Chains
 pub mod Complete
 pub mod Decorate

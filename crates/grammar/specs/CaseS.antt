@@ -22,28 +22,29 @@ abbrev goLine : ℕ → Symbol → ℕ → Go
 goLine S X M = record { state = S; symbol = X; target = M }
 
 abbrev pub bookS : Book
-bookS = record
-  { terminals = 2
-  ; nonterminals = 2
-  ; states = 6
-  ; inheritedOwners = 2 ∷ []
-  ; synthesizedOwners = 1 ∷ 2 ∷ []
-  ; rules =
+bookS = record {
+  terminals = 2;
+  nonterminals = 2;
+  states = 6;
+  inheritedOwners = 2 ∷ [];
+  synthesizedOwners = 1 ∷ 2 ∷ [];
+  rules =
       record { left = 0; right = nonterminal 1 ∷ [] } ∷
       record { left = 1; right = terminal 1 ∷ nonterminal 2 ∷ [] } ∷
       record { left = 2; right = [] } ∷
-      record { left = 2; right = terminal 2 ∷ nonterminal 2 ∷ [] } ∷ []
-  ; inheritedDefinitions =
+      record { left = 2; right = terminal 2 ∷ nonterminal 2 ∷ [] } ∷ [];
+  inheritedDefinitions =
       record { rule = 1; position = 2; attribute = 0; expression = leaf (val 1) } ∷
-      record { rule = 3; position = 2; attribute = 0; expression = both add (leaf (own 0)) (leaf (val 1)) } ∷ []
-  ; synthesizedDefinitions =
+      record { rule = 3; position = 2; attribute = 0; expression = both add (leaf (own 0)) (leaf (val 1)) } ∷ [];
+  synthesizedDefinitions =
       record { rule = 1; attribute = 0; expression = leaf (at 2 1) } ∷
       record { rule = 2; attribute = 1; expression = leaf (own 0) } ∷
-      record { rule = 3; attribute = 1; expression = leaf (at 2 1) } ∷ []
-  ; kernels = kernelLine 0 0 0 ∷ kernelLine 1 1 1 ∷ kernelLine 2 0 1 ∷ kernelLine 3 3 1 ∷ kernelLine 4 1 2 ∷ kernelLine 5 3 2 ∷ []
-  ; goes =
+      record { rule = 3; attribute = 1; expression = leaf (at 2 1) } ∷ [];
+  kernels = kernelLine 0 0 0 ∷ kernelLine 1 1 1 ∷ kernelLine 2 0 1 ∷ kernelLine 3 3 1 ∷ kernelLine 4 1 2 ∷ kernelLine 5 3 2 ∷ [];
+  goes =
       goLine 0 (terminal 1) 1 ∷ goLine 0 (nonterminal 1) 2 ∷ goLine 1 (terminal 2) 3 ∷ goLine 1 (nonterminal 2) 4 ∷
-      goLine 3 (terminal 2) 3 ∷ goLine 3 (nonterminal 2) 5 ∷ [] }
+      goLine 3 (terminal 2) 3 ∷ goLine 3 (nonterminal 2) 5 ∷ [];
+}
 
 -- the action at each state on t0, t1, t2
 abbrev actions : List (List (Option Action))
@@ -69,10 +70,11 @@ abbrev entry : {A : Type 0} → List (List (Option A)) → ℕ → ℕ → Optio
 entry table S a = getD (getD table S []) a none
 
 abbrev pub tablesS : Tables
-tablesS = record
-  { act = entry actions
-  ; go = goTo bookS
-  ; formulaAt = λ S a K. getD (entry formulas S a ∷ []) K none }
+tablesS = record {
+  act = entry actions;
+  go = goTo bookS;
+  formulaAt = λ S a K. getD (entry formulas S a ∷ []) K none;
+}
 
 abbrev message : List Token
 message = record { kind = 1; value = 100 } ∷ record { kind = 2; value = 5 } ∷ record { kind = 2; value = 7 } ∷ []

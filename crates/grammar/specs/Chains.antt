@@ -1,6 +1,6 @@
 -- The values of chains: the cell that is set at a partial state has the values that the rules' definitions give over the stack.
 -- Assumes the premises of demand 3.
-use Prim.Native.Nat.{ℕ, zero, suc, _-_, _<_, _≤_}
+use Prim.Native.Nat.{ℕ, zero, suc, _-_, _≤_}
 use native.Mathlib.Omega.{arith}
 use mathlib.Core.Path.{_≡_, refl, ap, _∙_, sym}
 use mathlib.Core.List.{List, [], _∷_}

@@ -2,7 +2,7 @@
 use Prim.Native.Nat.{ℕ, _≤_}
 use native.Mathlib.Omega.{arith}
 use mathlib.Core.Path.{_≡_, refl, _∙_}
-use mathlib.Core.List.{List, [], _++_, append-nil}
+use mathlib.Core.List.{[], _++_, append-nil}
 use lib.ListN.{length}
 use Rattle.grammar.specs.Limits.{MAX-ROWS, MAX-STACK}
 use Rattle.grammar.specs.Symbol.{nonterminal, rightOf, goal}
@@ -10,7 +10,7 @@ use Rattle.grammar.specs.Book.{Book, inheritedOwner}
 use Rattle.grammar.specs.First.{past}
 use Rattle.grammar.specs.Items.{Closure, kernel, Chain, one}
 use Rattle.grammar.specs.States.{accept, accepts}
-use Rattle.grammar.specs.Tree.{Token, leaves, size, need, next, Stands}
+use Rattle.grammar.specs.Tree.{leaves, size, need, next, Stands}
 use Rattle.grammar.specs.Decorated.{noValues, Decorated, erase, inheritedOf, Inherits, Obeys, rootInherited}
 use Rattle.grammar.specs.DecoratedLaws.{inherits-given}
 use Rattle.grammar.specs.Rows.{rows}

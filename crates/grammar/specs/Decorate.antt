@@ -1,6 +1,6 @@
 -- Every tree has the values that the rules give, from left to right, and no others. Uniqueness and obedience assume the premises of demand 3:
 -- a definition of an inherited attribute reads only to the left.
-use Prim.Native.Nat.{ℕ, suc, _+_, _-_, _<_, _≤_}
+use Prim.Native.Nat.{ℕ, suc, _+_, _-_}
 use native.Mathlib.Omega.{arith}
 use mathlib.Core.Path.{_≡_, refl, ap, ap₂, sym, subst}
 use mathlib.Core.List.{List, [], _∷_, _++_, append-assoc}
@@ -28,6 +28,7 @@ module _ (b : Book) where
 
   mutual
     unfolding decorate decorateAll
+
     pub decorate-erases : (t : Tree) (i : Values) → erase (decorate t i) ≡ t
     decorate-erases (leaf k) i = refl
     decorate-erases (node P ts) i = ap (node P) (decorateAll-erases ts P i [])
@@ -47,10 +48,11 @@ module _ (b : Book) (T : Tables) (H : Premises b T) where
       → inheritedFrom b P (suc (length cs)) i cs ≡ inheritedFrom b P J i all
   inheritedFrom-left P J i cs ds all j e =
       rw (j, e) (inheritedFrom-same b T H P (suc (length cs)) i i cs (cs ++ ds) (λ K o. refl)
-        (λ I p q. sym (List·getD-append cs ds (token 0) (I - 1) (omega arith))))
+      (λ I p q. sym (List·getD-append cs ds (token 0) (I - 1) (omega arith))))
 
   mutual
     unfolding decorate decorateAll
+
     pub decorate-obeys : (t : Tree) (i : Values) → Obeys b (decorate b t i)
     decorate-obeys (leaf k) i = leaf-obeys
     decorate-obeys (node P ts) i = node-obeys (decorateAll-obeys ts P i [] 1 refl _ refl) refl
@@ -62,11 +64,12 @@ module _ (b : Book) (T : Tables) (H : Premises b T) where
         let f = inheritedFrom b P (suc (length cs)) i cs in
         let d = decorate b t f in
         cons-obey (decorate-obeys t f) (subst (λ g. Inherits g d) (inheritedFrom-left P J i cs _ all j e) (decorate-inherits b t f))
-          (decorateAll-obeys ts P i (cs ++ (resultOf d ∷ [])) (suc J) (simp length-append (omega arith)) all (rw append-assoc e))
+        (decorateAll-obeys ts P i (cs ++ (resultOf d ∷ [])) (suc J) (simp length-append (omega arith)) all (rw append-assoc e))
 
   -- the decoration is the only one
   mutual
     unfolding decorate decorateAll
+
     pub decorate-only : (d : Decorated) (i : Values) → Obeys b d → Inherits i d → d ≡ decorate b (erase d) i
     decorate-only (Decorated.leaf k) i leaf-obeys leaf-inherits = refl
     decorate-only (Decorated.node P j s ds) i (node-obeys oo es) (node-inherits e) =

@@ -1,6 +1,6 @@
 -- Demand 3: what the stack evaluator answers on any list of the book's tokens. This file only states it; it is proved in DemandProof.antt, for every
 -- book and tables that meet the Premises. Trees and their values (Tree.antt, Decorated.antt) know nothing of states and stacks.
-use Prim.Native.Nat.{ℕ, _≤_}
+use Prim.Native.Nat.{_≤_}
 use mathlib.Core.Path.{_≡_}
 use mathlib.Core.Logic.{_↔_}
 use mathlib.Core.List.{List}

@@ -1,13 +1,13 @@
 -- Demand 3 is met: `demand-3`, for every book and tables that meet the premises and every list of the book's tokens.
-use Prim.Native.Nat.{ℕ, _≤_}
+use Prim.Native.Nat.{ℕ}
 use native.Mathlib.Omega.{arith}
 use mathlib.Core.Path.{_≡_, refl, ap, sym, _∙_}
 use mathlib.Core.List.{List}
 use lib.ListN.{length}
-use Rattle.grammar.specs.Limits.{MAX-ROWS, PAGE-WORDS}
+use Rattle.grammar.specs.Limits.{PAGE-WORDS}
 use Rattle.grammar.specs.Symbol.{goal}
 use Rattle.grammar.specs.Book.{Book}
-use Rattle.grammar.specs.Tree.{Token, Tree, leaves, size, need, TokensOf, Stands}
+use Rattle.grammar.specs.Tree.{Token, Tree, leaves, size, need, TokensOf}
 use Rattle.grammar.specs.Decorated.{Decorated, erase, rootInherited}
 use Rattle.grammar.specs.Rows.{Row, rows, page}
 use Rattle.grammar.specs.RowsLaws.{rows-count, page-length}
@@ -102,13 +102,14 @@ module _ (b : Book) (T : Tables) (H : Premises b T) where
       ap length (accepted-rows q u e .0) ∙ rows-count b d 0 ∙ ap size (u .its-tree)
 
   pub demand-3 : (ks : List Token) → TokensOf b ks → Demand3 b T ks
-  demand-3 ks os = record
-    { exactly = (λ a. accepted-tree os (a .1), λ p. within-accepted (p .1) (p .2))
-    ; one-tree = same-tree
-    ; row-count = count-rows
-    ; postorder = λ e t q d u. accepted-rows q u e .0
-    ; has-values = λ t. (values-of t .0, values-of t .1, only-values t)
-    ; no-message = λ e t q. refused-tree e q }
+  demand-3 ks os = record {
+    exactly = (λ a. accepted-tree os (a .1), λ p. within-accepted (p .1) (p .2));
+    one-tree = same-tree;
+    row-count = count-rows;
+    postorder = λ e t q d u. accepted-rows q u e .0;
+    has-values = λ t. (values-of t .0, values-of t .1, only-values t);
+    no-message = λ e t q. refused-tree e q;
+  }
 
   -- the rows of an accepted list fill the lent words
   pub page-fits : {ks : List Token} {rs : List Row} → TokensOf b ks → evaluate b T ks ≡ accepted rs → length (page rs) ≡ PAGE-WORDS

@@ -2,7 +2,7 @@
 -- Assumes nothing.
 use Prim.Native.Nat.{ℕ}
 use mathlib.Core.Path.{_≡_, refl}
-use mathlib.Core.List.{List, [], _∷_, _++_, append-assoc, append-nil}
+use mathlib.Core.List.{List, _∷_, _++_, append-assoc, append-nil}
 use Rattle.grammar.specs.Symbol.{Symbol, after}
 use Rattle.grammar.specs.Book.{Book}
 use Rattle.grammar.specs.First.{First, past, here, expand}

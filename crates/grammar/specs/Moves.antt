@@ -1,7 +1,6 @@
 -- Single moves of the stack evaluator: what it does where the action is known, and what is known where it goes on or accepts. Assumes nothing.
-use Prim.Native.Nat.{ℕ, suc, _+_, _<_, _≤_}
+use Prim.Native.Nat.{ℕ, suc, _+_, _<_}
 use native.Mathlib.Omega.{arith}
-use native.Mathlib.Decide.{decLt}
 use mathlib.Core.Path.{_≡_, refl, ap, _∙_}
 use mathlib.Core.Option.{Option, none, some}
 use mathlib.Core.List.{List, [], _∷_, _++_}
@@ -13,7 +12,7 @@ use Rattle.grammar.specs.States.{shift, accept, reduce}
 use Rattle.grammar.specs.Tree.{Token, next}
 use Rattle.grammar.specs.Decorated.{Values, Result, token, values, synthesizedFrom}
 use Rattle.grammar.specs.Rows.{Row, rowOfToken, rowOfNode}
-use Rattle.grammar.specs.Machine.{Tables, Frame, frame, Config, config, Answer, refused, accepted, Step, more, stop, cell, Popped, popped, pop, within, roomForRow, roomForSymbol, roomForRule, arrive, shiftToken, pushLeft, perform, step}
+use Rattle.grammar.specs.Machine.{Tables, Frame, frame, Config, config, refused, accepted, Step, more, stop, cell, popped, pop, within, roomForRow, roomForSymbol, roomForRule, arrive, shiftToken, pushLeft, perform, step}
 
 -- ---------------------------------------------------------------- limits
 

@@ -1,6 +1,6 @@
 -- The premises in the form in which the proofs use them: kernel items instead of kernel lines, the table's go, definitions found by their numbers;
 -- and the table of formulas from the one-formula condition. Assumes nothing.
-use Prim.Native.Nat.{ℕ, zero, suc, _<_, _≤_}
+use Prim.Native.Nat.{ℕ, zero, suc}
 use native.Mathlib.Omega.{arith}
 use native.Mathlib.Decide.{ℕ-discrete}
 use mathlib.Core.Path.{_≡_, refl, ap, sym, _∙_}
@@ -12,12 +12,11 @@ use lib.Dec.{eqb}
 use lib.ListN.{length, getD, drop}
 use lib.Seq.{drop-nil}
 use borrow.Author.Tests.{eqb-true}
-use Rattle.grammar.specs.Symbol.{Symbol, nonterminal, Rule, ruleAt, leftOf, rightOf, after, goal}
-use Rattle.grammar.specs.Term.{Term, number, Leaves, in-number}
-use Rattle.grammar.specs.Book.{Place, InheritedDefinition, SynthesizedDefinition, Kernel, Book, inheritedIn, synthesizedIn, inheritedOwner, inheritedExpr, synthesizedExpr}
-use Rattle.grammar.specs.Items.{Derives, derives, KernelItem, kernel-item, Closure, kernel, close, Chain, one, longer}
+use Rattle.grammar.specs.Symbol.{Symbol, nonterminal, Rule, ruleAt, leftOf, rightOf, after}
+use Rattle.grammar.specs.Term.{Leaves, in-number}
+use Rattle.grammar.specs.Book.{Place, InheritedDefinition, SynthesizedDefinition, Book, inheritedIn, synthesizedIn, inheritedOwner, inheritedExpr, synthesizedExpr}
+use Rattle.grammar.specs.Items.{KernelItem, kernel-item, Closure, kernel, close, Chain, one, longer}
 use Rattle.grammar.specs.Formula.{Formula, formula, LR-attributed}
-use Rattle.grammar.specs.States.{startKernel, goTo}
 use Rattle.grammar.specs.Machine.{Tables}
 use Rattle.grammar.specs.Premises.{MayRead, Premises}
 

@@ -45,6 +45,7 @@ module _ (b : Book) where
 
   mutual
     unfolding rowOfToken rowOfNode
+
     rebuild-rows : (d : Decorated) {X : Symbol} → Stands b (erase d) X → (p : ℕ) (rs : List Row) (st : List Tree)
         → rebuild (rows b d p ++ rs) st ≡ rebuild rs (erase d ∷ st)
     rebuild-rows (Decorated.leaf k) (leaf-stands o e) p rs st = refl

@@ -1,11 +1,11 @@
 -- Laws of rows: the lent words' number and the zeros after the last row, rows of owned values, a tree's number of rows. Assumes nothing.
 use Prim.Native.Nat.{ℕ, zero, suc, _+_, _-_, _*_, _≤_}
 use native.Mathlib.Omega.{arith}
-use mathlib.Core.Path.{_≡_, refl, ap, ap₂, _∙_}
+use mathlib.Core.Path.{_≡_, refl, ap₂}
 use mathlib.Core.Bool.{Bool, true, false}
 use mathlib.Core.List.{List, [], _∷_, _++_}
 use lib.Dec.{eqb}
-use lib.ListN.{length, getD, replicate, length-append, length-replicate, List·getD-eq-default, drop}
+use lib.ListN.{length, replicate, length-append, length-replicate, drop}
 use lib.Seq.{drop-at}
 use borrow.Author.Tests.{eqb-true}
 use Rattle.grammar.specs.Limits.{MAX-ROWS, ROW-WORDS, PAGE-WORDS}

@@ -1,7 +1,7 @@
 -- Runs of the stack evaluator as relations: from one configuration to another, and to an answer. Assumes nothing.
 use mathlib.Core.Path.{_≡_}
 use Rattle.grammar.specs.Book.{Book}
-use Rattle.grammar.specs.Machine.{Tables, Config, Answer, Step, more, stop, step}
+use Rattle.grammar.specs.Machine.{Tables, Config, Answer, more, stop, step}
 
 module _ (b : Book) (T : Tables) where
   -- c comes to d

@@ -1,6 +1,6 @@
 -- The simulation: the machine builds each decorated tree that stands where a chain asks for it, or ends where a limit is met.
 -- Assumes the premises of demand 3.
-use Prim.Native.Nat.{ℕ, zero, suc, _+_, _-_, _<_, _≤_}
+use Prim.Native.Nat.{ℕ, suc, _+_, _-_, _<_, _≤_}
 use native.Mathlib.Nat.{zero-add, add-zero}
 use native.Mathlib.Omega.{arith}
 use native.Mathlib.Decide.{decLt, decLe}
@@ -80,7 +80,7 @@ module _ (b : Book) (T : Tables) where
   simulate-cons : {P S a : ℕ} {X : Symbol} {γ : List Symbol} {d : Decorated} {ds : AllDecorated} (st : List Frame) (z : List Token) (p : ℕ) (rs : List Row)
       → Simulated S X st d a (leavesAll (eraseAll ds) ++ z) p rs
       → ((M p′ : ℕ) (rs′ : List Row) → T .go S X ≡ some M → length rs′ ≤ MAX-ROWS → suc (length st) ≤ MAX-STACK
-          → AllSimulated P M γ (frame S (cell T S a st) (resultOf d) p ∷ st) ds (next (leavesAll (eraseAll ds) ++ z)) z p′ rs′)
+      → AllSimulated P M γ (frame S (cell T S a st) (resultOf d) p ∷ st) ds (next (leavesAll (eraseAll ds) ++ z)) z p′ rs′)
       → AllSimulated P S (X ∷ γ) st (AllDecorated.cons d ds) a z p rs
   unfolding pop
   simulate-cons st z p rs (Simulated.quit {x = x} q o) f = AllSimulated.quit {x = x} (rw append-assoc q) (over-more o (omega arith) (omega arith))
@@ -112,7 +112,7 @@ module _ (b : Book) (T : Tables) (H : Premises b T) where
       by-depth h (yes l) =
           let (M, g) = go-there b T H c e in
           Simulated.came M (suc p) (rs ++ (rowOfToken k p ∷ [])) g (move (shift-moves b T k st z p rs acted g h l) stay)
-            (omega arith) refl longer-by (omega (arith, longer-by)) (omega arith)
+          (omega arith) refl longer-by (omega (arith, longer-by)) (omega arith)
       by-depth h (no l) = Simulated.quit (halts (shift-17 b T k st z p rs acted h l)) (symbols-over (omega arith))
 
       by-rows : Dec (length rs < MAX-ROWS) → Simulated b T S (terminal (k .kind)) st (Decorated.leaf k) (k .kind) z p rs
@@ -160,7 +160,7 @@ module _ (b : Book) (T : Tables) (H : Premises b T) where
       by-depth h (yes l) =
           let m = rw (same-values, same-row) at (reduce-moves b T sr z p₁ rs₁ acted st back g h (omega (arith, ed))) in
           Simulated.came M p₁ rs₂ g (reach-then b T reach (move m stay)) ep (rw (er, append-assoc)) (omega (arith, longer-by)) (omega (arith, longer-by))
-            (omega (arith, need-node P (eraseAll ds)))
+          (omega (arith, need-node P (eraseAll ds)))
       by-depth h (no l) =
           let e = empty γ (omega (arith, wide)) in
           Simulated.quit (reach-ends b T reach (halts (reduce-17 b T sr z p₁ rs₁ acted h e (omega arith)))) (symbols-over (omega arith))
@@ -171,6 +171,7 @@ module _ (b : Book) (T : Tables) (H : Premises b T) where
 
   mutual
     unfolding inheritedAt
+
     -- where the chain's last item asks for X and the cell has the tree's inherited values
     pub simulate : (d : Decorated) {X : Symbol} → Stands b (erase d) X → Obeys b d → {S a P D c : ℕ} {β : List Symbol}
         (st : List Frame) (z : List Token) (p : ℕ) (rs : List Row) → Chain b S a P D c → after (b .rules) P D ≡ X ∷ β → First (b .rules) β c (next z)
@@ -181,8 +182,8 @@ module _ (b : Book) (T : Tables) (H : Premises b T) where
     simulate (Decorated.node Q i s ds) (node-stands {B = B} n q e ss) (node-obeys oo es) {P = P} {D = D} st z p rs chain h f ea w hr hd =
         let h′ = rw (← e) at h in
         rw (← e) (simulate-node n (go-there b T H (chain-closure b chain) h′ .1) ss es st _ z p rs (λ K o. w B K refl (o ∙ e))
-          (simulateAll ds ss oo st z p rs (longer chain (derives h q e f) (rw ea (reach-trees b ss refl z))) ea refl (omega arith) refl
-            (λ K o. w B K refl (o ∙ e)) (λ I l m. absurd (omega arith)) hr hd))
+        (simulateAll ds ss oo st z p rs (longer chain (derives h q e f) (rw ea (reach-trees b ss refl z))) ea refl (omega arith) refl
+        (λ K o. w B K refl (o ∙ e)) (λ I l m. absurd (omega arith)) hr hd))
 
     -- where the chain's last item asks for the symbols γ of the children from the dot on
     pub simulateAll : (ds : AllDecorated) {γ : List Symbol} → AllStand b (eraseAll ds) γ → {P D : ℕ} {i : Values} {cs : List Result}
@@ -192,12 +193,12 @@ module _ (b : Book) (T : Tables) (H : Premises b T) where
     simulateAll AllDecorated.nil nil-stands {P = P} {D = D} nil-obey {S = S} st z p rs chain ea h l el w g hr hd =
         let d : D ≡ length (rightOf (b .rules) P) = omega arith in
         AllSimulated.came S p rs st stay (omega arith) (sym (append-nil rs)) (omega arith) hr (omega arith) (omega arith) (rw d at (chain-closure b chain))
-          (λ n cs. rw (zero-add, ea))
+        (λ n cs. rw (zero-add, ea))
     simulateAll (AllDecorated.cons d ds) (cons-stands s ss) {P = P} {D = D} {i = i} {cs = cs} (cons-obey o gi oo) {S = S} {a = a} st z p rs chain ea h l el w g hr hd =
         let hs = drop-step D (rightOf (b .rules) P) h in
         simulate-cons b T st z p rs
         (simulate d s o st (leavesAll (eraseAll ds) ++ z) p rs chain h (first-of-leaves b ss z) (rw append-assoc at ea)
-          (λ B K x u. cell-inherits b T H K chain (rw x at h) u st i cs w g ∙ inherits-given b gi (rw x at s) K) hr hd)
+        (λ B K x u. cell-inherits b T H K chain (rw x at h) u st i cs w g ∙ inherits-given b gi (rw x at s) K) hr hd)
         (λ M p′ rs′ go hr′ hd′. simulateAll ds ss oo (frame S (cell T S a st) (resultOf d) p ∷ st) z p′ rs′
-          (one (go-has b T H go (chain-closure b chain) h) (reach-trees b ss hs z)) refl hs (omega arith) (drop-step D cs el)
-          w (on-top D S (cell T S a st) p st cs el g) hr′ hd′)
+        (one (go-has b T H go (chain-closure b chain) h) (reach-trees b ss hs z)) refl hs (omega arith) (drop-step D cs el)
+        w (on-top D S (cell T S a st) p st cs el g) hr′ hd′)

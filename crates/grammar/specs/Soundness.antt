@@ -1,5 +1,5 @@
 -- An accepted run has a tree: it has the tokens for its leaves and stands for rule 0's right symbol. Assumes the premises of demand 3.
-use Prim.Native.Nat.{ℕ, zero, suc, _+_, _<_, _≤_}
+use Prim.Native.Nat.{ℕ, zero, suc, _+_, _<_}
 use native.Mathlib.Omega.{arith}
 use mathlib.Core.Path.{_≡_, refl}
 use mathlib.Core.Logic.{_≢_}
@@ -7,14 +7,14 @@ use mathlib.Core.Option.{Option, none, some}
 use mathlib.Core.List.{List, [], _∷_, _++_, append-assoc, append-nil}
 use lib.ListN.{length}
 use lib.Seq.{drop-length}
-use Rattle.grammar.specs.Symbol.{Symbol, terminal, nonterminal, leftOf, rightOf, after, goal}
+use Rattle.grammar.specs.Symbol.{Symbol, rightOf, after, goal}
 use Rattle.grammar.specs.Book.{Book}
 use Rattle.grammar.specs.Items.{derives, Closure, kernel, close}
 use Rattle.grammar.specs.States.{Action, shift, accept, reduce, Acts, reduces, accepts}
-use Rattle.grammar.specs.Tree.{Token, Tree, leaf, node, Trees, nil, cons, leaves, leavesAll, next, TokenOf, TokensOf, no-tokens, and-tokens, Stands, leaf-stands, node-stands, AllStand, nil-stands, cons-stands}
+use Rattle.grammar.specs.Tree.{Token, Tree, Trees, nil, cons, leaves, leavesAll, next, TokenOf, TokensOf, and-tokens, Stands, leaf-stands, node-stands, AllStand, nil-stands, cons-stands}
 use Rattle.grammar.specs.Decorated.{Values, Result}
 use Rattle.grammar.specs.Rows.{Row}
-use Rattle.grammar.specs.Machine.{Tables, Frame, frame, Config, config, accepted, more, stop, start, Popped, popped, pop, arrive, shiftToken, pushLeft, perform, step}
+use Rattle.grammar.specs.Machine.{Tables, Frame, frame, Config, config, accepted, more, stop, start, Popped, popped, pop, shiftToken, pushLeft, perform, step}
 use Rattle.grammar.specs.Runs.{Ends, halts, moves}
 use Rattle.grammar.specs.Moves.{row-more, symbol-more, rule-more, arrive-more, row-accepted, symbol-accepted, rule-accepted, arrive-accepted}
 use Rattle.grammar.specs.Premises.{Premises}
@@ -110,7 +110,7 @@ module _ (b : Book) (T : Tables) where
     keeps {S = S} {w = w} st z p rs (some (reduce P)) os al y a e =
         let (n, c) = reduce-item b (H .act-only S (next z) (reduce P) a) in
         after-reduce w z p rs n y (unwind {ts = nil} _ p [] al (length (rightOf (b .rules) P)) c (rw drop-length nil-stands))
-          (rule-more (rightOf (b .rules) P) st (row-more rs e .1))
+        (rule-more (rightOf (b .rules) P) st (row-more rs e .1))
 
     good-moves : {ks : List Token} {c d : Config} → TokensOf b ks → Good ks c → step b T c ≡ more d → Good ks d
     unfolding step

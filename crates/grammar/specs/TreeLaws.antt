@@ -1,7 +1,7 @@
 -- Laws of the need of trees: a node's need by what stands on the stack above its first child. Assumes nothing.
 use Prim.Native.Nat.{ℕ, suc, _+_, max, _≤_}
 use native.Mathlib.Omega.{arith}
-use mathlib.Core.Path.{_≡_, refl}
+use mathlib.Core.Path.{_≡_}
 use mathlib.Core.List.{List}
 use lib.ListN.{length}
 use Rattle.grammar.specs.Symbol.{Symbol}

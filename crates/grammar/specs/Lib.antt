@@ -2,10 +2,13 @@ pub mod Book
 pub mod ConditionTests
 pub mod ConditionTestsLaws
 pub mod Conditions
+pub mod ConditionsLaws
 pub mod Decides
+pub mod DefinitionLaws
 pub mod First
 pub mod Formula
 pub mod Items
+pub mod LeavesLaws
 pub mod Limits
 pub mod States
 pub mod Symbol

@@ -42,7 +42,8 @@ use Rattle.grammar.specs.Limits.{
   MAX-GOES,
 }
 use Rattle.grammar.specs.Symbol.{Symbol, terminal, nonterminal, leftOf, rightOf, symbolAt}
-use Rattle.grammar.specs.Term.{Operator, Term, number, leaf, both, pick, nodes, Leaves, in-number, in-leaf, in-both, in-pick}
+use Rattle.grammar.specs.Term.{Term, number, leaf, both, pick, nodes, Leaves, in-number, in-leaf, in-both, in-pick}
+use Rattle.grammar.specs.LeavesLaws.{of-leaf, of-both, of-pick}
 use Rattle.grammar.specs.Book.{
   Place,
   own,
@@ -105,25 +106,14 @@ use Rattle.grammar.specs.ConditionTests.{
   defined,
 }
 
-module _ {A : Type 0} {R : A → Type 0} where
-  of-leaf : {a : A} → Leaves R (leaf a) → R a
-  of-leaf (in-leaf r) = r
-
-  of-both : {o : Operator} {s t : Term A} → Leaves R (both o s t) → Leaves R s × Leaves R t
-  of-both (in-both x y) = (x, y)
-
-  of-pick : {c s t : Term A} → Leaves R (pick c s t) → Leaves R c × (Leaves R s × Leaves R t)
-  of-pick (in-pick x y z) = (x, (y, z))
-
-  pub allLeaves-decides : {f : A → Bool} → ((a : A) → Decides (f a) (R a)) → (e : Term A) → Decides (allLeaves f e) (Leaves R e)
-  unfolding allLeaves
-  allLeaves-decides d (number n) = true-decides in-number
-  allLeaves-decides d (leaf a) = equivalent in-leaf of-leaf (d a)
-  allLeaves-decides d (both o s t) =
-      equivalent (λ (x, y). in-both x y) of-both (then-decides (allLeaves-decides d s) (allLeaves-decides d t))
-  allLeaves-decides d (pick c s t) =
-      equivalent (λ (x, (y, z)). in-pick x y z) of-pick
-      (then-decides (allLeaves-decides d c) (then-decides (allLeaves-decides d s) (allLeaves-decides d t)))
+pub allLeaves-decides : {A : Type 0} {f : A → Bool} {R : A → Type 0} → ((a : A) → Decides (f a) (R a)) → (e : Term A) → Decides (allLeaves f e) (Leaves R e)
+unfolding allLeaves
+allLeaves-decides d (number n) = true-decides in-number
+allLeaves-decides d (leaf a) = equivalent in-leaf of-leaf (d a)
+allLeaves-decides d (both o s t) = equivalent (λ (x, y). in-both x y) of-both (then-decides (allLeaves-decides d s) (allLeaves-decides d t))
+allLeaves-decides d (pick c s t) =
+    equivalent (λ (x, (y, z)). in-pick x y z) (λ l. let (x, y, z) = of-pick l in (x, (y, z)))
+    (then-decides (allLeaves-decides d c) (then-decides (allLeaves-decides d s) (allLeaves-decides d t)))
 
 isNonterminal-decides : (A : ℕ) (X : Symbol) → Decides (isNonterminal A X) (X ≡ nonterminal A)
 unfolding isNonterminal

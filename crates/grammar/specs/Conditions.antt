@@ -47,6 +47,13 @@ Before J (own K) = Unit {0}
 Before J (at I K) = I < J
 Before J (val I) = I < J
 
+-- the line is a definition of (P, J, K), of (P, K)
+abbrev pub InheritedOf : ℕ → ℕ → ℕ → InheritedDefinition → Type 0
+InheritedOf P J K d = (d .rule ≡ P) × (d .position ≡ J) × (d .attribute ≡ K)
+
+abbrev pub SynthesizedOf : ℕ → ℕ → SynthesizedDefinition → Type 0
+SynthesizedOf P K d = (d .rule ≡ P) × (d .attribute ≡ K)
+
 module _ (b : Book) where
   -- 3: "a limit above". Per nonterminal and per state the number is counted as it is written, declared or not
   pub record WithinLimits : Type 0 where
@@ -180,10 +187,10 @@ module _ (b : Book) where
 
   -- there is a definition of (P, J, K), and of (P, K)
   abbrev pub DefinesInherited : ℕ → ℕ → ℕ → Type 0
-  DefinesInherited P J K = (d : InheritedDefinition) × Mem d (b .inheritedDefinitions) × ((d .rule ≡ P) × (d .position ≡ J) × (d .attribute ≡ K))
+  DefinesInherited P J K = (d : InheritedDefinition) × Mem d (b .inheritedDefinitions) × InheritedOf P J K d
 
   abbrev pub DefinesSynthesized : ℕ → ℕ → Type 0
-  DefinesSynthesized P K = (d : SynthesizedDefinition) × Mem d (b .synthesizedDefinitions) × ((d .rule ≡ P) × (d .attribute ≡ K))
+  DefinesSynthesized P K = (d : SynthesizedDefinition) × Mem d (b .synthesizedDefinitions) × SynthesizedOf P K d
 
   -- 6: in no rule "an inherited attribute of a right nonterminal or a synthesized one of the left side has no definition"
   pub record Defined : Type 0 where

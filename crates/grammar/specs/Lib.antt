@@ -8,11 +8,13 @@ pub mod Complete
 pub mod ConditionTests
 pub mod ConditionTestsLaws
 pub mod Conditions
+pub mod ConditionsLaws
 pub mod CoreItems
 pub mod Decides
 pub mod Decorate
 pub mod Decorated
 pub mod DecoratedLaws
+pub mod DefinitionLaws
 pub mod Demand
 pub mod DemandProof
 pub mod Expression
@@ -22,6 +24,7 @@ pub mod FirstSets
 pub mod Fixpoint
 pub mod Formula
 pub mod Items
+pub mod LeavesLaws
 pub mod Limits
 pub mod Machine
 pub mod Moves

@@ -1,5 +1,6 @@
 pub mod Book
 pub mod Expression
+pub mod ExpressionReads
 pub mod First
 pub mod Formula
 pub mod Items

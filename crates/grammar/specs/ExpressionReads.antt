@@ -112,10 +112,10 @@ steps-size o =
 -- One turn at a time
 
 module _ (waits : List Waiting) (steps : List (Step Place)) where
-  pub turn-opened : (bs r : List ℕ) (w : Waiting) → begun (left bs) ≡ opened w (left r)
-      → work (machine true (left bs) waits steps) ≡ work (machine true (left r) (w ∷ waits) steps)
+  pub turn-opened : (bs : List ℕ) (o : Rest) (w : Waiting) → begun (left bs) ≡ opened w o
+      → work (machine true (left bs) waits steps) ≡ work (machine true o (w ∷ waits) steps)
   unfolding turn begin goesOn found
-  turn-opened bs r w e = work-more (machine true (left bs) waits steps) refl ∙ rw e
+  turn-opened bs o w e = work-more (machine true (left bs) waits steps) refl ∙ rw e
 
   pub turn-whole : (bs : List ℕ) (o : Rest) (s : Step Place) → begun (left bs) ≡ whole s o
       → work (machine true (left bs) waits steps) ≡ work (machine false o waits (steps ++ (s ∷ [])))
@@ -178,7 +178,7 @@ steps-read (leaf p) r waits steps (leaf-fits h) k = turn-whole waits steps (prin
 steps-read (both o x y) r waits steps (both-fits h₁ h₂) k =
     let r₂ : List ℕ = 41 ∷ r in
     let r₁ : List ℕ = 32 ∷ printExpression y r₂ in
-    turn-opened waits steps (printOperator o (printExpression x r₁)) (printExpression x r₁) (waiting (operate o) 1) (begun-operator o (printExpression x r₁))
+    turn-opened waits steps (printOperator o (printExpression x r₁)) (left (printExpression x r₁)) (waiting (operate o) 1) (begun-operator o (printExpression x r₁))
     ∙ (steps-read x r₁ (waiting (operate o) 1 ∷ waits) steps h₁ refl
     ∙ (next-operand waits (printExpression y r₂) (operate o) 0 (steps ++ postfix x)
     ∙ (steps-read y r₂ (waiting (operate o) 0 ∷ waits) (steps ++ postfix x) h₂ refl
@@ -188,7 +188,7 @@ steps-read (pick c x y) r waits steps (pick-fits h₁ h₂ h₃) k =
     let r₃ : List ℕ = 41 ∷ r in
     let r₂ : List ℕ = 32 ∷ printExpression y r₃ in
     let r₁ : List ℕ = 32 ∷ printExpression x r₂ in
-    turn-opened waits steps (literal "(pick " (printExpression c r₁)) (printExpression c r₁) (waiting select 2) (begun-pick (printExpression c r₁))
+    turn-opened waits steps (literal "(pick " (printExpression c r₁)) (left (printExpression c r₁)) (waiting select 2) (begun-pick (printExpression c r₁))
     ∙ (steps-read c r₁ (waiting select 2 ∷ waits) steps h₁ refl
     ∙ (next-operand waits (printExpression x r₂) select 1 (steps ++ postfix c)
     ∙ (steps-read x r₂ (waiting select 1 ∷ waits) (steps ++ postfix c) h₂ refl

@@ -1,6 +1,7 @@
 pub mod Book
 pub mod Expression
 pub mod ExpressionReads
+pub mod ExpressionWas
 pub mod First
 pub mod Formula
 pub mod Items

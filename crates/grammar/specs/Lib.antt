@@ -18,6 +18,8 @@ pub mod DefinitionLaws
 pub mod Demand
 pub mod DemandProof
 pub mod Expression
+pub mod ExpressionReads
+pub mod ExpressionWas
 pub mod First
 pub mod FirstOfLeaves
 pub mod FirstSets

@@ -1,6 +1,8 @@
 pub mod Actions
 pub mod Book
-pub mod CaseS
+pub mod CaseBooks
+pub mod Cases
+pub mod CasesProof
 pub mod Chains
 pub mod ClosureSets
 pub mod Compiled
@@ -17,6 +19,7 @@ pub mod DecoratedLaws
 pub mod DefinitionLaws
 pub mod Demand
 pub mod DemandProof
+pub mod Engine
 pub mod Expression
 pub mod ExpressionReads
 pub mod ExpressionWas
@@ -43,6 +46,7 @@ pub mod ReachSets
 pub mod Reader
 pub mod ReaderLaws
 pub mod Rebuild
+pub mod Refusal
 pub mod Repeat
 pub mod Rows
 pub mod RowsLaws

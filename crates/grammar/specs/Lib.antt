@@ -10,8 +10,10 @@ pub mod DemandProof
 pub mod First
 pub mod FirstOfLeaves
 pub mod Formula
+pub mod FormulaTable
 pub mod Items
 pub mod Limits
+pub mod ListLaws
 pub mod Machine
 pub mod Moves
 pub mod Premises

@@ -1,16 +1,16 @@
 -- Demand 3: what the stack evaluator (Machine.antt) answers on any list of the book's tokens. This file only states it; DemandProof.antt proves it.
 -- Trees and their values (Tree.antt, Decorated.antt) know nothing of states and stacks. Assumes nothing.
-use Prim.Native.Nat.{_≤_}
+use Prim.Native.Nat.{_-_, _*_, _≤_}
 use mathlib.Core.Path.{_≡_}
 use mathlib.Core.Logic.{_↔_}
 use mathlib.Core.List.{List}
-use lib.ListN.{length}
-use Rattle.grammar.specs.Limits.{MAX-ROWS, MAX-STACK}
+use lib.ListN.{length, drop, replicate}
+use Rattle.grammar.specs.Limits.{MAX-ROWS, ROW-WORDS, PAGE-WORDS, MAX-STACK}
 use Rattle.grammar.specs.Symbol.{goal}
 use Rattle.grammar.specs.Book.{Book}
 use Rattle.grammar.specs.Tree.{Token, Tree, leaves, size, need, TokensOf, Stands}
 use Rattle.grammar.specs.Decorated.{Decorated, erase, Inherits, Obeys, rootInherited}
-use Rattle.grammar.specs.Rows.{Row, rows}
+use Rattle.grammar.specs.Rows.{Row, page, rows}
 use Rattle.grammar.specs.Machine.{Tables, refused, accepted, evaluate}
 use Rattle.grammar.specs.Premises.{Premises}
 
@@ -41,6 +41,10 @@ module _ (b : Book) where
       pub row-count : {rs : List Row} → evaluate b T ks ≡ accepted rs → (t : Tree) → TreeOf ks t → length rs ≡ size t
       -- "The rows are those nodes in postorder, each with its rule or terminal, its start and the values that the rules give on the finished tree"
       pub postorder : {rs : List Row} → evaluate b T ks ≡ accepted rs → (t : Tree) → TreeOf ks t → (d : Decorated) → Valued t d → rs ≡ rows b d 0
+      -- "and every row word after them is 0"
+      pub lent-words : {rs : List Row} → evaluate b T ks ≡ accepted rs → length (page rs) ≡ PAGE-WORDS
+      pub zeros-after : {rs : List Row} → evaluate b T ks ≡ accepted rs
+          → drop (ROW-WORDS * length rs) (page rs) ≡ replicate (PAGE-WORDS - ROW-WORDS * length rs) 0
       -- every tree has such values, and only these
       pub has-values : (t : Tree) → (d : Decorated) × Valued t d × ((e : Decorated) → Valued t e → e ≡ d)
       -- "The list is refused as no message (15) only if no tree of any size has those leaves"

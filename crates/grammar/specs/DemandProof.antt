@@ -10,7 +10,7 @@ use Rattle.grammar.specs.Book.{Book}
 use Rattle.grammar.specs.Tree.{Token, Tree, leaves, size, need, TokensOf}
 use Rattle.grammar.specs.Decorated.{Decorated, erase, rootInherited}
 use Rattle.grammar.specs.Rows.{Row, rows, page}
-use Rattle.grammar.specs.RowsLaws.{rows-count, page-length}
+use Rattle.grammar.specs.RowsLaws.{rows-count, page-length, page-after}
 use Rattle.grammar.specs.Decorate.{decorate, decorate-erases, decorate-inherits, decorate-obeys, decorate-only}
 use Rattle.grammar.specs.Machine.{Tables, Answer, refused, accepted, start, evaluate}
 use Rattle.grammar.specs.Runs.{Ends, ends-once}
@@ -101,8 +101,7 @@ module _ (b : Book) (T : Tables) (H : Premises b T) where
       let (d, u) = values-of t in
       ap length (accepted-rows q u e .0) ∙ rows-count b d 0 ∙ ap size (u .its-tree)
 
-  -- the rows of an accepted list fill the lent words
-  pub page-fits : {ks : List Token} {rs : List Row} → TokensOf b ks → evaluate b T ks ≡ accepted rs → length (page rs) ≡ PAGE-WORDS
+  page-fits : {ks : List Token} {rs : List Row} → TokensOf b ks → evaluate b T ks ≡ accepted rs → length (page rs) ≡ PAGE-WORDS
   page-fits {rs = rs} os e =
       let (t, q, l) = accepted-tree os e in
       let n = count-rows e t q in
@@ -115,6 +114,8 @@ demand-3 b T H ks os = record {
   one-tree = same-tree b T H;
   row-count = count-rows b T H;
   postorder = λ e t q d u. accepted-rows b T H q u e .0;
+  lent-words = page-fits b T H os;
+  zeros-after = λ {rs} e. page-after rs;
   has-values = λ t. (values-of b T H t .0, values-of b T H t .1, only-values b T H t);
   no-message = λ e t q. refused-tree b T H e q;
 }

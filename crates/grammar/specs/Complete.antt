@@ -44,6 +44,7 @@ module _ (b : Book) (T : Tables) where
       finish : Simulated b T 0 (goal (b .rules)) [] d (next (leaves (erase d) ++ [])) [] 0 [] → Told d
       finish (Simulated.quit {x = x} q o) = over {x = x} (rw append-nil at q) o
       finish (Simulated.came M p rs g reach ep er el hr hd) =
-          let c : Closure b M 0 (length (rightOf (b .rules) 0)) 0 = rw (start-length b T H) (kernel (go-has b T H g (kernel (start-item b T H)) (H .start-right))) in
+          let item = go-has b T H g (kernel (start-item b T H)) (H .start-right) in
+          let c : Closure b M 0 (length (rightOf (b .rules) 0)) 0 = rw (start-length b T H) (kernel item) in
           let halt = halts (accept-halts b T _ p rs (H .act-when M 0 accept (accepts c))) in
           taken (rw (append-nil, er) at (reach-ends b T reach halt)) (omega arith) (omega arith)

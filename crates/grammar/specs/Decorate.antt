@@ -7,7 +7,8 @@ use mathlib.Core.List.{List, [], _∷_, _++_, append-assoc}
 use lib.ListN.{length, length-append, List·getD-append}
 use Rattle.grammar.specs.Book.{Book}
 use Rattle.grammar.specs.Tree.{Tree, leaf, node, Trees, nil, cons}
-use Rattle.grammar.specs.Decorated.{Values, Result, token, inheritedFrom, synthesizedFrom, Decorated, AllDecorated, erase, eraseAll, resultOf, results, Inherits, leaf-inherits, node-inherits, Obeys, leaf-obeys, node-obeys, AllObey, nil-obey, cons-obey}
+use Rattle.grammar.specs.Decorated.{Values, Result, token, inheritedFrom, synthesizedFrom, Decorated, AllDecorated, erase, eraseAll, resultOf}
+use Rattle.grammar.specs.Decorated.{results, Inherits, leaf-inherits, node-inherits, Obeys, leaf-obeys, node-obeys, AllObey, nil-obey, cons-obey}
 use Rattle.grammar.specs.DecoratedLaws.{inheritedFrom-same}
 use Rattle.grammar.specs.Machine.{Tables}
 use Rattle.grammar.specs.Premises.{Premises}
@@ -85,3 +86,8 @@ module _ (b : Book) (T : Tables) (H : Premises b T) where
         let h = decorate-only d f o g′ in
         let hs = decorateAll-only ds P i (cs ++ (resultOf d ∷ [])) (suc J) (simp length-append (omega arith)) all (rw append-assoc e) oo in
         rw (← h) (ap (AllDecorated.cons d) hs)
+
+-- opens every definition of this module
+unfoldable pub opens : Unit {0}
+unfolding decorate decorateAll
+opens = tt

@@ -7,7 +7,8 @@ use Rattle.grammar.specs.Symbol.{nonterminal, leftOf, rightOf}
 use Rattle.grammar.specs.TermLaws.{eval-same}
 use Rattle.grammar.specs.Book.{Place, own, at, val, Book, inheritedOwner}
 use Rattle.grammar.specs.Tree.{Stands}
-use Rattle.grammar.specs.Decorated.{Values, Result, childAt, placeValue, inheritedFrom, synthesizedFrom, Decorated, erase, inheritedOf, Inherits, node-inherits}
+use Rattle.grammar.specs.Decorated.{Values, Result, childAt, placeValue, inheritedFrom, synthesizedFrom, Decorated, erase, inheritedOf, Inherits}
+use Rattle.grammar.specs.Decorated.{node-inherits}
 use Rattle.grammar.specs.Machine.{Tables}
 use Rattle.grammar.specs.Premises.{MayRead, reads-own, reads-at, reads-val, Premises}
 use Rattle.grammar.specs.PremisesLaws.{inherited-leaves, synthesized-leaves}

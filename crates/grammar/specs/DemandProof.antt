@@ -1,4 +1,4 @@
--- Demand 3 is met: `demand-3`, for every book and tables that meet the premises and every list of the book's tokens.
+-- Demand 3 is met: `demand-3`. Assumes nothing beyond what the statement names.
 use Prim.Native.Nat.{ℕ}
 use native.Mathlib.Omega.{arith}
 use mathlib.Core.Path.{_≡_, refl, ap, sym, _∙_}
@@ -10,7 +10,7 @@ use Rattle.grammar.specs.Book.{Book}
 use Rattle.grammar.specs.Tree.{Token, Tree, leaves, size, need, TokensOf}
 use Rattle.grammar.specs.Decorated.{Decorated, erase, rootInherited}
 use Rattle.grammar.specs.Rows.{Row, rows, page}
-use Rattle.grammar.specs.RowsLaws.{rows-count, page-length}
+use Rattle.grammar.specs.RowsLaws.{rows-count, page-length, page-after}
 use Rattle.grammar.specs.Decorate.{decorate, decorate-erases, decorate-inherits, decorate-obeys, decorate-only}
 use Rattle.grammar.specs.Machine.{Tables, Answer, refused, accepted, start, evaluate}
 use Rattle.grammar.specs.Runs.{Ends, ends-once}
@@ -20,7 +20,7 @@ use Rattle.grammar.specs.Complete.{Told, taken, over, told}
 use Rattle.grammar.specs.Rebuild.{rows-tell}
 use Rattle.grammar.specs.Soundness.{sound}
 use Rattle.grammar.specs.Premises.{Premises}
-use Rattle.grammar.specs.Demand.{WithinLimits, TreeOf, Valued, Demand3}
+use Rattle.grammar.specs.Demand.{WithinLimits, TreeOf, Valued, Demand3Met}
 
 module _ (b : Book) (T : Tables) (H : Premises b T) where
   values-of : (t : Tree) → (d : Decorated) × Valued b t d
@@ -101,20 +101,21 @@ module _ (b : Book) (T : Tables) (H : Premises b T) where
       let (d, u) = values-of t in
       ap length (accepted-rows q u e .0) ∙ rows-count b d 0 ∙ ap size (u .its-tree)
 
-  pub demand-3 : (ks : List Token) → TokensOf b ks → Demand3 b T ks
-  demand-3 ks os = record {
-    exactly = (λ a. accepted-tree os (a .1), λ p. within-accepted (p .1) (p .2));
-    one-tree = same-tree;
-    row-count = count-rows;
-    postorder = λ e t q d u. accepted-rows q u e .0;
-    has-values = λ t. (values-of t .0, values-of t .1, only-values t);
-    no-message = λ e t q. refused-tree e q;
-  }
-
-  -- the rows of an accepted list fill the lent words
-  pub page-fits : {ks : List Token} {rs : List Row} → TokensOf b ks → evaluate b T ks ≡ accepted rs → length (page rs) ≡ PAGE-WORDS
+  page-fits : {ks : List Token} {rs : List Row} → TokensOf b ks → evaluate b T ks ≡ accepted rs → length (page rs) ≡ PAGE-WORDS
   page-fits {rs = rs} os e =
       let (t, q, l) = accepted-tree os e in
       let n = count-rows e t q in
       let h = l .few-nodes in
       page-length rs (omega arith)
+
+pub demand-3 : Demand3Met
+demand-3 b T H ks os = record {
+  exactly = (λ a. accepted-tree b T H os (a .1), λ p. within-accepted b T H (p .1) (p .2));
+  one-tree = same-tree b T H;
+  row-count = count-rows b T H;
+  postorder = λ e t q d u. accepted-rows b T H q u e .0;
+  lent-words = page-fits b T H os;
+  zeros-after = λ {rs} e. page-after rs;
+  has-values = λ t. (values-of b T H t .0, values-of b T H t .1, only-values b T H t);
+  no-message = λ e t q. refused-tree b T H e q;
+}

@@ -28,9 +28,11 @@ pub mod FirstOfLeaves
 pub mod FirstSets
 pub mod Fixpoint
 pub mod Formula
+pub mod FormulaTable
 pub mod Items
 pub mod LeavesLaws
 pub mod Limits
+pub mod ListLaws
 pub mod Machine
 pub mod Moves
 pub mod Ordered

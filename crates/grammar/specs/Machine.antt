@@ -139,11 +139,12 @@ module _ (b : Book) (T : Tables) where
   run (suc n) (stop a) = some a
   run (suc n) (more c) = run n (step c)
 
-  -- every move but the last writes a row, and there are at most 512 of them
+  -- every move but the last writes one of at most 512 rows, so 513 moves are enough: there is always an answer
   unfoldable pub evaluate : List Token → Answer
   evaluate ks = elim (run (suc MAX-ROWS) (more (start ks))) [ none ↦ refused 16 | some a ↦ a ]
 
 -- opens every definition of this module
 unfoldable pub opens : Unit {0}
-unfolding decLt inheritedAt resultAt leafValue formulaValue cell pop within roomForRow roomForSymbol roomForRule arrive shiftToken pushLeft perform step run evaluate
+unfolding decLt inheritedAt resultAt leafValue formulaValue cell pop within roomForRow roomForSymbol roomForRule arrive shiftToken pushLeft
+    perform step run evaluate
 opens = tt

@@ -12,7 +12,8 @@ use Rattle.grammar.specs.States.{shift, accept, reduce}
 use Rattle.grammar.specs.Tree.{Token, next}
 use Rattle.grammar.specs.Decorated.{Values, Result, token, values, synthesizedFrom}
 use Rattle.grammar.specs.Rows.{Row, rowOfToken, rowOfNode}
-use Rattle.grammar.specs.Machine.{Tables, Frame, frame, Config, config, refused, accepted, Step, more, stop, cell, popped, pop, within, roomForRow, roomForSymbol, roomForRule, arrive, shiftToken, pushLeft, perform, step}
+use Rattle.grammar.specs.Machine.{Tables, Frame, frame, Config, config, refused, accepted, Step, more, stop, cell, popped, pop, within, roomForRow}
+use Rattle.grammar.specs.Machine.{roomForSymbol, roomForRule, arrive, shiftToken, pushLeft, perform, step}
 
 -- ---------------------------------------------------------------- limits
 

@@ -1,50 +1,25 @@
--- The premises in the form in which the proofs use them: kernel items instead of kernel lines, the table's go, definitions found by their numbers;
--- and the table of formulas from the one-formula condition. Assumes nothing.
+-- The premises of demand 3 in the form in which the proofs use them: kernel items instead of kernel lines, the table's go, definitions found by
+-- their numbers. Assumes no more than these premises.
 use Prim.Native.Nat.{ℕ, zero, suc}
 use native.Mathlib.Omega.{arith}
 use native.Mathlib.Decide.{ℕ-discrete}
-use mathlib.Core.Path.{_≡_, refl, ap, sym, _∙_}
+use mathlib.Core.Path.{_≡_, refl, sym, _∙_}
 use mathlib.Core.Logic.{_≢_}
 use mathlib.Core.Bool.{Bool, true, false, _&&_}
-use mathlib.Core.Option.{Option, none, some}
+use mathlib.Core.Option.{some}
 use mathlib.Core.List.{List, [], _∷_, nil≢cons, List·Memᴰ as Mem, List·Memᴰ·head as in-head, List·Memᴰ·tail as in-tail, List·Memᴰ·eq-of-singleton}
 use lib.Dec.{eqb}
-use lib.ListN.{length, getD, drop}
+use lib.ListN.{length}
 use lib.Seq.{drop-nil}
 use borrow.Author.Tests.{eqb-true}
+use Rattle.grammar.specs.ListLaws.{drop-member, getD-member}
 use Rattle.grammar.specs.Symbol.{Symbol, nonterminal, Rule, ruleAt, leftOf, rightOf, after}
 use Rattle.grammar.specs.Term.{Leaves, in-number}
-use Rattle.grammar.specs.Book.{Place, InheritedDefinition, SynthesizedDefinition, Book, inheritedIn, synthesizedIn, inheritedOwner, inheritedExpr, synthesizedExpr}
+use Rattle.grammar.specs.Book.{Place, InheritedDefinition, SynthesizedDefinition, Book, inheritedIn, synthesizedIn, inheritedOwner, inheritedExpr}
+use Rattle.grammar.specs.Book.{synthesizedExpr}
 use Rattle.grammar.specs.Items.{KernelItem, kernel-item, Closure, kernel, close, Chain, one, longer}
-use Rattle.grammar.specs.Formula.{Formula, formula, LR-attributed}
 use Rattle.grammar.specs.Machine.{Tables}
 use Rattle.grammar.specs.Premises.{MayRead, Premises}
-
--- ---------------------------------------------------------------- lists
-
-pub drop-step : {A : Type 0} (D : ℕ) (l : List A) {x : A} {r : List A} → drop D l ≡ x ∷ r → drop (suc D) l ≡ r
-drop-step zero [] e = absurd (nil≢cons e)
-drop-step zero (y ∷ l) e = cc
-drop-step (suc D) [] e = absurd (nil≢cons e)
-drop-step (suc D) (y ∷ l) e = drop-step D l e
-
-pub drop-get : {A : Type 0} (D : ℕ) (l : List A) {x : A} {r : List A} (y : A) → drop D l ≡ x ∷ r → x ≡ getD l D y
-drop-get zero [] y e = absurd (nil≢cons e)
-drop-get zero (w ∷ l) y e = cc
-drop-get (suc D) [] y e = absurd (nil≢cons e)
-drop-get (suc D) (w ∷ l) y e = drop-get D l y e
-
-drop-member : {A : Type 0} (D : ℕ) (l : List A) {x : A} {r : List A} → drop D l ≡ x ∷ r → Mem x l
-drop-member zero [] e = absurd (nil≢cons e)
-drop-member zero (y ∷ l) {x} e = let first : x ≡ y = cc in in-head first
-drop-member (suc D) [] e = absurd (nil≢cons e)
-drop-member (suc D) (y ∷ l) e = in-tail (drop-member D l e)
-
--- an element other than the default is a member
-getD-member : {A : Type 0} (l : List A) (n : ℕ) (d : A) → getD l n d ≢ d → Mem (getD l n d) l
-getD-member [] n d h = absurd (h refl)
-getD-member (x ∷ l) zero d h = in-head refl
-getD-member (x ∷ l) (suc n) d h = in-tail (getD-member l n d h)
 
 -- a rule with a right side is a rule of the grammar
 rule-member : (G : List Rule) (P D : ℕ) {X : Symbol} {β : List Symbol} → after G P D ≡ X ∷ β → Mem (ruleAt G P) G
@@ -153,32 +128,3 @@ module _ (b : Book) (T : Tables) (H : Premises b T) where
   go-back {S} {P} {D} {a} {M} {X} g (kernel-item {k = k} m s p d l) =
       let (D′, c, β, e, cl, h) = H .go-rules .go-only S M X k (sym (H .go-table S X) ∙ g) m s in
       rw (← p) (D′, c, β, sym d ∙ e, cl, h)
-
--- ---------------------------------------------------------------- the table of formulas
-
-module _ (b : Book) (T : Tables) where
-  -- f is the formula of some chain of (S, a) that ends before the owner of K
-  pub data FromChain (S a K : ℕ) (f : Formula) : Type 0 where
-    from-chain : {P D c : ℕ} {β : List Symbol} (chain : Chain b S a P D c) → after (b .rules) P D ≡ nonterminal (inheritedOwner b K) ∷ β → formula b chain K ≡ f
-        → FromChain S a K f
-
-  -- a table that has a formula of some chain where there is one, and nothing elsewhere, has the formula of every chain if all agree
-  pub formula-found : LR-attributed b → ((S a K : ℕ) (f : Formula) → T .formulaAt S a K ≡ some f → FromChain S a K f)
-      → ((S a K P D c : ℕ) (β : List Symbol) → T .formulaAt S a K ≡ none → Chain b S a P D c → after (b .rules) P D ≡ nonterminal (inheritedOwner b K) ∷ β → ⊥)
-      → (S a P D c K : ℕ) (β : List Symbol) (chain : Chain b S a P D c) → after (b .rules) P D ≡ nonterminal (inheritedOwner b K) ∷ β
-      → T .formulaAt S a K ≡ some (formula b chain K)
-  formula-found agree found missing S a P D c K β chain h = by (T .formulaAt S a K) refl
-    where
-      same : {f : Formula} → FromChain S a K f → formula b chain K ≡ f
-      same (from-chain {P = P′} {D = D′} {c = c′} {β = β′} chain′ h′ e) = agree S a P D c P′ D′ c′ (inheritedOwner b K) K β β′ chain chain′ h h′ refl ∙ e
-
-      by : (x : Option Formula) → T .formulaAt S a K ≡ x → T .formulaAt S a K ≡ some (formula b chain K)
-      by none e = absurd (missing S a K P D c β e chain h)
-      by (some f) e = e ∙ ap some (sym (same (found S a K f e)))
-
-  -- and from the premises all chains agree
-  pub all-agree : Premises b T → LR-attributed b
-  all-agree H S a P D c P′ D′ c′ B K β β′ chain chain′ h h′ o =
-      let e = H .formula-there S a P D c K β chain (rw o h) in
-      let e′ = H .formula-there S a P′ D′ c′ K β′ chain′ (rw o h′) in
-      cc

@@ -11,11 +11,12 @@ use Rattle.grammar.specs.Book.{Book}
 use Rattle.grammar.specs.States.{Action, shift, accept, reduce}
 use Rattle.grammar.specs.Tree.{Token, next}
 use Rattle.grammar.specs.Rows.{Row}
-use Rattle.grammar.specs.Machine.{Tables, Frame, Config, config, Answer, Step, more, stop, start, cell, Popped, popped, pop, shiftToken, pushLeft, perform, step, run, evaluate}
+use Rattle.grammar.specs.Machine.{Tables, Frame, Config, config, Answer, Step, more, stop, start, cell, Popped, popped, pop, shiftToken, pushLeft}
+use Rattle.grammar.specs.Machine.{perform, step, run, evaluate}
 use Rattle.grammar.specs.Runs.{Ends, halts, moves}
 use Rattle.grammar.specs.Moves.{row-more, symbol-more, rule-more, arrive-more}
 
-abbrev rowCount : Config → ℕ
+abbrev pub rowCount : Config → ℕ
 rowCount (config st S z p rs) = length rs
 
 one-more : (rs : List Row) (r : Row) {c : Config} {st : List Frame} {S p : ℕ} {z : List Token} → c ≡ config st S z p (rs ++ (r ∷ []))

@@ -17,7 +17,8 @@ use Rattle.grammar.specs.Items.{derives, Closure, Chain, one, longer}
 use Rattle.grammar.specs.States.{shift, reduce, shifts, reduces}
 use Rattle.grammar.specs.Tree.{Token, leaves, leavesAll, size, sizeAll, need, next, Stands, leaf-stands, node-stands, AllStand, nil-stands, cons-stands}
 use Rattle.grammar.specs.TreeLaws.{needAll, need-positive, need-node, need-length}
-use Rattle.grammar.specs.Decorated.{Values, Result, token, childAt, synthesizedFrom, Decorated, AllDecorated, erase, eraseAll, inheritedOf, resultOf, results, Obeys, leaf-obeys, node-obeys, AllObey, nil-obey, cons-obey}
+use Rattle.grammar.specs.Decorated.{Values, Result, token, childAt, synthesizedFrom, Decorated, AllDecorated, erase, eraseAll, inheritedOf, resultOf}
+use Rattle.grammar.specs.Decorated.{results, Obeys, leaf-obeys, node-obeys, AllObey, nil-obey, cons-obey}
 use Rattle.grammar.specs.DecoratedLaws.{SameOwn, inherits-given, synthesizedFrom-same}
 use Rattle.grammar.specs.Rows.{Row, rowOfToken, rowOfNode, rows, rowsAll}
 use Rattle.grammar.specs.RowsLaws.{owned-same}
@@ -25,7 +26,8 @@ use Rattle.grammar.specs.Machine.{Tables, Frame, frame, config, Answer, 
 use Rattle.grammar.specs.Runs.{Reach, stay, move, reach-then, Ends, halts, reach-ends}
 use Rattle.grammar.specs.Moves.{shift-moves, shift-16, shift-17, reduce-moves, reduce-16, reduce-17}
 use Rattle.grammar.specs.Premises.{Premises}
-use Rattle.grammar.specs.PremisesLaws.{drop-step, drop-get, chain-closure, go-there, go-has}
+use Rattle.grammar.specs.ListLaws.{drop-step, drop-get}
+use Rattle.grammar.specs.PremisesLaws.{chain-closure, go-there, go-has}
 use Rattle.grammar.specs.FirstOfLeaves.{first-of-leaves, reach-trees}
 use Rattle.grammar.specs.Chains.{Below, OnTop, cell-inherits}
 
@@ -126,7 +128,8 @@ module _ (b : Book) (T : Tables) (H : Premises b T) where
   unfolding pop rowOfNode
   simulate-node {P} {ds = ds} n g ss es st a z p rs w (AllSimulated.quit q o) =
       Simulated.quit q (over-more o (omega arith) (omega (arith, need-node P (eraseAll ds))))
-  simulate-node {P} {i} {s} {ds} {S} {M} n g ss es st a z p rs w (AllSimulated.came R p₁ rs₁ sr reach ep er el hr hd ed c pops) = by-rows (decLt (length rs₁) MAX-ROWS)
+  simulate-node {P} {i} {s} {ds} {S} {M} n g ss es st a z p rs w (AllSimulated.came R p₁ rs₁ sr reach ep er el hr hd ed c pops) =
+      by-rows (decLt (length rs₁) MAX-ROWS)
     where
       γ : List Symbol
       γ = rightOf (b .rules) P
@@ -194,7 +197,7 @@ module _ (b : Book) (T : Tables) (H : Premises b T) where
         let d : D ≡ length (rightOf (b .rules) P) = omega arith in
         AllSimulated.came S p rs st stay (omega arith) (sym (append-nil rs)) (omega arith) hr (omega arith) (omega arith) (rw d at (chain-closure b chain))
         (λ n cs. rw (zero-add, ea))
-    simulateAll (AllDecorated.cons d ds) (cons-stands s ss) {P = P} {D = D} {i = i} {cs = cs} (cons-obey o gi oo) {S = S} {a = a} st z p rs chain ea h l el w g hr hd =
+    simulateAll (AllDecorated.cons d ds) (cons-stands s ss) {P} {D} {i} {cs} (cons-obey o gi oo) {S} {a} st z p rs chain ea h l el w g hr hd =
         let hs = drop-step D (rightOf (b .rules) P) h in
         simulate-cons b T st z p rs
         (simulate d s o st (leavesAll (eraseAll ds) ++ z) p rs chain h (first-of-leaves b ss z) (rw append-assoc at ea)

@@ -11,14 +11,17 @@ use Rattle.grammar.specs.Symbol.{Symbol, rightOf, after, goal}
 use Rattle.grammar.specs.Book.{Book}
 use Rattle.grammar.specs.Items.{derives, Closure, kernel, close}
 use Rattle.grammar.specs.States.{Action, shift, accept, reduce, Acts, reduces, accepts}
-use Rattle.grammar.specs.Tree.{Token, Tree, Trees, nil, cons, leaves, leavesAll, next, TokenOf, TokensOf, and-tokens, Stands, leaf-stands, node-stands, AllStand, nil-stands, cons-stands}
+use Rattle.grammar.specs.Tree.{Token, Tree, Trees, nil, cons, leaves, leavesAll, next, TokenOf, TokensOf, and-tokens, Stands, leaf-stands}
+use Rattle.grammar.specs.Tree.{node-stands, AllStand, nil-stands, cons-stands}
 use Rattle.grammar.specs.Decorated.{Values, Result}
 use Rattle.grammar.specs.Rows.{Row}
-use Rattle.grammar.specs.Machine.{Tables, Frame, frame, Config, config, accepted, more, stop, start, Popped, popped, pop, shiftToken, pushLeft, perform, step}
+use Rattle.grammar.specs.Machine.{Tables, Frame, frame, Config, config, accepted, more, stop, start, Popped, popped, pop, shiftToken, pushLeft}
+use Rattle.grammar.specs.Machine.{perform, step}
 use Rattle.grammar.specs.Runs.{Ends, halts, moves}
 use Rattle.grammar.specs.Moves.{row-more, symbol-more, rule-more, arrive-more, row-accepted, symbol-accepted, rule-accepted, arrive-accepted}
 use Rattle.grammar.specs.Premises.{Premises}
-use Rattle.grammar.specs.PremisesLaws.{drop-step, dotted, start-length, start-unreached, start-only, start-dot, start-lookahead, go-back}
+use Rattle.grammar.specs.ListLaws.{drop-step}
+use Rattle.grammar.specs.PremisesLaws.{dotted, start-length, start-unreached, start-only, start-dot, start-lookahead, go-back}
 
 module _ (b : Book) where
   -- ks is the leaves of a tree of a whole message

@@ -8,6 +8,7 @@ pub mod FirstSets
 pub mod Fixpoint
 pub mod Formula
 pub mod Items
+pub mod ItemsRight
 pub mod Limits
 pub mod ReachSets
 pub mod Slots

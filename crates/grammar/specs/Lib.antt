@@ -6,6 +6,7 @@ pub mod CoreItems
 pub mod First
 pub mod FirstSets
 pub mod Fixpoint
+pub mod FixpointLaws
 pub mod Formula
 pub mod Items
 pub mod ItemsRight

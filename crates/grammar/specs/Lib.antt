@@ -4,13 +4,16 @@ pub mod ClosureSets
 pub mod Compiled
 pub mod CoreItems
 pub mod First
+pub mod FirstLaws
 pub mod FirstSets
 pub mod Fixpoint
 pub mod FixpointLaws
 pub mod Formula
 pub mod Items
 pub mod ItemsRight
+pub mod LeastLaws
 pub mod Limits
+pub mod Members
 pub mod ReachSets
 pub mod Slots
 pub mod StateCases

@@ -6,6 +6,7 @@ pub mod CoreItems
 pub mod First
 pub mod FirstLaws
 pub mod FirstSets
+pub mod FirstSetsLaws
 pub mod Fixpoint
 pub mod FixpointLaws
 pub mod Formula
@@ -16,6 +17,7 @@ pub mod Limits
 pub mod Members
 pub mod ReachSets
 pub mod Slots
+pub mod Small
 pub mod StateCases
 pub mod States
 pub mod StatesCheck

@@ -15,7 +15,9 @@ pub mod ItemsRight
 pub mod LeastLaws
 pub mod Limits
 pub mod Members
+pub mod ReachLaws
 pub mod ReachSets
+pub mod ReachesLaws
 pub mod Slots
 pub mod Small
 pub mod StateCases

@@ -13,7 +13,7 @@ use Rattle.sets.specs.Sets.{bit, single, union}
 use Rattle.sets.specs.SetsLaws.{bit-lt, single-lt, union-lt, union-left, union-right, union-either}
 use Rattle.grammar.specs.Members.{true-false, none-in, some-not-none, member, single-in, single-is}
 use Rattle.grammar.specs.Symbol.{Symbol, terminal, nonterminal, Rule, leftOf, rightOf, after}
-use Rattle.grammar.specs.Small.{Low, low-drop, Small, low-right}
+use Rattle.grammar.specs.Small.{Low, Small, low-after}
 use Rattle.grammar.specs.Fixpoint.{Constraint, setAt, least}
 use Rattle.grammar.specs.LeastLaws.{Family, Within, none-family, none-within, Fits, least-family, least-closed, least-within}
 use Rattle.grammar.specs.First.{First, past}
@@ -159,9 +159,6 @@ module _ {G : List Rule} {F : Sets} (H : Small G) (R : SetsRight G F) where
       go true m o = m refl
       go false m o = o refl
 
-  low-after : (P D : ℕ) → Low (after G P D)
-  low-after P D = low-drop D (rightOf G P) (low-right G H P)
-
   pub reaches-with : (P D M a c : ℕ) → M < 2 ^ 32 → bit M c ≡ true → Reaches G a P D c → bit (reachWith F (reachSets G F) (after G P D) M) a ≡ true
   reaches-with P D M a c m e r = by-with (after G P D) M (λ x. bit x a ≡ true) more only
     where
@@ -169,15 +166,15 @@ module _ {G : List Rule} {F : Sets} (H : Small G) (R : SetsRight G F) where
       before = reachIn F (reachSets G F) (after G P D)
 
       small : before < 2 ^ 32
-      small = reach-lt R (reachSets G F) reached-family (after G P D) (low-after P D)
+      small = reach-lt R (reachSets G F) reached-family (after G P D) (low-after G H P D)
 
       more : null F (after G P D) ≡ true → bit (union before M) a ≡ true
       more n =
-          ⊎-elim (λ s. let t = strict-has (low-after P D) s in union-left before M a (bit-lt before a small t) t)
+          ⊎-elim (λ s. let t = strict-has (low-after G H P D) s in union-left before M a (bit-lt before a small t) t)
           (λ q. rw (q .0) (union-right before M c (bit-lt M c m e) e)) (reaches-shape G r)
 
       only : null F (after G P D) ≡ false → bit before a ≡ true
-      only n = ⊎-elim (strict-has (low-after P D)) (λ q. true-false (R .null-told (after G P D) (q .1)) n) (reaches-shape G r)
+      only n = ⊎-elim (strict-has (low-after G H P D)) (λ q. true-false (R .null-told (after G P D) (q .1)) n) (reaches-shape G r)
 
   -- what the set holds is reached before the string ends, or the string may be empty and it is of M
   pub with-strict : (P D M a : ℕ) → bit (reachWith F (reachSets G F) (after G P D) M) a ≡ true
@@ -189,7 +186,7 @@ module _ {G : List Rule} {F : Sets} (H : Small G) (R : SetsRight G F) where
       (λ _ e. inl (strict e))
     where
       strict : bit (reachIn F (reachSets G F) (after G P D)) a ≡ true → Strict G (after G P D) a
-      strict = strict-in R (reachSets G F) reached-inside (after G P D) (low-after P D) a
+      strict = strict-in R (reachSets G F) reached-inside (after G P D) (low-after G H P D) a
 
   -- so it is reached from some lookahead of M, if M has any
   pub with-reaches : (P D M a d : ℕ) → bit M d ≡ true → bit (reachWith F (reachSets G F) (after G P D) M) a ≡ true

@@ -1,4 +1,4 @@
--- Grammars whose symbols are numbered below 32, so that sets hold them: 01 has T and N at most 31.
+-- Grammars and books whose symbols are numbered below 32, so that sets hold them: 01 has T and N at most 31.
 -- Assumes nothing.
 use Prim.Native.Nat.{ℕ, zero, suc, _<_, _≤_}
 use mathlib.Core.Path.{_≡_, refl, sym, subst}
@@ -7,7 +7,8 @@ use mathlib.Core.List.{List, [], _∷_, List·Memᴰ as Mem, List·Memᴰ·head 
 use lib.Dec.{ltb}
 use lib.ListN.{length, getD, drop, List·getD-eq-default}
 use borrow.Author.Tests.{ltb-true, ltb-false}
-use Rattle.grammar.specs.Symbol.{Symbol, terminal, nonterminal, Rule, ruleAt, leftOf, rightOf}
+use Rattle.grammar.specs.Symbol.{Symbol, terminal, nonterminal, Rule, ruleAt, leftOf, rightOf, after}
+use Rattle.grammar.specs.Book.{Book, Kernel}
 
 abbrev pub numberOf : Symbol → ℕ
 numberOf (terminal a) = a
@@ -42,3 +43,12 @@ low-right G H P = go (ltb P (length G)) refl
     go : (t : Bool) → ltb P (length G) ≡ t → Low (rightOf G P)
     go true e = H .right-low P (ltb-true P (length G) e)
     go false e = subst (λ (R : Rule). Low (R .right)) (sym (past-last G P (ltb-false P (length G) e))) tt
+
+pub low-after : (G : List Rule) → Small G → (P D : ℕ) → Low (after G P D)
+low-after G H P D = low-drop D (rightOf G P) (low-right G H P)
+
+pub record SmallBook (b : Book) : Type 0 where
+  pub small-rules : Small (b .rules)
+  pub low-lookaheads : (k : Kernel) → Mem k (b .kernels) → (a : ℕ) → Mem a (k .lookaheads) → a < 32
+  -- "one or more lookaheads"
+  pub some-lookahead : (k : Kernel) → Mem k (b .kernels) → (a : ℕ) × Mem a (k .lookaheads)

@@ -20,8 +20,8 @@ use Rattle.grammar.specs.CaseBooks.{unlines, change, without, S, left-re
 unfoldable pub answer : List ℕ → List ℕ → Evaluation
 answer text tokens =
     elim (parseBook text) [
-      none ↦ turnedBack 2 PAGE-WORDS
-    | some b ↦ elim (bookRefusal b) [ zero ↦ evaluateBook b tokens PAGE-WORDS | suc n ↦ turnedBack (suc n) PAGE-WORDS ]
+      | none ↦ turnedBack 2 PAGE-WORDS
+      | some b ↦ elim (bookRefusal b) [ zero ↦ evaluateBook b tokens PAGE-WORDS | suc n ↦ turnedBack (suc n) PAGE-WORDS ]
     ]
 
 pub record Case : Type 0 where
@@ -70,28 +70,28 @@ starred =
     ∷ case S [] (refusing 15)
     ∷ case S message (showing S-rows)
     ∷ case (change 9 "(inhdef 3 1 i0 (own i0))" left-recursive) message
-        (showing
-        (token-row 1 0 100
-        ∷ node-row 2 1 (100 ∷ []) (100 ∷ [])
-        ∷ token-row 2 1 5
-        ∷ node-row 3 1 (100 ∷ []) (100 ∷ [])
-        ∷ token-row 2 2 7
-        ∷ node-row 3 1 (100 ∷ []) (100 ∷ [])
-        ∷ node-row 1 0 [] (100 ∷ [])
-        ∷ []))
+    (showing
+    (token-row 1 0 100
+    ∷ node-row 2 1 (100 ∷ []) (100 ∷ [])
+    ∷ token-row 2 1 5
+    ∷ node-row 3 1 (100 ∷ []) (100 ∷ [])
+    ∷ token-row 2 2 7
+    ∷ node-row 3 1 (100 ∷ []) (100 ∷ [])
+    ∷ node-row 1 0 [] (100 ∷ [])
+    ∷ []))
     ∷ case binary (2 ∷ 0 ∷ 1 ∷ 0 ∷ 2 ∷ 0 ∷ [])
-        (showing
-        (token-row 2 0 0
-        ∷ node-row 5 0 [] (1 ∷ [])
-        ∷ node-row 3 0 [] (1 ∷ 1 ∷ [])
-        ∷ token-row 1 1 0
-        ∷ node-row 4 1 [] (0 ∷ [])
-        ∷ node-row 2 0 [] (2 ∷ 2 ∷ [])
-        ∷ token-row 2 2 0
-        ∷ node-row 5 2 [] (1 ∷ [])
-        ∷ node-row 2 0 [] (5 ∷ 3 ∷ [])
-        ∷ node-row 1 0 [] (5 ∷ 3 ∷ [])
-        ∷ []))
+    (showing
+    (token-row 2 0 0
+    ∷ node-row 5 0 [] (1 ∷ [])
+    ∷ node-row 3 0 [] (1 ∷ 1 ∷ [])
+    ∷ token-row 1 1 0
+    ∷ node-row 4 1 [] (0 ∷ [])
+    ∷ node-row 2 0 [] (2 ∷ 2 ∷ [])
+    ∷ token-row 2 2 0
+    ∷ node-row 5 2 [] (1 ∷ [])
+    ∷ node-row 2 0 [] (5 ∷ 3 ∷ [])
+    ∷ node-row 1 0 [] (5 ∷ 3 ∷ [])
+    ∷ []))
     ∷ []
 
 -- 01, "Plausible slips": whole states instead of partial ones, formulas compared without offsets (and not where offsets are equal), inherited values
@@ -99,21 +99,21 @@ starred =
 unfoldable pub slips : List Case
 slips =
     case two-lookaheads (2 ∷ 9 ∷ [])
-        (showing (node-row 3 0 (2 ∷ []) (2 ∷ []) ∷ token-row 2 0 9 ∷ node-row 2 0 [] (2 ∷ []) ∷ []))
+    (showing (node-row 3 0 (2 ∷ []) (2 ∷ []) ∷ token-row 2 0 9 ∷ node-row 2 0 [] (2 ∷ []) ∷ []))
     ∷ case two-offsets [] (refusing 10)
     ∷ case (change 7 "(inhdef 1 3 i0 (val 2))" two-offsets) [] (refusing 15)
     ∷ case set-once message
-        (showing
-        (token-row 1 0 100
-        ∷ token-row 2 1 5
-        ∷ token-row 2 2 7
-        ∷ node-row 2 2 (105 ∷ []) (112 ∷ [])
-        ∷ node-row 3 1 (100 ∷ []) (112 ∷ [])
-        ∷ node-row 1 0 [] (112 ∷ [])
-        ∷ []))
+    (showing
+    (token-row 1 0 100
+    ∷ token-row 2 1 5
+    ∷ token-row 2 2 7
+    ∷ node-row 2 2 (105 ∷ []) (112 ∷ [])
+    ∷ node-row 3 1 (100 ∷ []) (112 ∷ [])
+    ∷ node-row 1 0 [] (112 ∷ [])
+    ∷ []))
     ∷ case (change 17 "(kernel 4 1 2 t0 t1)" S) message (showing S-rows)
     ∷ case dead-end (1 ∷ 7 ∷ 2 ∷ 9 ∷ [])
-        (showing (token-row 1 0 7 ∷ node-row 3 0 (2 ∷ []) (2 ∷ []) ∷ token-row 2 1 9 ∷ node-row 2 0 [] [] ∷ []))
+    (showing (token-row 1 0 7 ∷ node-row 3 0 (2 ∷ []) (2 ∷ []) ∷ token-row 2 1 9 ∷ node-row 2 0 [] [] ∷ []))
     ∷ []
 
 unfoldable pub table : List Case

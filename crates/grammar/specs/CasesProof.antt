@@ -24,6 +24,7 @@ use Rattle.grammar.specs.ConditionTests.{opens as opens-conditions}
 use Rattle.grammar.specs.Formula.{opens as opens-formula}
 use Rattle.grammar.specs.States.{opens as opens-states}
 use Rattle.grammar.specs.Fixpoint.{sameSets, opens as opens-fixpoint}
+use Rattle.grammar.specs.LeastLaws.{sameSets-still}
 use Rattle.grammar.specs.FirstSets.{opens as opens-first}
 use Rattle.grammar.specs.ReachSets.{opens as opens-reach}
 use Rattle.grammar.specs.ClosureSets.{opens as opens-closure}
@@ -57,7 +58,7 @@ same-sound x y e = go (eqb (x .number) (y .number)) (eqb (x .count) (y .count)) 
     go true true p q h =
         let n : x .number ≡ y .number = eqb-true (x .number) (y .number) p in
         let c : x .count ≡ y .count = eqb-true (x .count) (y .count) q in
-        let r : x .rows ≡ y .rows = sameSets-sound (x .rows) (y .rows) h in
+        let r : x .rows ≡ y .rows = sameSets-still (x .rows) (y .rows) h in
         λ i. record { number = n i; rows = r i; count = c i }
     go true false p q h = absurd (false≢true h)
     go false t p q h = absurd (false≢true h)

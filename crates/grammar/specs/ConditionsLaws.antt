@@ -15,11 +15,44 @@ use Rattle.grammar.specs.Symbol.{Symbol, terminal, nonterminal, Rule, ru
 use Rattle.grammar.specs.Term.{number, nodes, Leaves, in-number}
 use Rattle.grammar.specs.LeavesLaws.{leaves-map, leaves-join}
 use Rattle.grammar.specs.Book.{
-  Place, own, at, val, InheritedDefinition, SynthesizedDefinition, Book, ownerAt, inheritedOwner, synthesizedOwner, inheritedExpr, synthesizedExpr
+  Place,
+  own,
+  at,
+  val,
+  InheritedDefinition,
+  SynthesizedDefinition,
+  Book,
+  ownerAt,
+  inheritedOwner,
+  synthesizedOwner,
+  inheritedExpr,
+  synthesizedExpr,
 }
 use Rattle.grammar.specs.Conditions.{
-  Before, InheritedOf, SynthesizedOf, WithinLimits, IsNonterminal, IsTerminal, IsInherited, IsSynthesized, IsRule, IsPosition, RightSymbol, DeclaredPlace, DeclaredKernel, DeclaredGo, IsState, GoSymbol,
-  Declared, NonterminalAt, TerminalAt, OwnedPlace, Owned, DefinesInherited, DefinesSynthesized, Defined
+  Before,
+  InheritedOf,
+  SynthesizedOf,
+  WithinLimits,
+  IsNonterminal,
+  IsTerminal,
+  IsInherited,
+  IsSynthesized,
+  IsRule,
+  IsPosition,
+  RightSymbol,
+  DeclaredPlace,
+  DeclaredKernel,
+  DeclaredGo,
+  IsState,
+  GoSymbol,
+  Declared,
+  NonterminalAt,
+  TerminalAt,
+  OwnedPlace,
+  Owned,
+  DefinesInherited,
+  DefinesSynthesized,
+  Defined,
 }
 use Rattle.grammar.specs.First.{First, past, here, expand}
 use Rattle.grammar.specs.Items.{KernelItem, kernel-item, Derives, derives, Closure, kernel, close}
@@ -153,7 +186,7 @@ module _ {b : Book} (h : Declared b) (o : Owned b) where
   pub inherited-reads : (P J K : ℕ) → Leaves (Reads b P J) (inheritedExpr b P J K)
   inherited-reads P J K = inherited-by (Leaves (Reads b P J)) P J K (b .inheritedDefinitions) (λ none. in-number) λ d m (p, j, k).
       rw (← p, ← j) (leaves-map (reads-before b (d .rule) (d .position))
-        (leaves-join (leaves-join (h .inherited-declared d m .leaves-there) (o .inherited-owned d m .leaves-owned)) (o .inherited-owned d m .leaves-before)))
+      (leaves-join (leaves-join (h .inherited-declared d m .leaves-there) (o .inherited-owned d m .leaves-owned)) (o .inherited-owned d m .leaves-before)))
 
   pub synthesized-reads : (P K : ℕ) → Leaves (Reads b P (suc (length (rightOf (b .rules) P)))) (synthesizedExpr b P K)
   synthesized-reads P K =
@@ -188,7 +221,7 @@ module _ {b : Book} (h : Declared b) where
         state-there = rw s at (c .state-there);
         rule-there = rw p at (c .rule-there);
         dot-there = rw (d, p) at (c .dot-there);
-        lookahead-there = c .lookaheads-there a l
+        lookahead-there = c .lookaheads-there a l;
       }
 
   -- a terminal of FIRST(βb) is b or a terminal of the book, if β holds right symbols only
@@ -209,5 +242,5 @@ module _ {b : Book} (h : Declared b) where
         state-there = i .state-there;
         rule-there = q;
         dot-there = zero-le;
-        lookahead-there = first-declared f (λ X m. symbols-declared h P X (drop-in D (rightOf (b .rules) P) e (in-tail m))) (i .lookahead-there)
+        lookahead-there = first-declared f (λ X m. symbols-declared h P X (drop-in D (rightOf (b .rules) P) e (in-tail m))) (i .lookahead-there);
       }

@@ -58,12 +58,12 @@ tablesOf b = tablesFrom b (compiled b)
 unfoldable pub storedBook : List ℕ → Option Book
 storedBook words =
     elim (eqb (length words) BOOK-WORDS && sameSets words (pack BOOK-WORDS (unpack words))) [
-      false ↦ none
-    | true ↦
-      elim (parseBook (unpack words)) [
-        none ↦ none
-      | some b ↦ elim (bookRefusal b) [ zero ↦ some b | suc n ↦ none ]
-      ]
+      | false ↦ none
+      | true ↦
+          elim (parseBook (unpack words)) [
+            | none ↦ none
+            | some b ↦ elim (bookRefusal b) [ zero ↦ some b | suc n ↦ none ]
+          ]
     ]
 
 -- (kind, value) pairs; none where a number is left over
@@ -92,16 +92,16 @@ evaluationOf (accepted rs) lent = record { number = 0; rows = page rs; count = l
 unfoldable pub evaluateTokens : Book → List Token → ℕ → Evaluation
 evaluateTokens b ks lent =
     elim (leb (length ks) MAX-TOKENS) [
-      false ↦ turnedBack 13 lent
-    | true ↦
-      elim (kindsIn (b .terminals) ks) [ false ↦ turnedBack 14 lent | true ↦ evaluationOf (evaluate b (tablesOf b) ks) lent ]
+      | false ↦ turnedBack 13 lent
+      | true ↦
+          elim (kindsIn (b .terminals) ks) [ false ↦ turnedBack 14 lent | true ↦ evaluationOf (evaluate b (tablesOf b) ks) lent ]
     ]
 
 unfoldable pub evaluateBook : Book → List ℕ → ℕ → Evaluation
 evaluateBook b tokens lent =
     elim (eqb lent PAGE-WORDS) [
-      false ↦ turnedBack 12 lent
-    | true ↦ elim (tokensOf tokens) [ none ↦ turnedBack 13 lent | some ks ↦ evaluateTokens b ks lent ]
+      | false ↦ turnedBack 12 lent
+      | true ↦ elim (tokensOf tokens) [ none ↦ turnedBack 13 lent | some ks ↦ evaluateTokens b ks lent ]
     ]
 
 unfoldable pub evaluateWords : List ℕ → List ℕ → ℕ → Evaluation

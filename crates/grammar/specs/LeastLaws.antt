@@ -135,7 +135,7 @@ module _ (c : Constraint) {n : ℕ} {sets : List ℕ} (S : Family n sets) (t : c
 below-suc : (P : ℕ → Type 0) (k i : ℕ) → i < suc k → (i < k → P i) → P k → P i
 below-suc P k i h less last = ⊎-elim (λ e. subst P (sym e) last) less (eq-or-lt-of-le (le-of-suc-le-suc h))
 
-sameSets-still : (a b : List ℕ) → sameSets a b ≡ true → a ≡ b
+pub sameSets-still : (a b : List ℕ) → sameSets a b ≡ true → a ≡ b
 unfolding sameSets
 sameSets-still [] [] e = refl
 sameSets-still [] (y ∷ b) e = true-false refl (sym e)
@@ -146,7 +146,7 @@ sameSets-still (x ∷ a) (y ∷ b) e = go (eqb x y) refl (sameSets-still a b)
     go true q rest = let h : x ≡ y = eqb-true x y q in let r : a ≡ b = rest (rw (q, sameSets) at e) in cc
     go false q rest = true-false refl (sym (rw (q, sameSets) at e))
 
-sameSets-self : (a : List ℕ) → sameSets a a ≡ true
+pub sameSets-self : (a : List ℕ) → sameSets a a ≡ true
 unfolding sameSets
 sameSets-self [] = refl
 sameSets-self (x ∷ a) = rw (eq-eqb x x refl, sameSets) (sameSets-self a)

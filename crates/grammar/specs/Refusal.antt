@@ -55,9 +55,9 @@ pub data Verdict (text : List ℕ) : ℕ → Type 0 where
 unfoldable pub bookRefusal : Book → ℕ
 bookRefusal b =
     elim (withinLimits b) [
-      false ↦ 3
-    | true ↦
-      elim (declared b) [ false ↦ 4 | true ↦ elim (owned b) [ false ↦ 5 | true ↦ elim (defined b) [ false ↦ 6 | true ↦ statesRefusal b ] ] ]
+      | false ↦ 3
+      | true ↦
+          elim (declared b) [ false ↦ 4 | true ↦ elim (owned b) [ false ↦ 5 | true ↦ elim (defined b) [ false ↦ 6 | true ↦ statesRefusal b ] ] ]
     ]
 
 unfoldable pub refusal : List ℕ → ℕ

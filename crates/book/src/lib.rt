@@ -1,0 +1,1 @@
+// Reading a book's text into arrays, and its conditions 2 to 6.

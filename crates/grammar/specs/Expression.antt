@@ -1,0 +1,114 @@
+-- Reading expressions of any depth (01, "Spelling of a book"), by a machine that keeps the operators that wait for operands and gives the
+-- expression's steps in postfix order, one at each closing bracket. Assumes nothing.
+use Prim.Native.Nat.{ℕ, zero, suc}
+use mathlib.Core.Bool.{Bool, true, false}
+use mathlib.Core.List.{List, [], _∷_, _++_}
+use lib.Dec.{eqb}
+use Rattle.text.specs.Class.{open-bracket, close-bracket, space}
+use Rattle.text.specs.Rest.{Rest, lost, found, mark, size}
+use Rattle.text.specs.Numeral.{decimal, letters, value, past, wordOf, keyword}
+use Rattle.grammar.specs.Term.{add, sub, min, max}
+use Rattle.grammar.specs.Book.{Place, own, at, val, Expr}
+use Rattle.grammar.specs.Postfix.{Step, push, load, operate, select, termOf}
+use Rattle.grammar.specs.Reader.{Parsed, parsed, item, after, Reader, pure, _>>=_, _>>_, decimalNumber, naming}
+use Rattle.grammar.specs.Repeat.{repeat}
+
+-- an operator whose bracket is open: the step that closes it, and how many operands follow the one being read
+pub data Waiting : Type 0 where
+  waiting : Step Place → ℕ → Waiting
+
+-- how an expression begins: an operator's bracket, or all of it, one step
+pub data Begun : Type 0 where
+  opened : Waiting → Rest → Begun
+  whole : Step Place → Rest → Begun
+
+abbrev pub either : {A : Type 0} → Bool → A → A → A
+either true x y = x
+either false x y = y
+
+-- the places, after their word and the space
+unfoldable pub ownPlace : Reader (Step Place)
+ownPlace = do
+  keyword (wordOf "i")
+  K ← decimalNumber
+  mark close-bracket
+  pure (load (own K))
+
+unfoldable pub atPlace : Reader (Step Place)
+atPlace = do
+  J ← decimalNumber
+  naming (wordOf "s")
+  K ← decimalNumber
+  mark close-bracket
+  pure (load (at J K))
+
+unfoldable pub valPlace : Reader (Step Place)
+valPlace = do
+  J ← decimalNumber
+  mark close-bracket
+  pure (load (val J))
+
+unfoldable pub wholeOf : Parsed (Step Place) → Begun
+wholeOf p = whole (item p) (after p)
+
+-- a bracket, by its word
+unfoldable pub bracket : ℕ → Rest → Begun
+bracket word o =
+    either (eqb word (wordOf "add")) (opened (waiting (operate add) 1) o)
+    (either (eqb word (wordOf "sub")) (opened (waiting (operate sub) 1) o)
+    (either (eqb word (wordOf "min")) (opened (waiting (operate min) 1) o)
+    (either (eqb word (wordOf "max")) (opened (waiting (operate max) 1) o)
+    (either (eqb word (wordOf "pick")) (opened (waiting select 2) o)
+    (either (eqb word (wordOf "own")) (wholeOf (ownPlace o))
+    (either (eqb word (wordOf "at")) (wholeOf (atPlace o))
+    (either (eqb word (wordOf "val")) (wholeOf (valPlace o))
+    (whole select lost))))))))
+
+unfoldable pub begun : Rest → Begun
+begun o =
+    elim (found (mark open-bracket o)) [
+      | true ↦ bracket (value letters (mark open-bracket o)) (mark space (past letters (mark open-bracket o)))
+      | false ↦ whole (push (value decimal o)) (past decimal o)
+    ]
+
+-- whether an expression is due, what is left, the operators that wait, the steps so far
+pub data Machine : Type 0 where
+  machine : Bool → Rest → List Waiting → List (Step Place) → Machine
+
+unfoldable pub sizeLeft : Machine → ℕ
+sizeLeft (machine due o waits steps) = size o
+
+-- the machine stops where the text is lost and where nothing is due and nothing waits
+unfoldable pub goesOn : Machine → Bool
+goesOn (machine true o waits steps) = found o
+goesOn (machine false o [] steps) = false
+goesOn (machine false o (w ∷ waits) steps) = found o
+
+unfoldable pub begin : Begun → List Waiting → List (Step Place) → Machine
+begin (opened w o) waits steps = machine true o (w ∷ waits) steps
+begin (whole s o) waits steps = machine false o waits (steps ++ (s ∷ []))
+
+unfoldable pub turn : Machine → Machine
+turn (machine true o waits steps) = begin (begun o) waits steps
+turn (machine false o [] steps) = machine false o [] steps
+turn (machine false o (waiting s zero ∷ waits) steps) = machine false (mark close-bracket o) waits (steps ++ (s ∷ []))
+turn (machine false o (waiting s (suc n) ∷ waits) steps) = machine true (mark space o) (waiting s n ∷ waits) steps
+
+unfoldable pub work : Machine → Machine
+work m = repeat goesOn turn sizeLeft m
+
+unfoldable pub outcome : Machine → Parsed (List (Step Place))
+outcome (machine due o waits steps) = parsed steps o
+
+unfoldable pub expressionSteps : Reader (List (Step Place))
+expressionSteps o = outcome (work (machine true o [] []))
+
+unfoldable pub expression : Reader Expr
+expression = do
+  steps ← expressionSteps
+  pure (termOf steps)
+
+-- opens every definition of this module
+unfoldable pub opens : Unit {0}
+unfolding ownPlace atPlace valPlace wholeOf bracket begun sizeLeft goesOn begin turn work outcome expressionSteps expression
+opens = tt

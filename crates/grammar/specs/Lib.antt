@@ -1,4 +1,5 @@
 pub mod Book
+pub mod ConditionCases
 pub mod ConditionTests
 pub mod ConditionTestsLaws
 pub mod Conditions
@@ -7,6 +8,7 @@ pub mod Decides
 pub mod DefinitionLaws
 pub mod First
 pub mod Formula
+pub mod GoLaws
 pub mod Items
 pub mod LeavesLaws
 pub mod Limits

@@ -1,3 +1,4 @@
+pub mod AfterLaws
 pub mod Book
 pub mod ConditionCases
 pub mod ConditionTests

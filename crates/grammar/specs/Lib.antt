@@ -1,4 +1,5 @@
 pub mod Actions
+pub mod AfterLaws
 pub mod Book
 pub mod CaseBooks
 pub mod Cases
@@ -8,6 +9,7 @@ pub mod ClosureLaws
 pub mod ClosureSets
 pub mod Compiled
 pub mod Complete
+pub mod ConditionCases
 pub mod ConditionTests
 pub mod ConditionTestsLaws
 pub mod Conditions
@@ -33,6 +35,7 @@ pub mod Fixpoint
 pub mod FixpointLaws
 pub mod Formula
 pub mod FormulaTable
+pub mod GoLaws
 pub mod Items
 pub mod ItemsRight
 pub mod LeastLaws

@@ -6,45 +6,12 @@ use mathlib.Core.List.{List, [], _∷_}
 use lib.Dec.{leb, ltb, eqb}
 use lib.ListN.{length}
 use Rattle.grammar.specs.Decides.{oneTo, all, any, allBelow, allOneTo, few}
-<<<<<<< HEAD
-use Rattle.grammar.specs.Limits.{
-  MAX-TERMINALS,
-  MAX-NONTERMINALS,
-  MAX-STATES,
-  MAX-INHERITED,
-  MAX-SYNTHESIZED,
-  MAX-OWNED,
-  MAX-RULES,
-  MAX-RIGHT,
-  MAX-DEFINITIONS,
-  MAX-NODES,
-  MAX-KERNELS,
-  MAX-STATE-KERNELS,
-  MAX-GOES,
-}
-use Rattle.grammar.specs.Symbol.{Symbol, terminal, nonterminal, leftOf, rightOf, symbolAt}
-use Rattle.grammar.specs.Term.{Term, number, leaf, both, pick, nodes}
-use Rattle.grammar.specs.Book.{
-  Place,
-  own,
-  at,
-  val,
-  InheritedDefinition,
-  SynthesizedDefinition,
-  Kernel,
-  Go,
-  Book,
-  inheritedOwner,
-  synthesizedOwner,
-}
-=======
 use Rattle.grammar.specs.Limits.{MAX-TERMINALS, MAX-NONTERMINALS, MAX-STATES, MAX-INHERITED, MAX-SYNTHESIZED, MAX-OWNED, MAX-RULES, MAX-RIGHT}
 use Rattle.grammar.specs.Limits.{MAX-DEFINITIONS, MAX-NODES, MAX-KERNELS, MAX-STATE-KERNELS, MAX-GOES}
 use Rattle.grammar.specs.Symbol.{Symbol, terminal, nonterminal, leftOf, rightOf, symbolAt}
 use Rattle.grammar.specs.Term.{Term, number, leaf, both, pick, nodes}
 use Rattle.grammar.specs.Book.{Place, own, at, val, InheritedDefinition, SynthesizedDefinition, Kernel, Go, Book}
 use Rattle.grammar.specs.Book.{inheritedOwner, synthesizedOwner}
->>>>>>> w-conditions
 use Rattle.grammar.specs.Conditions.{kernelStates}
 
 -- the test holds of every leaf
@@ -94,19 +61,7 @@ module _ (b : Book) where
   statesFit = leb (length (b .kernels)) MAX-KERNELS && few MAX-STATE-KERNELS (kernelStates b) && leb (length (b .goes)) MAX-GOES
 
   unfoldable pub withinLimits : Bool
-<<<<<<< HEAD
-  withinLimits =
-      (oneTo MAX-TERMINALS (b .terminals) && oneTo MAX-NONTERMINALS (b .nonterminals) && oneTo MAX-STATES (b .states))
-      && (leb (length (b .inheritedOwners)) MAX-INHERITED && leb (length (b .synthesizedOwners)) MAX-SYNTHESIZED
-      && few MAX-OWNED (b .inheritedOwners) && few MAX-OWNED (b .synthesizedOwners))
-      && (oneTo MAX-RULES (length (b .rules)) && all (λ r. leb (length (r .right)) MAX-RIGHT) (b .rules))
-      && (leb (length (b .inheritedDefinitions) + length (b .synthesizedDefinitions)) MAX-DEFINITIONS
-      && all (λ d. leb (nodes (d .expression)) MAX-NODES) (b .inheritedDefinitions)
-      && all (λ d. leb (nodes (d .expression)) MAX-NODES) (b .synthesizedDefinitions))
-      && (leb (length (b .kernels)) MAX-KERNELS && few MAX-STATE-KERNELS (kernelStates b) && leb (length (b .goes)) MAX-GOES)
-=======
   withinLimits = sizesFit && attributesFit && rulesFit && definitionsFit && statesFit
->>>>>>> w-conditions
 
   -- 4, each line
   unfoldable pub rightSymbol : Symbol → Bool
@@ -150,15 +105,7 @@ module _ (b : Book) where
       && all (λ r. all rightSymbol (r .right)) (b .rules)
 
   unfoldable pub declared : Bool
-<<<<<<< HEAD
-  declared =
-      (all (oneTo (b .nonterminals)) (b .inheritedOwners) && all (oneTo (b .nonterminals)) (b .synthesizedOwners))
-      && (eqb (leftOf (b .rules) 0) 0 && oneNonterminal (rightOf (b .rules) 0)
-      && allBelow (length (b .rules)) (λ P. elim (ltb 0 P) [ true ↦ oneTo (b .nonterminals) (leftOf (b .rules) P) | false ↦ true ])
-      && all (λ r. all rightSymbol (r .right)) (b .rules))
-=======
   declared = ownersDeclared && rulesDeclared
->>>>>>> w-conditions
       && (all declaredInherited (b .inheritedDefinitions) && all declaredSynthesized (b .synthesizedDefinitions))
       && (all declaredKernel (b .kernels) && all declaredGo (b .goes))
 
@@ -200,19 +147,6 @@ module _ (b : Book) where
 
   -- 6
   unfoldable pub defined : Bool
-<<<<<<< HEAD
-  defined =
-      allBelow (length (b .rules)) (λ P. allOneTo (length (rightOf (b .rules) P)) λ J. allBelow (length (b .inheritedOwners)) λ K.
-      elim (nonterminalAt P J (inheritedOwner b K)) [ true ↦ definesInherited P J K | false ↦ true ])
-      && allBelow (length (b .rules)) (λ P. allBelow (length (b .synthesizedOwners)) λ K.
-      elim (eqb (synthesizedOwner b K) (leftOf (b .rules) P)) [ true ↦ definesSynthesized P K | false ↦ true ])
-
--- opens every definition of this module
-unfoldable pub opens : Unit {0}
-unfolding allLeaves isNonterminal isTerminal oneNonterminal before withinLimits rightSymbol goSymbol isPosition declaredPlace declaredInherited
-    declaredSynthesized declaredKernel declaredGo declared nonterminalAt ownedPlace ownedInherited ownedSynthesized owned definesInherited
-    definesSynthesized defined
-=======
   defined = allBelow (length (b .rules)) λ P. allOneTo (length (rightOf (b .rules) P)) (rightDefined P) && leftDefined P
 
 -- opens every definition of this module
@@ -220,5 +154,4 @@ unfoldable pub opens : Unit {0}
 unfolding allLeaves isNonterminal isTerminal oneNonterminal before sizesFit attributesFit rulesFit definitionsFit statesFit withinLimits rightSymbol
     goSymbol isPosition declaredPlace declaredInherited declaredSynthesized declaredKernel declaredGo ownersDeclared rulesDeclared declared
     nonterminalAt ownedPlace ownedInherited ownedSynthesized owned definesInherited definesSynthesized rightDefined leftDefined defined
->>>>>>> w-conditions
 opens = tt

@@ -5,108 +5,6 @@ use mathlib.Core.Path.{_≡_, refl, ap}
 use mathlib.Core.Bool.{Bool}
 use mathlib.Core.List.{List, [], _∷_}
 use lib.ListN.{length}
-<<<<<<< HEAD
-use Rattle.grammar.specs.Decides.{
-  Decides,
-  true-decides,
-  false-decides,
-  equivalent,
-  le-decides,
-  lt-decides,
-  eq-decides,
-  then-decides,
-  and-decides,
-  and3-decides,
-  and4-decides,
-  and5-decides,
-  if-decides,
-  oneTo-decides,
-  all-decides,
-  any-decides,
-  allBelow-decides,
-  allOneTo-decides,
-  few-decides,
-}
-use Rattle.grammar.specs.Limits.{
-  MAX-TERMINALS,
-  MAX-NONTERMINALS,
-  MAX-STATES,
-  MAX-INHERITED,
-  MAX-SYNTHESIZED,
-  MAX-OWNED,
-  MAX-RULES,
-  MAX-RIGHT,
-  MAX-DEFINITIONS,
-  MAX-NODES,
-  MAX-KERNELS,
-  MAX-STATE-KERNELS,
-  MAX-GOES,
-}
-use Rattle.grammar.specs.Symbol.{Symbol, terminal, nonterminal, leftOf, rightOf, symbolAt}
-use Rattle.grammar.specs.Term.{Term, number, leaf, both, pick, nodes, Leaves, in-number, in-leaf, in-both, in-pick}
-use Rattle.grammar.specs.LeavesLaws.{of-leaf, of-both, of-pick}
-use Rattle.grammar.specs.Book.{
-  Place,
-  own,
-  at,
-  val,
-  InheritedDefinition,
-  SynthesizedDefinition,
-  Kernel,
-  Go,
-  Book,
-  inheritedOwner,
-  synthesizedOwner,
-}
-use Rattle.grammar.specs.Conditions.{
-  kernelStates,
-  Before,
-  WithinLimits,
-  RightSymbol,
-  GoSymbol,
-  IsPosition,
-  DeclaredPlace,
-  DeclaredInherited,
-  DeclaredSynthesized,
-  DeclaredKernel,
-  DeclaredGo,
-  Declared,
-  NonterminalAt,
-  TerminalAt,
-  OwnedPlace,
-  OwnedInherited,
-  OwnedSynthesized,
-  Owned,
-  DefinesInherited,
-  DefinesSynthesized,
-  Defined,
-}
-use Rattle.grammar.specs.ConditionTests.{
-  allLeaves,
-  isNonterminal,
-  isTerminal,
-  oneNonterminal,
-  before,
-  withinLimits,
-  rightSymbol,
-  goSymbol,
-  isPosition,
-  declaredPlace,
-  declaredInherited,
-  declaredSynthesized,
-  declaredKernel,
-  declaredGo,
-  declared,
-  nonterminalAt,
-  ownedPlace,
-  ownedInherited,
-  ownedSynthesized,
-  owned,
-  definesInherited,
-  definesSynthesized,
-  defined,
-}
-=======
 use Rattle.grammar.specs.Decides.{Decides, true-decides, false-decides, equivalent, le-decides, lt-decides, eq-decides, then-decides}
 use Rattle.grammar.specs.Decides.{and-decides, and3-decides, and4-decides, and5-decides, if-decides, oneTo-decides, all-decides, any-decides}
 use Rattle.grammar.specs.Decides.{allBelow-decides, allOneTo-decides, few-decides}
@@ -125,7 +23,6 @@ use Rattle.grammar.specs.ConditionTests.{definitionsFit, statesFit, with
 use Rattle.grammar.specs.ConditionTests.{declaredInherited, declaredSynthesized, declaredKernel, declaredGo, ownersDeclared, rulesDeclared, declared}
 use Rattle.grammar.specs.ConditionTests.{nonterminalAt, ownedPlace, ownedInherited, ownedSynthesized, owned, definesInherited, definesSynthesized}
 use Rattle.grammar.specs.ConditionTests.{rightDefined, leftDefined, defined}
->>>>>>> w-conditions
 
 pub allLeaves-decides : {A : Type 0} {f : A → Bool} {R : A → Type 0} → ((a : A) → Decides (f a) (R a)) → (e : Term A) → Decides (allLeaves f e) (Leaves R e)
 unfolding allLeaves
@@ -204,23 +101,11 @@ module _ (b : Book) where
         (w .kernels-limit, w .kernels-each, w .goes-limit),
       ))
       (and5-decides
-<<<<<<< HEAD
-      (and3-decides (oneTo-decides MAX-TERMINALS (b .terminals)) (oneTo-decides MAX-NONTERMINALS (b .nonterminals)) (oneTo-decides MAX-STATES (b .states)))
-      (and4-decides (le-decides (length (b .inheritedOwners)) MAX-INHERITED) (le-decides (length (b .synthesizedOwners)) MAX-SYNTHESIZED)
-      (few-decides MAX-OWNED (b .inheritedOwners)) (few-decides MAX-OWNED (b .synthesizedOwners)))
-      (and-decides (oneTo-decides MAX-RULES (length (b .rules))) (all-decides (λ r. le-decides (length (r .right)) MAX-RIGHT) (b .rules)))
-      (and3-decides (le-decides _ MAX-DEFINITIONS)
-      (all-decides (λ d. le-decides (nodes (d .expression)) MAX-NODES) (b .inheritedDefinitions))
-      (all-decides (λ d. le-decides (nodes (d .expression)) MAX-NODES) (b .synthesizedDefinitions)))
-      (and3-decides (le-decides (length (b .kernels)) MAX-KERNELS) (few-decides MAX-STATE-KERNELS (kernelStates b))
-      (le-decides (length (b .goes)) MAX-GOES)))
-=======
       (and3-decides terminals nonterminals states)
       (and4-decides inherited synthesized inherited-each synthesized-each)
       (and-decides rules right)
       (and3-decides definitions inherited-nodes synthesized-nodes)
       (and3-decides kernels kernels-each goes))
->>>>>>> w-conditions
 
   rightSymbol-decides : (X : Symbol) → Decides (rightSymbol b X) (RightSymbol b X)
   unfolding rightSymbol
@@ -250,13 +135,7 @@ module _ (b : Book) where
       let attribute = lt-decides (d .attribute) (length (b .inheritedOwners)) in
       let leaves = allLeaves-decides (declaredPlace-decides (d .rule)) (d .expression) in
       equivalent (λ (r, p, a, l). record { rule-there = r; position-there = p; attribute-there = a; leaves-there = l })
-<<<<<<< HEAD
-      (λ h. (h .rule-there, h .position-there, h .attribute-there, h .leaves-there))
-      (and4-decides (lt-decides (d .rule) (length (b .rules))) (isPosition-decides (d .rule) (d .position))
-      (lt-decides (d .attribute) (length (b .inheritedOwners))) (allLeaves-decides (declaredPlace-decides (d .rule)) (d .expression)))
-=======
       (λ h. (h .rule-there, h .position-there, h .attribute-there, h .leaves-there)) (and4-decides rule position attribute leaves)
->>>>>>> w-conditions
 
   declaredSynthesized-decides : (d : SynthesizedDefinition) → Decides (declaredSynthesized b d) (DeclaredSynthesized b d)
   unfolding declaredSynthesized
@@ -265,13 +144,7 @@ module _ (b : Book) where
       let attribute = lt-decides (d .attribute) (length (b .synthesizedOwners)) in
       let leaves = allLeaves-decides (declaredPlace-decides (d .rule)) (d .expression) in
       equivalent (λ (r, a, l). record { rule-there = r; attribute-there = a; leaves-there = l })
-<<<<<<< HEAD
-      (λ h. (h .rule-there, h .attribute-there, h .leaves-there))
-      (and3-decides (lt-decides (d .rule) (length (b .rules))) (lt-decides (d .attribute) (length (b .synthesizedOwners)))
-      (allLeaves-decides (declaredPlace-decides (d .rule)) (d .expression)))
-=======
       (λ h. (h .rule-there, h .attribute-there, h .leaves-there)) (and3-decides rule attribute leaves)
->>>>>>> w-conditions
 
   declaredKernel-decides : (k : Kernel) → Decides (declaredKernel b k) (DeclaredKernel b k)
   unfolding declaredKernel
@@ -281,13 +154,7 @@ module _ (b : Book) where
       let dot = le-decides (k .dot) (length (rightOf (b .rules) (k .rule))) in
       let lookaheads = all-decides (λ t. le-decides t (b .terminals)) (k .lookaheads) in
       equivalent (λ (s, r, d, l). record { state-there = s; rule-there = r; dot-there = d; lookaheads-there = l })
-<<<<<<< HEAD
-      (λ h. (h .state-there, h .rule-there, h .dot-there, h .lookaheads-there))
-      (and4-decides (lt-decides (k .state) (b .states)) (lt-decides (k .rule) (length (b .rules)))
-      (le-decides (k .dot) (length (rightOf (b .rules) (k .rule)))) (all-decides (λ t. le-decides t (b .terminals)) (k .lookaheads)))
-=======
       (λ h. (h .state-there, h .rule-there, h .dot-there, h .lookaheads-there)) (and4-decides state rule dot lookaheads)
->>>>>>> w-conditions
 
   declaredGo-decides : (g : Go) → Decides (declaredGo b g) (DeclaredGo b g)
   unfolding declaredGo
@@ -329,21 +196,10 @@ module _ (b : Book) where
         (h .kernels-declared, h .goes-declared),
       ))
       (and4-decides
-<<<<<<< HEAD
-      (and-decides (all-decides (oneTo-decides (b .nonterminals)) (b .inheritedOwners))
-      (all-decides (oneTo-decides (b .nonterminals)) (b .synthesizedOwners)))
-      (and4-decides (eq-decides (leftOf (b .rules) 0) 0) (oneNonterminal-decides (rightOf (b .rules) 0))
-      (allBelow-decides (λ P. if-decides (lt-decides 0 P) (oneTo-decides (b .nonterminals) (leftOf (b .rules) P))) (length (b .rules)))
-      (all-decides (λ r. all-decides rightSymbol-decides (r .right)) (b .rules)))
-      (and-decides (all-decides declaredInherited-decides (b .inheritedDefinitions))
-      (all-decides declaredSynthesized-decides (b .synthesizedDefinitions)))
-      (and-decides (all-decides declaredKernel-decides (b .kernels)) (all-decides declaredGo-decides (b .goes))))
-=======
       (and-decides inherited-owners synthesized-owners)
       (and4-decides start-left start-right left right)
       (and-decides inherited synthesized)
       (and-decides kernels goes))
->>>>>>> w-conditions
 
   nonterminalAt-decides : (P J A : ℕ) → Decides (nonterminalAt b P J A) (NonterminalAt b P J A)
   unfolding nonterminalAt
@@ -362,26 +218,14 @@ module _ (b : Book) where
       let leaves = allLeaves-decides (ownedPlace-decides (d .rule)) (d .expression) in
       let left = allLeaves-decides (before-decides (d .position)) (d .expression) in
       equivalent (λ (t, l, f). record { target-owns = t; leaves-owned = l; leaves-before = f })
-<<<<<<< HEAD
-      (λ h. (h .target-owns, h .leaves-owned, h .leaves-before))
-      (and3-decides (nonterminalAt-decides (d .rule) (d .position) (inheritedOwner b (d .attribute)))
-      (allLeaves-decides (ownedPlace-decides (d .rule)) (d .expression)) (allLeaves-decides (before-decides (d .position)) (d .expression)))
-=======
       (λ h. (h .target-owns, h .leaves-owned, h .leaves-before)) (and3-decides target leaves left)
->>>>>>> w-conditions
 
   ownedSynthesized-decides : (d : SynthesizedDefinition) → Decides (ownedSynthesized b d) (OwnedSynthesized b d)
   unfolding ownedSynthesized
   ownedSynthesized-decides d =
-<<<<<<< HEAD
-      equivalent (λ (t, l). record { left-owns = t; leaves-owned = l }) (λ h. (h .left-owns, h .leaves-owned))
-      (and-decides (eq-decides (synthesizedOwner b (d .attribute)) (leftOf (b .rules) (d .rule)))
-      (allLeaves-decides (ownedPlace-decides (d .rule)) (d .expression)))
-=======
       let left = eq-decides (synthesizedOwner b (d .attribute)) (leftOf (b .rules) (d .rule)) in
       let leaves = allLeaves-decides (ownedPlace-decides (d .rule)) (d .expression) in
       equivalent (λ (t, l). record { left-owns = t; leaves-owned = l }) (λ h. (h .left-owns, h .leaves-owned)) (and-decides left leaves)
->>>>>>> w-conditions
 
   pub owned-decides : Decides (owned b) (Owned b)
   unfolding owned
@@ -415,19 +259,7 @@ module _ (b : Book) where
   unfolding defined
   defined-decides =
       equivalent
-<<<<<<< HEAD
-      (λ (i, s). record { inherited-defined = λ P J K p j k. i P p J j K k; synthesized-defined = λ P K p k. s P p K k })
-      (λ h. (λ P p J j K k. h .inherited-defined P J K p j k, λ P p K k. h .synthesized-defined P K p k))
-      (and-decides
-      (allBelow-decides (λ P. allOneTo-decides (λ J. allBelow-decides
-      (λ K. if-decides (nonterminalAt-decides P J (inheritedOwner b K)) (definesInherited-decides P J K)) (length (b .inheritedOwners)))
-      (length (rightOf (b .rules) P))) (length (b .rules)))
-      (allBelow-decides (λ P. allBelow-decides
-      (λ K. if-decides (eq-decides (synthesizedOwner b K) (leftOf (b .rules) P)) (definesSynthesized-decides P K)) (length (b .synthesizedOwners)))
-      (length (b .rules))))
-=======
       (λ f. record { inherited-defined = λ P J K p j k. f P p .0 J j K k; synthesized-defined = λ P K p k. f P p .1 K k })
       (λ h P p. (λ J j K k. h .inherited-defined P J K p j k, λ K k. h .synthesized-defined P K p k))
       (allBelow-decides (λ P. and-decides (allOneTo-decides (rightDefined-decides P) (length (rightOf (b .rules) P))) (leftDefined-decides P))
       (length (b .rules)))
->>>>>>> w-conditions

@@ -6,45 +6,12 @@ use mathlib.Core.Path.{_≡_}
 use mathlib.Core.List.{List, [], _∷_, map, List·Memᴰ as Mem}
 use lib.ListN.{length}
 use Rattle.grammar.specs.Decides.{OneTo, count}
-<<<<<<< HEAD
-use Rattle.grammar.specs.Limits.{
-  MAX-TERMINALS,
-  MAX-NONTERMINALS,
-  MAX-STATES,
-  MAX-INHERITED,
-  MAX-SYNTHESIZED,
-  MAX-OWNED,
-  MAX-RULES,
-  MAX-RIGHT,
-  MAX-DEFINITIONS,
-  MAX-NODES,
-  MAX-KERNELS,
-  MAX-STATE-KERNELS,
-  MAX-GOES,
-}
-use Rattle.grammar.specs.Symbol.{Symbol, terminal, nonterminal, Rule, leftOf, rightOf, symbolAt}
-use Rattle.grammar.specs.Term.{nodes, Leaves}
-use Rattle.grammar.specs.Book.{
-  Place,
-  own,
-  at,
-  val,
-  InheritedDefinition,
-  SynthesizedDefinition,
-  Kernel,
-  Go,
-  Book,
-  inheritedOwner,
-  synthesizedOwner,
-}
-=======
 use Rattle.grammar.specs.Limits.{MAX-TERMINALS, MAX-NONTERMINALS, MAX-STATES, MAX-INHERITED, MAX-SYNTHESIZED, MAX-OWNED, MAX-RULES, MAX-RIGHT}
 use Rattle.grammar.specs.Limits.{MAX-DEFINITIONS, MAX-NODES, MAX-KERNELS, MAX-STATE-KERNELS, MAX-GOES}
 use Rattle.grammar.specs.Symbol.{Symbol, terminal, nonterminal, Rule, leftOf, rightOf, symbolAt}
 use Rattle.grammar.specs.Term.{nodes, Leaves}
 use Rattle.grammar.specs.Book.{Place, own, at, val, InheritedDefinition, SynthesizedDefinition, Kernel, Go, Book, inheritedOwner}
 use Rattle.grammar.specs.Book.{synthesizedOwner}
->>>>>>> w-conditions
 
 -- the states of the kernel lines, in order
 abbrev pub kernelStates : Book → List ℕ

@@ -10,50 +10,7 @@ use Rattle.grammar.specs.Limits.{MAX-RIGHT, MAX-NODES}
 use Rattle.grammar.specs.Symbol.{Symbol, terminal, nonterminal, ruleAt, leftOf, rightOf, after, firstSymbol, goal}
 use Rattle.grammar.specs.Term.{nodes, Leaves, in-number}
 use Rattle.grammar.specs.LeavesLaws.{leaves-map, leaves-join}
-<<<<<<< HEAD
-use Rattle.grammar.specs.Book.{
-  Place,
-  own,
-  at,
-  val,
-  InheritedDefinition,
-  SynthesizedDefinition,
-  Book,
-  ownerAt,
-  inheritedOwner,
-  synthesizedOwner,
-  inheritedExpr,
-  synthesizedExpr,
-}
-use Rattle.grammar.specs.Conditions.{
-  Before,
-  InheritedOf,
-  SynthesizedOf,
-  WithinLimits,
-  IsNonterminal,
-  IsTerminal,
-  IsInherited,
-  IsSynthesized,
-  IsRule,
-  IsPosition,
-  RightSymbol,
-  DeclaredPlace,
-  DeclaredKernel,
-  DeclaredGo,
-  IsState,
-  GoSymbol,
-  Declared,
-  NonterminalAt,
-  TerminalAt,
-  OwnedPlace,
-  Owned,
-  DefinesInherited,
-  DefinesSynthesized,
-  Defined,
-}
-=======
 use Rattle.grammar.specs.Book.{Place, own, at, val, Book, ownerAt, inheritedOwner, synthesizedOwner, inheritedExpr, synthesizedExpr}
->>>>>>> w-conditions
 use Rattle.grammar.specs.First.{First, past, here, expand}
 use Rattle.grammar.specs.Items.{KernelItem, kernel-item, derives, Closure, kernel, close}
 use Rattle.grammar.specs.Conditions.{Before, WithinLimits, IsNonterminal, IsTerminal, IsState, IsInherited, IsSynthesized, IsRule, IsPosition}
@@ -153,14 +110,9 @@ reads-whole b P (val I) (i, e) = (i, omega arith, e)
 module _ {b : Book} (h : Declared b) (o : Owned b) where
   pub inherited-reads : (P J K : ℕ) → Leaves (Reads b P J) (inheritedExpr b P J K)
   inherited-reads P J K = inherited-by (Leaves (Reads b P J)) P J K (b .inheritedDefinitions) (λ none. in-number) λ d m (p, j, k).
-<<<<<<< HEAD
-      rw (← p, ← j) (leaves-map (reads-before b (d .rule) (d .position))
-      (leaves-join (leaves-join (h .inherited-declared d m .leaves-there) (o .inherited-owned d m .leaves-owned)) (o .inherited-owned d m .leaves-before)))
-=======
       let there = h .inherited-declared d m .leaves-there in
       let owned = o .inherited-owned d m in
       rw (← p, ← j) (leaves-map (reads-before b (d .rule) (d .position)) (leaves-join (leaves-join there (owned .leaves-owned)) (owned .leaves-before)))
->>>>>>> w-conditions
 
   pub synthesized-reads : (P K : ℕ) → Leaves (Reads b P (suc (length (rightOf (b .rules) P)))) (synthesizedExpr b P K)
   synthesized-reads P K =

@@ -5,6 +5,7 @@ pub mod ExpressionWas
 pub mod First
 pub mod Formula
 pub mod Items
+pub mod LineLaws
 pub mod Limits
 pub mod Ordered
 pub mod Parse

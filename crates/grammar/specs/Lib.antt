@@ -7,6 +7,7 @@ pub mod Formula
 pub mod Items
 pub mod LineLaws
 pub mod Limits
+pub mod OrderLaws
 pub mod Ordered
 pub mod Parse
 pub mod ParseCases

@@ -21,48 +21,20 @@ use Rattle.grammar.specs.Print.{printSymbol, printInherited, printSynthe
 use Rattle.grammar.specs.Ordered.{Before, empty, less, same, Ascends, ascends-[], ascends-∷, inheritedKey, synthesizedKey, kernelKey, symbolKey, goKey, lookaheadKey, Every, every-[], every-∷, Lookaheads, Fits, SymbolFits, terminal-fits, nonterminal-fits, RuleFits, InheritedFits, SynthesizedFits, KernelFits, GoFits}
 use Rattle.grammar.specs.Reader.{Parsed, parsed, item, after, Reader, opening, closing, naming, section}
 use Rattle.grammar.specs.ReaderLaws.{space-got, number-got, due-got, keyword-got, closing-got, naming-got, opening-got, shrinking, opening-less, naming-less, word-ends, number-reads, reading, spelling}
+use Rattle.grammar.specs.OrderLaws.{before-true, true-before, Numbering, Following, every-along, along-every, ascends-along, along-ascends, along-fits}
 use Rattle.grammar.specs.SectionLaws.{Along, along-[], along-∷, Stands, Inverse, Prints, section-reads, section-was, section-size}
+use Rattle.grammar.specs.Expression.{expression}
+use Rattle.grammar.specs.ExpressionReads.{expression-reads, expression-size}
+use Rattle.grammar.specs.ExpressionWas.{expression-was}
 use Rattle.grammar.specs.Parse.{before, symbolOf, symbol, owner, symbols, rule, inheritedDefinition, synthesizedDefinition, lookahead, lookaheads, kernel, go}
 
--- What a line meets: a number K that fits, or a key above the last
-
-pub record Numbering {A : Type 0} (P : A → Type 0) (K : ℕ) (x : A) : Type 0 where
-  pub number : Fits K
-  pub fits : P x
-
-pub record Following {A : Type 0} (key : A → List ℕ) (P : A → Type 0) (last : List ℕ) (x : A) : Type 0 where
-  pub above : Before last (key x)
-  pub fits : P x
+-- What may stand after an item
 
 abbrev pub Anything : List ℕ → Type 0
 Anything r = Unit {0}
 
 abbrev pub NoDigit : List ℕ → Type 0
 NoDigit r = no-digit decimal r ≡ true
-
--- Order of keys, decided
-
-pub before-true : (xs ys : List ℕ) → before xs ys ≡ true → Before xs ys
-unfolding before
-before-true [] [] h = absurd (false≢true h)
-before-true [] (y ∷ ys) h = empty
-before-true (x ∷ xs) [] h = absurd (false≢true h)
-before-true (x ∷ xs) (y ∷ ys) h = go (ltb x y) (eqb x y) refl refl (before-true xs ys)
-  where
-    go : (s t : Bool) → ltb x y ≡ s → eqb x y ≡ t → (before xs ys ≡ true → Before xs ys) → Before (x ∷ xs) (y ∷ ys)
-    go true t p q ih = less (ltb-true x y p)
-    go false true p q ih =
-        let z = rw (p, before) at h in
-        rw (← eqb-true x y q) (same (ih (rw q at z)))
-    go false false p q ih =
-        let z = rw (p, before) at h in
-        absurd (false≢true (rw q at z))
-
-pub true-before : {xs ys : List ℕ} → Before xs ys → before xs ys ≡ true
-unfolding before
-true-before empty = refl
-true-before (less {x = x} {y = y} h) = rw (lt-ltb x y h, before)
-true-before (same {x = x} h) = rw (le-ltb x x (omega arith), before) (rw (eq-eqb x x refl) (true-before h))
 
 -- Symbols
 
@@ -123,6 +95,60 @@ each-prints : {A S : Type 0} (next : S → A → S) (print : A → Printer) → 
 unfolding each
 each-prints next print = record { prints-[] = λ s r. refl; prints-∷ = λ s x xs r. refl }
 
+-- no digit stands where a list of names begins
+list-ends : {A : Type 0} (print : A → Printer) → ((x : A) (r : List ℕ) → NoDigit (print x r)) → (xs : List A) (r : List ℕ) → NoDigit r → NoDigit (each print xs r)
+unfolding each
+list-ends print h [] r e = e
+list-ends print h (x ∷ xs) r e = h x (each print xs r)
+
+pub symbols-read : (xs : List Symbol) (r : List ℕ) → Every SymbolFits xs → NoDigit r → found (mark space (left r)) ≡ false
+    → symbols (left (each (λ X. literal " " · printSymbol X) xs r)) ≡ parsed xs (left r)
+unfolding symbols
+symbols-read xs r h d e =
+    section-reads (mark space) (λ (s : Unit {0}). symbol) (λ s X. s) (λ s X. literal " " · printSymbol X) (λ s. SymbolFits) NoDigit
+    (λ s. each (λ X. literal " " · printSymbol X)) symbol-inverse (each-prints (λ s X. s) (λ X. literal " " · printSymbol X)) tt xs r (every-along h) d e
+
+pub symbols-were : {C : Type 0} {r : List ℕ} (o : Rest) → after (symbols o) ≡ left r
+    → (o ≡ left (each (λ X. literal " " · printSymbol X) (item (symbols o)) r) → Every SymbolFits (item (symbols o)) → C) → C
+unfolding symbols
+symbols-were o e k =
+    section-was (mark space) (λ (s : Unit {0}). symbol) (λ s X. s) (λ s X. literal " " · printSymbol X) (λ s. SymbolFits) NoDigit
+    (λ s. each (λ X. literal " " · printSymbol X)) symbol-inverse (each-prints (λ s X. s) (λ X. literal " " · printSymbol X)) tt o e λ e₁ h. k e₁ (along-every h)
+
+most-symbols : (m : ℕ) (o : Rest) → size o ≤ m → size (after (symbols o)) ≤ m
+unfolding symbols
+most-symbols m o h =
+    omega (arith, section-size (mark space) (λ (s : Unit {0}). symbol) (λ s X. s) (symbol-inverse .head-less) (symbol-inverse .one-less) tt o)
+
+abbrev printLookahead : ℕ → Printer
+printLookahead a = literal " t" · numeral a
+
+pub lookaheads-read : (xs r : List ℕ) → Ascends lookaheadKey [] xs → Every Fits xs → NoDigit r → found (naming (wordOf "t") (left r)) ≡ false
+    → lookaheads (left (each printLookahead xs r)) ≡ parsed xs (left r)
+unfolding lookaheads
+lookaheads-read xs r a h d e =
+    section-reads (naming (wordOf "t")) lookahead (λ last. lookaheadKey) (λ last. printLookahead) (Following lookaheadKey Fits) NoDigit
+    (λ last. each printLookahead) lookahead-inverse (each-prints (λ last. lookaheadKey) printLookahead) [] xs r (ascends-along a h) d e
+
+pub lookaheads-were : {C : Type 0} {r : List ℕ} (o : Rest) → after (lookaheads o) ≡ left r
+    → (o ≡ left (each printLookahead (item (lookaheads o)) r) → Ascends lookaheadKey [] (item (lookaheads o)) → Every Fits (item (lookaheads o)) → C) → C
+unfolding lookaheads
+lookaheads-were o e k =
+    section-was (naming (wordOf "t")) lookahead (λ last. lookaheadKey) (λ last. printLookahead) (Following lookaheadKey Fits) NoDigit
+    (λ last. each printLookahead) lookahead-inverse (each-prints (λ last. lookaheadKey) printLookahead) [] o e λ e₁ h. k e₁ (along-ascends h) (along-fits h)
+
+most-lookaheads : (m : ℕ) (o : Rest) → size o ≤ m → size (after (lookaheads o)) ≤ m
+unfolding lookaheads
+most-lookaheads m o h =
+    omega (arith, section-size (naming (wordOf "t")) lookahead (λ last. lookaheadKey) (lookahead-inverse .head-less) (lookahead-inverse .one-less) [] o)
+
+most-expression : (m : ℕ) (o : Rest) → size o ≤ m → size (after (expression o)) ≤ m
+most-expression m o h = omega (arith, expression-size o)
+
+most-symbol : (m : ℕ) (o : Rest) → size o ≤ m → size (after (symbol o)) ≤ m
+unfolding symbol item after
+most-symbol m o h = search shrinking depth 20
+
 -- Lines that state an owner
 
 inherited-was : (K : ℕ) (bs r : List ℕ) → after (owner (wordOf "i") K (opening (wordOf "inh") (left bs))) ≡ left r
@@ -157,4 +183,63 @@ synthesized-inverse = record {
   reads = λ K A r h u. (refl, rw (word-ends _ K _, number-reads K _ (h .number) refl, eq-eqb K K refl) (rw (word-ends _ A _, number-reads A _ (h .fits) refl)));
   ends = λ K A r. tt;
   was = synthesized-was;
+}
+
+-- Rules
+
+right-ends : (xs : List Symbol) (r : List ℕ) → NoDigit (each (λ X. literal " " · printSymbol X) xs (literal ")\n" r))
+unfolding reading
+right-ends xs r = list-ends (λ X. literal " " · printSymbol X) (λ X r. refl) xs (literal ")\n" r) refl
+
+rule-was : (K : ℕ) (bs r : List ℕ) → after (rule K (opening (wordOf "rule") (left bs))) ≡ left r
+    → Stands (printRule K) (Numbering RuleFits K) bs (item (rule K (opening (wordOf "rule") (left bs)))) r
+unfolding rule item after printRule spelling
+rule-was K bs r e =
+    closing-got _ e λ e₁. symbols-were _ e₁ λ e₂ hs. number-got _ e₂ λ e₃ h. naming-got _ _ e₃ λ e₄. due-got K _ e₄ λ e₅ k. opening-got _ _ e₅ λ e₆.
+    record { text = left-is e₆; fine = record { number = k; fits = record { left = h; right = hs } } }
+
+rule-reads : (K : ℕ) (x : Rule) (r : List ℕ) → Numbering RuleFits K x → rule K (opening (wordOf "rule") (left (printRule K x r))) ≡ parsed x (left r)
+unfolding reading printRule rule
+rule-reads K x r h =
+    rw (number-reads K _ (h .number) refl, eq-eqb K K refl)
+    (rw (word-ends _ (x .left) _, number-reads (x .left) _ (h .fits .left) (right-ends (x .right) r), symbols-read (x .right) (literal ")\n" r) (h .fits .right) refl refl))
+
+pub rule-inverse : Inverse (opening (wordOf "rule")) rule printRule (Numbering RuleFits) Anything
+unfolding reading printRule rule
+rule-inverse = record {
+  head-less = opening-less (wordOf "rule");
+  one-less = λ K o. search (shrinking, most-symbols) depth 20;
+  reads = λ K x r h u. (refl, rule-reads K x r h);
+  ends = λ K x r. tt;
+  was = rule-was;
+}
+
+-- Definitions
+
+inherited-definition-was : (last bs r : List ℕ) → after (inheritedDefinition last (opening (wordOf "inhdef") (left bs))) ≡ left r
+    → Stands printInheritedDefinition (Following inheritedKey InheritedFits last) bs (item (inheritedDefinition last (opening (wordOf "inhdef") (left bs)))) r
+unfolding inheritedDefinition inheritedKey item after printInheritedDefinition spelling
+inherited-definition-was last bs r e =
+    must-got _ _ e λ t e₁. closing-got _ e₁ λ e₂. expression-was _ e₂ λ e₃ h. space-got _ e₃ λ e₄. number-got _ e₄ λ e₅ k. naming-got _ _ e₅ λ e₆.
+    number-got _ e₆ λ e₇ j. space-got _ e₇ λ e₈. number-got _ e₈ λ e₉ p. opening-got _ _ e₉ λ e₁₀.
+    record { text = left-is e₁₀; fine = record { above = before-true last _ t; fits = record { rule = p; position = j; attribute = k; expression = h } } }
+
+inherited-definition-reads : (last : List ℕ) (d : InheritedDefinition) (r : List ℕ) → Following inheritedKey InheritedFits last d
+    → inheritedDefinition last (opening (wordOf "inhdef") (left (printInheritedDefinition d r))) ≡ parsed d (left r)
+unfolding reading printInheritedDefinition inheritedDefinition inheritedKey
+inherited-definition-reads last d r h =
+    rw (
+      number-reads (d .rule) _ (h .fits .rule) refl, number-reads (d .position) _ (h .fits .position) refl, word-ends _ (d .attribute) _,
+      number-reads (d .attribute) _ (h .fits .attribute) refl, expression-reads (d .expression) (literal ")\n" r) (h .fits .expression) refl,
+      true-before (h .above),
+    )
+
+pub inherited-definition-inverse : Inverse (opening (wordOf "inhdef")) inheritedDefinition (λ last. printInheritedDefinition) (Following inheritedKey InheritedFits) Anything
+unfolding reading printInheritedDefinition inheritedDefinition
+inherited-definition-inverse = record {
+  head-less = opening-less (wordOf "inhdef");
+  one-less = λ last o. search (shrinking, most-expression) depth 20;
+  reads = λ last d r h u. (refl, inherited-definition-reads last d r h);
+  ends = λ last d r. tt;
+  was = inherited-definition-was;
 }

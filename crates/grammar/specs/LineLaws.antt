@@ -243,3 +243,100 @@ inherited-definition-inverse = record {
   ends = λ last d r. tt;
   was = inherited-definition-was;
 }
+
+synthesized-definition-was : (last bs r : List ℕ) → after (synthesizedDefinition last (opening (wordOf "syndef") (left bs))) ≡ left r
+    → Stands printSynthesizedDefinition (Following synthesizedKey SynthesizedFits last) bs (item (synthesizedDefinition last (opening (wordOf "syndef") (left bs)))) r
+unfolding synthesizedDefinition synthesizedKey item after printSynthesizedDefinition spelling
+synthesized-definition-was last bs r e =
+    must-got _ _ e λ t e₁. closing-got _ e₁ λ e₂. expression-was _ e₂ λ e₃ h. space-got _ e₃ λ e₄. number-got _ e₄ λ e₅ k. naming-got _ _ e₅ λ e₆.
+    number-got _ e₆ λ e₇ p. opening-got _ _ e₇ λ e₈.
+    record { text = left-is e₈; fine = record { above = before-true last _ t; fits = record { rule = p; attribute = k; expression = h } } }
+
+synthesized-definition-reads : (last : List ℕ) (d : SynthesizedDefinition) (r : List ℕ) → Following synthesizedKey SynthesizedFits last d
+    → synthesizedDefinition last (opening (wordOf "syndef") (left (printSynthesizedDefinition d r))) ≡ parsed d (left r)
+unfolding reading printSynthesizedDefinition synthesizedDefinition synthesizedKey
+synthesized-definition-reads last d r h =
+    rw (
+      number-reads (d .rule) _ (h .fits .rule) refl, word-ends _ (d .attribute) _, number-reads (d .attribute) _ (h .fits .attribute) refl,
+      expression-reads (d .expression) (literal ")\n" r) (h .fits .expression) refl, true-before (h .above),
+    )
+
+pub synthesized-definition-inverse : Inverse (opening (wordOf "syndef")) synthesizedDefinition (λ last. printSynthesizedDefinition) (Following synthesizedKey SynthesizedFits) Anything
+unfolding reading printSynthesizedDefinition synthesizedDefinition
+synthesized-definition-inverse = record {
+  head-less = opening-less (wordOf "syndef");
+  one-less = λ last o. search (shrinking, most-expression) depth 20;
+  reads = λ last d r h u. (refl, synthesized-definition-reads last d r h);
+  ends = λ last d r. tt;
+  was = synthesized-definition-was;
+}
+
+-- States
+
+abbrev pub KernelFine : Kernel → Type 0
+KernelFine k = Lookaheads k × KernelFits k
+
+lookaheads-end : (xs r : List ℕ) → NoDigit (each printLookahead xs (literal ")\n" r))
+unfolding reading
+lookaheads-end xs r = list-ends printLookahead (λ a r. refl) xs (literal ")\n" r) refl
+
+kernel-was : (last bs r : List ℕ) → after (kernel last (opening (wordOf "kernel") (left bs))) ≡ left r
+    → Stands printKernel (Following kernelKey KernelFine last) bs (item (kernel last (opening (wordOf "kernel") (left bs)))) r
+unfolding kernel kernelKey item after printKernel spelling
+kernel-was last bs r e =
+    must-got _ _ e λ t e₁. closing-got _ e₁ λ e₂. must-got _ _ e₂ λ u e₃. lookaheads-were _ e₃ λ e₄ up hs. number-got _ e₄ λ e₅ d. space-got _ e₅ λ e₆.
+    number-got _ e₆ λ e₇ p. space-got _ e₇ λ e₈. number-got _ e₈ λ e₉ s. opening-got _ _ e₉ λ e₁₀.
+    record {
+      text = left-is e₁₀;
+      fine = record {
+        above = before-true last _ t;
+        fits = (record { some = ltb-true 0 _ u; ascend = up }, record { state = s; rule = p; dot = d; lookaheads = hs });
+      };
+    }
+
+kernel-reads : (last : List ℕ) (k : Kernel) (r : List ℕ) → Following kernelKey KernelFine last k
+    → kernel last (opening (wordOf "kernel") (left (printKernel k r))) ≡ parsed k (left r)
+unfolding reading printKernel kernel kernelKey
+kernel-reads last k r h =
+    rw (
+      number-reads (k .state) _ (h .fits .1 .state) refl, number-reads (k .rule) _ (h .fits .1 .rule) refl,
+      number-reads (k .dot) _ (h .fits .1 .dot) (lookaheads-end (k .lookaheads) r),
+      lookaheads-read (k .lookaheads) (literal ")\n" r) (h .fits .0 .ascend) (h .fits .1 .lookaheads) refl refl,
+      lt-ltb 0 (length (k .lookaheads)) (h .fits .0 .some), true-before (h .above),
+    )
+
+pub kernel-inverse : Inverse (opening (wordOf "kernel")) kernel (λ last. printKernel) (Following kernelKey KernelFine) Anything
+unfolding reading printKernel kernel
+kernel-inverse = record {
+  head-less = opening-less (wordOf "kernel");
+  one-less = λ last o. search (shrinking, most-lookaheads) depth 20;
+  reads = λ last k r h u. (refl, kernel-reads last k r h);
+  ends = λ last k r. tt;
+  was = kernel-was;
+}
+
+go-was : (last bs r : List ℕ) → after (go last (opening (wordOf "go") (left bs))) ≡ left r
+    → Stands printGo (Following goKey GoFits last) bs (item (go last (opening (wordOf "go") (left bs)))) r
+unfolding go goKey item after printGo spelling
+go-was last bs r e =
+    must-got _ _ e λ t e₁. closing-got _ e₁ λ e₂. number-got _ e₂ λ e₃ m. space-got _ e₃ λ e₄. symbol-was _ e₄ λ e₅ x. space-got _ e₅ λ e₆. number-got _ e₆ λ e₇ s.
+    opening-got _ _ e₇ λ e₈.
+    record { text = left-is e₈; fine = record { above = before-true last _ t; fits = record { state = s; symbol = x; target = m } } }
+
+go-reads : (last : List ℕ) (g : Go) (r : List ℕ) → Following goKey GoFits last g → go last (opening (wordOf "go") (left (printGo g r))) ≡ parsed g (left r)
+unfolding reading printGo go goKey
+go-reads last g r h =
+    rw (
+      number-reads (g .state) _ (h .fits .state) refl, symbol-reads (g .symbol) _ (h .fits .symbol) refl, number-reads (g .target) _ (h .fits .target) refl,
+      true-before (h .above),
+    )
+
+pub go-inverse : Inverse (opening (wordOf "go")) go (λ last. printGo) (Following goKey GoFits) Anything
+unfolding reading printGo go
+go-inverse = record {
+  head-less = opening-less (wordOf "go");
+  one-less = λ last o. search (shrinking, most-symbol) depth 20;
+  reads = λ last g r h u. (refl, go-reads last g r h);
+  ends = λ last g r. tt;
+  was = go-was;
+}

@@ -11,6 +11,8 @@ pub mod OrderLaws
 pub mod Ordered
 pub mod Parse
 pub mod ParseCases
+pub mod ParseLaws
+pub mod ParseSections
 pub mod Postfix
 pub mod Print
 pub mod Printer

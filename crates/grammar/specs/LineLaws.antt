@@ -91,7 +91,7 @@ lookahead-inverse = record {
 
 -- The lists inside a line
 
-each-prints : {A S : Type 0} (next : S → A → S) (print : A → Printer) → Prints next (λ s. print) (λ s. each print)
+pub each-prints : {A S : Type 0} (next : S → A → S) (print : A → Printer) → Prints next (λ s. print) (λ s. each print)
 unfolding each
 each-prints next print = record { prints-[] = λ s r. refl; prints-∷ = λ s x xs r. refl }
 

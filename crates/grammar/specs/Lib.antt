@@ -12,7 +12,9 @@ pub mod Ordered
 pub mod Parse
 pub mod ParseCases
 pub mod ParseLaws
+pub mod ParseReads
 pub mod ParseSections
+pub mod ParseWas
 pub mod Postfix
 pub mod Print
 pub mod Printer

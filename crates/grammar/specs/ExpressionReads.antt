@@ -20,7 +20,7 @@ use Rattle.grammar.specs.Printer.{Printer, bytes, literal}
 use Rattle.grammar.specs.Print.{printPlace, printOperator, printExpression}
 use Rattle.grammar.specs.Ordered.{Fits, PlaceFits, own-fits, at-fits, val-fits, ExpressionFits, number-fits, leaf-fits, both-fits, pick-fits}
 use Rattle.grammar.specs.Reader.{Parsed, parsed, item, after, Reader, naming}
-use Rattle.grammar.specs.ReaderLaws.{shrinking, word-ends, number-reads}
+use Rattle.grammar.specs.ReaderLaws.{shrinking, word-ends, number-reads, reading}
 use Rattle.grammar.specs.Repeat.{repeat, repeat-stop, repeat-more, repeat-size}
 use Rattle.grammar.specs.Expression.{Waiting, waiting, Begun, opened, whole, either, ownPlace, atPlace, valPlace, wholeOf, bracket, begun, Machine, machine, sizeLeft, goesOn, begin, turn, work, outcome, expressionSteps, expression}
 
@@ -141,20 +141,20 @@ begun-written n r h k =
     ∙ rw (value-number n r (omega arith) k, past-number n r (omega arith) k)
 
 begun-place : (p : Place) (r : List ℕ) → PlaceFits p → begun (left (printPlace p r)) ≡ whole (load p) (left r)
-unfolding printPlace literal bytes begun bracket wholeOf ownPlace atPlace valPlace item after naming mark markIn must found keyword value past read numberOf restOf numeral digits digitOf classOf spelled no-digit
+unfolding reading printPlace begun bracket wholeOf ownPlace atPlace valPlace
 begun-place (own K) r (own-fits h) = rw (word-ends _ _ _, number-reads _ _ h refl)
 begun-place (at J K) r (at-fits h k) = rw (number-reads _ _ h refl, word-ends _ _ _, number-reads _ _ k refl)
 begun-place (val J) r (val-fits h) = rw (number-reads _ _ h refl)
 
 begun-operator : (o : Operator) (r : List ℕ) → begun (left (printOperator o r)) ≡ opened (waiting (operate o) 1) (left r)
-unfolding printOperator literal bytes begun bracket mark markIn must found value past read numberOf restOf numeral digits digitOf classOf spelled
+unfolding reading printOperator begun bracket
 begun-operator add r = refl
 begun-operator sub r = refl
 begun-operator min r = refl
 begun-operator max r = refl
 
 begun-pick : (r : List ℕ) → begun (left (literal "(pick " r)) ≡ opened (waiting select 2) (left r)
-unfolding literal bytes begun bracket mark markIn must found value past read numberOf restOf numeral digits digitOf classOf spelled
+unfolding reading begun bracket
 begun-pick r = refl
 
 -- The steps of a printed expression

@@ -21,7 +21,7 @@ use Rattle.grammar.specs.Printer.{Printer, bytes, literal}
 use Rattle.grammar.specs.Print.{printPlace, printOperator, printExpression}
 use Rattle.grammar.specs.Ordered.{Fits, PlaceFits, own-fits, at-fits, val-fits, ExpressionFits, number-fits, leaf-fits, both-fits, pick-fits}
 use Rattle.grammar.specs.Reader.{Parsed, parsed, item, after, Reader, naming}
-use Rattle.grammar.specs.ReaderLaws.{open-got, close-got, space-got, number-got, keyword-got, naming-got}
+use Rattle.grammar.specs.ReaderLaws.{open-got, close-got, space-got, number-got, keyword-got, naming-got, spelling}
 use Rattle.grammar.specs.Expression.{Waiting, waiting, Begun, opened, whole, either, ownPlace, atPlace, valPlace, wholeOf, bracket, begun, Machine, machine, goesOn, turn, work, outcome, expressionSteps, expression}
 use Rattle.grammar.specs.ExpressionReads.{either-cases, begun-bracket, begun-number, sizeBegun, begun-less, work-stop, turn-opened, turn-whole, turn-space, turn-close}
 
@@ -56,24 +56,24 @@ module _ (bs : List ℕ) (word : ℕ) (o : Rest) (text : (r : List ℕ) → o �
       go (left r) e = k r e
 
   own-case : word ≡ wordOf "own" → Begins bs (wholeOf (ownPlace o))
-  unfolding ownPlace item after printPlace literal bytes write written spelled
+  unfolding ownPlace item after printPlace spelling
   own-case w =
       place-case ownPlace λ r e. close-got _ e λ e₁. number-got _ e₁ λ e₂ h. keyword-got _ _ e₂ λ e₃.
       by-place (own (value decimal (keyword (wordOf "i") o))) r (text _ e₃ ∙ rw w) (own-fits h)
 
   at-case : word ≡ wordOf "at" → Begins bs (wholeOf (atPlace o))
-  unfolding atPlace item after printPlace literal bytes write written spelled
+  unfolding atPlace item after printPlace spelling
   at-case w =
       place-case atPlace λ r e. close-got _ e λ e₁. number-got _ e₁ λ e₂ h. naming-got _ _ e₂ λ e₃. number-got _ e₃ λ e₄ k.
       by-place (at (value decimal o) (value decimal (naming (wordOf "s") (past decimal o)))) r (text _ e₄ ∙ rw w) (at-fits k h)
 
   val-case : word ≡ wordOf "val" → Begins bs (wholeOf (valPlace o))
-  unfolding valPlace item after printPlace literal bytes write written spelled
+  unfolding valPlace item after printPlace spelling
   val-case w =
       place-case valPlace λ r e. close-got _ e λ e₁. number-got _ e₁ λ e₂ h. by-place (val (value decimal o)) r (text _ e₂ ∙ rw w) (val-fits h)
 
   bracket-begins : Begins bs (bracket word o)
-  unfolding bracket printOperator literal bytes write written spelled
+  unfolding bracket printOperator spelling
   bracket-begins =
       let P : Begun → Type 0 = Begins bs in
       either-cases P (eqb word (wordOf "add")) (λ t. operator-case add λ r. rw (eqb-true word (wordOf "add") t)) (λ _.

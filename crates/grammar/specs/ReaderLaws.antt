@@ -5,17 +5,18 @@ use mathlib.Core.Path.{_≡_, refl, sym, ap, _∙_}
 use mathlib.Core.Bool.{Bool, true, false}
 use mathlib.Core.List.{List, [], _∷_}
 use native.Mathlib.Omega.{arith}
-use lib.ListN.{length}
+use lib.Dec.{eqb}
+use borrow.Author.Tests.{eqb-true}
 use Rattle.text.specs.Class.{digit, open-bracket, close-bracket, space, line-feed, classOf}
 use Rattle.text.specs.ClassLaws.{byteOf}
-use Rattle.text.specs.Rest.{Rest, lost, left, found, must, mark, size}
-use Rattle.text.specs.RestLaws.{lost≢left, left-is, found-got, found-left, size-must, size-mark, found-mark}
+use Rattle.text.specs.Rest.{Rest, lost, left, found, must, markIn, mark, size}
+use Rattle.text.specs.RestLaws.{must-got, found-got, found-left, size-must, size-mark, found-mark}
 use Rattle.text.specs.RestLaws.{mark-got as mark-text}
-use Rattle.text.specs.Numeral.{decimal, letters, got, digitOf, digits, numeral, value, past, write, keyword}
+use Rattle.text.specs.Numeral.{decimal, letters, got, digitOf, digits, numeral, numberOf, restOf, read, value, past, spelled, written, write, keyword}
 use Rattle.text.specs.Positional.{no-digit, digits-stop}
 use Rattle.text.specs.NumeralLaws.{number-written, written-head, size-past, size-keyword}
 use Rattle.text.specs.NumeralLaws.{number-got as number-text, keyword-got as keyword-text}
-use Rattle.grammar.specs.Printer.{Printer}
+use Rattle.grammar.specs.Printer.{Printer, bytes, literal}
 use Rattle.grammar.specs.Ordered.{Fits}
 use Rattle.grammar.specs.Reader.{Parsed, parsed, item, after, Reader, opening, closing, naming, many, section}
 
@@ -39,6 +40,13 @@ module _ {C : Type 0} {r : List ℕ} where
 
   pub number-got : (o : Rest) → past decimal o ≡ left r → (o ≡ left (write decimal (value decimal o) r) → Fits (value decimal o) → C) → C
   number-got o e k = number-text o e λ bs p q h. k (p ∙ ap left q) (omega arith)
+
+  -- the number that is due
+  pub due-got : (K : ℕ) (o : Rest) → must (eqb (value decimal o) K) (past decimal o) ≡ left r → (o ≡ left (write decimal K r) → Fits K → C) → C
+  due-got K o e k =
+      must-got (eqb (value decimal o) K) (past decimal o) e λ t p. number-text o p λ bs q u h.
+      let v : value decimal o ≡ K = eqb-true (value decimal o) K t in
+      k (q ∙ (ap left u ∙ rw v)) (omega arith)
 
   pub keyword-got : (w : ℕ) (o : Rest) → keyword w o ≡ left r → (o ≡ left (write letters w r) → C) → C
   keyword-got w o e k = keyword-text w o e λ bs p q. k (p ∙ ap left q)
@@ -113,3 +121,13 @@ word-ends v n r = written-head n r λ b bs e h. rw e (digits-stop letters v (b �
 
 pub number-reads : (n : ℕ) (r : List ℕ) → Fits n → no-digit decimal r ≡ true → numeral decimal (write decimal n r) ≡ got n r
 number-reads n r h k = number-written n r (omega arith) k
+
+-- opens all that reading computes with, and nothing of writing
+unfoldable pub reading : Unit {0}
+unfolding classOf found must markIn mark digitOf digits numeral numberOf restOf read value past spelled keyword no-digit bytes literal item after opening closing naming
+reading = tt
+
+-- opens all that writing a word computes with
+unfoldable pub spelling : Unit {0}
+unfolding spelled written write bytes literal
+spelling = tt

@@ -132,7 +132,8 @@ module _ (c : Constraint) {n : ℕ} {sets : List ℕ} (S : Family n sets) (t : c
 
 -- ---- passes
 
-below-suc : (P : ℕ → Type 0) (k i : ℕ) → i < suc k → (i < k → P i) → P k → P i
+-- below the next number: below this one, or this one
+pub below-suc : (P : ℕ → Type 0) (k i : ℕ) → i < suc k → (i < k → P i) → P k → P i
 below-suc P k i h less last = ⊎-elim (λ e. subst P (sym e) last) less (eq-or-lt-of-le (le-of-suc-le-suc h))
 
 sameSets-still : (a b : List ℕ) → sameSets a b ≡ true → a ≡ b

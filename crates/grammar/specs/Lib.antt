@@ -4,6 +4,7 @@ pub mod ClosureLaws
 pub mod ClosureSets
 pub mod Compiled
 pub mod CoreItems
+pub mod CoreItemsLaws
 pub mod First
 pub mod FirstLaws
 pub mod FirstSets

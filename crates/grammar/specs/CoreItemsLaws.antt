@@ -1,28 +1,25 @@
--- The listed items of a state are its closure, each with at least one lookahead; with what they reach, the sets of a book are right.
+-- The listed items of a state are its closure, each with at least one lookahead.
 -- Assumes nothing.
-use Prim.Native.Nat.{ℕ, zero, suc, _^_, _<_, _≤_}
-use mathlib.Core.Path.{_≡_, refl, sym, ap, _∙_, subst}
-use mathlib.Core.Bool.{Bool, true, false}
+use Prim.Native.Nat.{ℕ, zero, suc, _^_, _<_}
+use mathlib.Core.Path.{_≡_, refl, sym, ap, subst}
+use mathlib.Core.Bool.{true}
 use mathlib.Core.Logic.{_⊎_, inl, inr, ⊎-elim}
-use mathlib.Core.List.{List, [], _∷_, _++_, List·Memᴰ as Mem, List·Memᴰ·head as mem-head, List·Memᴰ·tail as mem-tail, List·Memᴰ·not-nil as not-nil, List·Memᴰ·cases-cons as cases-cons, Memᴰ·cast as cast, Memᴰ·append-left as append-left, Memᴰ·append-right as append-right, List·Memᴰ·append-cases as append-cases}
+use mathlib.Core.List.{List, [], _∷_, List·Memᴰ as Mem, List·Memᴰ·head as mem-head, List·Memᴰ·tail as mem-tail, List·Memᴰ·not-nil as not-nil, List·Memᴰ·cases-cons as cases-cons, Memᴰ·cast as cast, Memᴰ·append-left as append-left, Memᴰ·append-right as append-right, List·Memᴰ·append-cases as append-cases}
 use native.Mathlib.Omega.{arith}
 use lib.ListN.{length}
 use Rattle.sets.specs.Sets.{bit}
 use Rattle.grammar.specs.Members.{some-not-none, member}
-use Rattle.grammar.specs.Symbol.{Rule, leftOf, after}
+use Rattle.grammar.specs.Symbol.{Rule, leftOf}
 use Rattle.grammar.specs.Book.{Book, Kernel}
 use Rattle.grammar.specs.Small.{SmallBook}
 use Rattle.grammar.specs.Fixpoint.{setAt}
-use Rattle.grammar.specs.LeastLaws.{Family, below-suc}
-use Rattle.grammar.specs.FirstSets.{Sets, setsOf}
-use Rattle.grammar.specs.FirstSetsLaws.{SetsRight, sets-right}
-use Rattle.grammar.specs.Items.{KernelItem, kernel-item, Closure, kernel}
+use Rattle.grammar.specs.LeastLaws.{below-suc}
+use Rattle.grammar.specs.FirstSets.{Sets}
+use Rattle.grammar.specs.FirstSetsLaws.{SetsRight}
+use Rattle.grammar.specs.Items.{kernel-item, Closure, kernel}
 use Rattle.grammar.specs.ClosureSets.{setOf, kernelsIn, closureSets}
 use Rattle.grammar.specs.ClosureLaws.{setOf-low, setOf-has, has-setOf, kernelsIn-has, has-kernelsIn, closure-family, Shape, closure-shape, set-closure}
-use Rattle.grammar.specs.ReachSets.{reachSets}
-use Rattle.grammar.specs.ReachLaws.{reaches-with, with-reaches}
 use Rattle.grammar.specs.CoreItems.{Core, core, ofKernels, entered, ofRules, coreItems}
-use Rattle.grammar.specs.ItemsRight.{ItemsRight}
 
 -- ---- the items of kernel lines
 
@@ -147,25 +144,13 @@ module _ {b : Book} {F : Sets} (H : SmallBook b) (R : SetsRight (b .rules) F) wh
     where
       go : Shape H R S P D a → (M : ℕ) × Mem (core P D M) (coreItems b F S) × (bit M a ≡ true)
       go (inl (kernel-item {k = k} m s r d l)) =
-          let same : core P D (setOf (k .lookaheads)) ≡ core (k .rule) (k .dot) (setOf (k .lookaheads)) = cc in
-          ( setOf (k .lookaheads)
-          , cast same (append-left (ofRules (b .rules) (closureSets b F S) (length (b .rules))) (ofKernels-has (kernelsIn-has S s m)))
-          , setOf-has (H .low-lookaheads k m a l) l )
+          let same : core P D (setOf (k .lookaheads)) ≡ core (k .rule) (k .dot) (setOf (k .lookaheads)) = cc in (
+            setOf (k .lookaheads),
+            cast same (append-left (ofRules (b .rules) (closureSets b F S) (length (b .rules))) (ofKernels-has (kernelsIn-has S s m))),
+            setOf-has (H .low-lookaheads k m a l) l,
+          )
       go (inr (z, p, e)) =
           let M : ℕ = setAt (closureSets b F S) (leftOf (b .rules) P) in
           let same : core P D M ≡ core P 0 M = cc in
           let there = ofRules-has (b .rules) (closureSets b F S) (length (b .rules)) P p (some-not-none M a e) in
           (M, cast same (append-right (ofKernels (kernelsIn (b .kernels) S)) there), e)
-
-  pub items-right : ItemsRight b F (reachSets (b .rules) F)
-  items-right = record {
-    closure-core = closure-core;
-    core-closure = core-closure;
-    core-some = core-some;
-    reaches-core = λ S P D M a c m. reaches-with (H .small-rules) R P D M a c (core-low S P D M m);
-    core-reaches = λ S P D M a m. let (d, q) = core-some S P D M m in with-reaches (H .small-rules) R P D M a d q;
-  }
-
--- the sets that are worked out from a book are right
-pub book-items-right : (b : Book) → SmallBook b → ItemsRight b (setsOf (b .rules)) (reachSets (b .rules) (setsOf (b .rules)))
-book-items-right b H = items-right H (sets-right (b .rules) (H .small-rules))

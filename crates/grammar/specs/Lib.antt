@@ -14,6 +14,7 @@ pub mod FixpointLaws
 pub mod Formula
 pub mod Items
 pub mod ItemsRight
+pub mod ItemsRightLaws
 pub mod LeastLaws
 pub mod Limits
 pub mod Members
@@ -27,3 +28,4 @@ pub mod States
 pub mod StatesCheck
 pub mod Symbol
 pub mod Term
+pub mod TestLaws

@@ -1,26 +1,27 @@
 -- The closure of a state is right as sets: for each nonterminal, the lookaheads with which its rules stand in the closure.
 -- Assumes nothing.
-use Prim.Native.Nat.{ℕ, zero, suc, _^_, _<_, _≤_}
+use Prim.Native.Nat.{ℕ, zero, suc, _^_, _<_}
 use mathlib.Core.Path.{_≡_, refl, sym, ap, _∙_, subst}
-use mathlib.Core.Bool.{Bool, true, false}
+use mathlib.Core.Bool.{true}
 use mathlib.Core.Logic.{_⊎_, inl, inr, ⊎-elim}
 use mathlib.Core.List.{List, [], _∷_, List·Memᴰ as Mem, List·Memᴰ·head as mem-head, List·Memᴰ·tail as mem-tail, List·Memᴰ·not-nil as not-nil, List·Memᴰ·cases-cons as cases-cons}
 use native.Mathlib.Omega.{arith}
 use lib.Dec.{eqb}
 use lib.ListN.{length, replicate}
 use borrow.Author.Tests.{eqb-true, eqb-false}
-use Rattle.sets.specs.Sets.{bit, single, union, with}
+use Rattle.sets.specs.Sets.{bit, single, with}
 use Rattle.sets.specs.SetsLaws.{bit-lt, with-lt, with-keeps, with-self, union-either}
-use Rattle.grammar.specs.Members.{true-false, none-in, some-not-none, member, single-is}
+use Rattle.grammar.specs.TestLaws.{by-test}
+use Rattle.grammar.specs.Members.{none-in, member, single-is}
 use Rattle.grammar.specs.Symbol.{Symbol, terminal, nonterminal, Rule, leftOf, rightOf, after}
 use Rattle.grammar.specs.Book.{Book, Kernel}
-use Rattle.grammar.specs.Small.{Low, Small, low-after, SmallBook}
-use Rattle.grammar.specs.Fixpoint.{Constraint, setAt, visit, least}
+use Rattle.grammar.specs.Small.{Low, low-after, SmallBook}
+use Rattle.grammar.specs.Fixpoint.{Constraint, setAt, visit}
 use Rattle.grammar.specs.LeastLaws.{Family, Within, none-family, none-within, visit-family, visit-keeps, visit-adds, visit-within, Fits, least-family, least-holds, least-closed, least-within}
 use Rattle.grammar.specs.First.{First}
 use Rattle.grammar.specs.FirstSets.{Sets, firstWith}
 use Rattle.grammar.specs.FirstSetsLaws.{SetsRight, with-low, first-with, with-first}
-use Rattle.grammar.specs.Items.{Derives, derives, KernelItem, kernel-item, Closure, kernel, close}
+use Rattle.grammar.specs.Items.{derives, KernelItem, kernel-item, Closure, kernel, close}
 use Rattle.grammar.specs.ClosureSets.{setOf, derivesInto, kernelsIn, fromKernels, closureRule, closureSets}
 
 -- ---- the set of a list's numbers
@@ -47,12 +48,8 @@ has-setOf (x ∷ l) a e =
 by-line : (x : Kernel) (ks : List Kernel) (S : ℕ) (Q : List Kernel → Type 0) → (x .state ≡ S → Q (x ∷ kernelsIn ks S))
     → ((x .state ≡ S → ⊥) → Q (kernelsIn ks S)) → Q (kernelsIn (x ∷ ks) S)
 unfolding kernelsIn
-by-line x ks S Q own other = go (eqb (x .state) S) (λ e. own (eqb-true (x .state) S e)) (λ e. other (eqb-false (x .state) S e))
-  where
-    go : (t : Bool) → (t ≡ true → Q (x ∷ kernelsIn ks S)) → (t ≡ false → Q (kernelsIn ks S))
-        → Q (elim t [ true ↦ x ∷ kernelsIn ks S | false ↦ kernelsIn ks S ])
-    go true y n = y refl
-    go false y n = n refl
+by-line x ks S Q own other =
+    by-test (eqb (x .state) S) (x ∷ kernelsIn ks S) (kernelsIn ks S) Q (λ e. own (eqb-true (x .state) S e)) (λ e. other (eqb-false (x .state) S e))
 
 pub kernelsIn-has : {k : Kernel} {ks : List Kernel} (S : ℕ) → k .state ≡ S → Mem k ks → Mem k (kernelsIn ks S)
 kernelsIn-has {k} S h (mem-head {x = x} {xs = ks} e) =

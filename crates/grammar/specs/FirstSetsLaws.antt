@@ -1,18 +1,19 @@
 -- The computed sets are right: `null` tells which strings derive the empty string, `first` and `firstWith` hold what FIRST says.
 -- Assumes nothing.
-use Prim.Native.Nat.{ℕ, zero, suc, _^_, _<_, _≤_}
-use mathlib.Core.Path.{_≡_, refl, sym, ap, _∙_, subst}
+use Prim.Native.Nat.{ℕ, _^_, _<_}
+use mathlib.Core.Path.{_≡_, refl, sym, subst}
 use mathlib.Core.Bool.{Bool, true, false}
 use mathlib.Core.Logic.{_⊎_, inl, inr, ⊎-elim}
-use mathlib.Core.List.{List, [], _∷_, _++_}
+use mathlib.Core.List.{List, [], _∷_}
 use native.Mathlib.Omega.{arith}
 use lib.ListN.{length, replicate}
 use Rattle.sets.specs.Sets.{bit, single, union}
 use Rattle.sets.specs.SetsLaws.{bit-lt, single-lt, union-lt, union-left, union-right, union-either}
-use Rattle.grammar.specs.Members.{true-false, none-in, member, single-in, single-is}
+use Rattle.grammar.specs.TestLaws.{by-test, true-false}
+use Rattle.grammar.specs.Members.{none-in, single-in, single-is}
 use Rattle.grammar.specs.Symbol.{Symbol, terminal, nonterminal, Rule, leftOf, rightOf}
 use Rattle.grammar.specs.Small.{Low, Small}
-use Rattle.grammar.specs.Fixpoint.{Constraint, setAt, least}
+use Rattle.grammar.specs.Fixpoint.{setAt, least}
 use Rattle.grammar.specs.LeastLaws.{Family, Within, none-family, none-within, Fits, least-family, least-closed, least-within}
 use Rattle.grammar.specs.First.{First}
 use Rattle.grammar.specs.FirstLaws.{Null, null-end, null-rule, Starts, at-once, inside, beyond, first-shape, starts-first, null-first}
@@ -51,11 +52,7 @@ module _ (G : List Rule) where
   rule-gives : (P : ℕ) (family : List ℕ) (Q : ℕ → Type 0) → (nullIn (setAt family 0) (rightOf G P) ≡ true → Q (single (leftOf G P))) → Q 0
       → Q ((nullRule G P) .gives family)
   unfolding nullRule
-  rule-gives P family Q given none = go (nullIn (setAt family 0) (rightOf G P)) given
-    where
-      go : (t : Bool) → (t ≡ true → Q (single (leftOf G P))) → Q (elim t [ true ↦ single (leftOf G P) | false ↦ 0 ])
-      go true q = q refl
-      go false q = none
+  rule-gives P family Q given none = by-test (nullIn (setAt family 0) (rightOf G P)) (single (leftOf G P)) 0 Q given (λ _. none)
 
   null-gives : (P : ℕ) (family : List ℕ) → nullIn (setAt family 0) (rightOf G P) ≡ true → (nullRule G P) .gives family ≡ single (leftOf G P)
   unfolding nullRule
@@ -97,12 +94,7 @@ module _ (nulls : ℕ) (firsts : List ℕ) (B : ℕ) (β : List Symbol) where
   by-first : (Q : ℕ → Type 0) → (bit nulls B ≡ true → Q (union (setAt firsts B) (firstIn nulls firsts β))) → (bit nulls B ≡ false → Q (setAt firsts B))
       → Q (firstIn nulls firsts (nonterminal B ∷ β))
   unfolding firstIn
-  by-first Q more only = go (bit nulls B) more only
-    where
-      go : (t : Bool) → (t ≡ true → Q (union (setAt firsts B) (firstIn nulls firsts β))) → (t ≡ false → Q (setAt firsts B))
-          → Q (elim t [ true ↦ union (setAt firsts B) (firstIn nulls firsts β) | false ↦ setAt firsts B ])
-      go true m o = m refl
-      go false m o = o refl
+  by-first Q = by-test (bit nulls B) (union (setAt firsts B) (firstIn nulls firsts β)) (setAt firsts B) Q
 
 first-lt : (nulls : ℕ) (firsts : List ℕ) → Family 32 firsts → (β : List Symbol) → Low β → firstIn nulls firsts β < 2 ^ 32
 unfolding firstIn
@@ -205,12 +197,7 @@ module _ {G : List Rule} {F : Sets} (R : SetsRight G F) where
   by-with : (β : List Symbol) (M : ℕ) (Q : ℕ → Type 0) → (null F β ≡ true → Q (union (first F β) M)) → (null F β ≡ false → Q (first F β))
       → Q (firstWith F β M)
   unfolding firstWith
-  by-with β M Q more only = go (null F β) more only
-    where
-      go : (t : Bool) → (t ≡ true → Q (union (first F β) M)) → (t ≡ false → Q (first F β))
-          → Q (elim t [ true ↦ union (first F β) M | false ↦ first F β ])
-      go true m o = m refl
-      go false m o = o refl
+  by-with β M Q = by-test (null F β) (union (first F β) M) (first F β) Q
 
   pub with-low : (β : List Symbol) (M : ℕ) → Low β → firstWith F β M < 2 ^ 32
   with-low β M l = by-with β M (λ x. x < 2 ^ 32) (λ _. union-lt _ _) (λ _. R .first-low β l)

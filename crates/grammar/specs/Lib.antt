@@ -15,6 +15,7 @@ pub mod ConditionTestsLaws
 pub mod Conditions
 pub mod ConditionsLaws
 pub mod CoreItems
+pub mod CoreItemsLaws
 pub mod Decides
 pub mod Decorate
 pub mod Decorated
@@ -38,6 +39,7 @@ pub mod FormulaTable
 pub mod GoLaws
 pub mod Items
 pub mod ItemsRight
+pub mod ItemsRightLaws
 pub mod LeastLaws
 pub mod LeavesLaws
 pub mod Limits
@@ -83,5 +85,6 @@ pub mod StatesCheck
 pub mod Symbol
 pub mod Term
 pub mod TermLaws
+pub mod TestLaws
 pub mod Tree
 pub mod TreeLaws

@@ -8,9 +8,7 @@ use borrow.Author.Tests.{eq-eqb, eqb-true}
 use Rattle.sets.specs.Sets.{bit, empty, single, exists}
 use Rattle.sets.specs.SetsLaws.{bit-empty, bit-single}
 use Rattle.sets.specs.Bits.{bits-le, exists-holds, exists-true}
-
-pub true-false : {C : Type 0} {t : Bool} → t ≡ true → t ≡ false → C
-true-false e f = absurd (let z : _≡_ {A = ℕ} 0 1 = cc in omega arith)
+use Rattle.grammar.specs.TestLaws.{true-false}
 
 pub none-in : {C : Type 0} (a : ℕ) → bit 0 a ≡ true → C
 unfolding empty

@@ -6,15 +6,15 @@ use mathlib.Core.Bool.{Bool, true, false}
 use mathlib.Core.Logic.{_⊎_, inl, inr, ⊎-elim}
 use mathlib.Core.List.{List, [], _∷_}
 use native.Mathlib.Omega.{arith}
-use lib.Dec.{eqb}
 use lib.ListN.{length, replicate}
 use borrow.Author.Tests.{eqb-false, ne-eqb}
 use Rattle.sets.specs.Sets.{bit, single, union}
 use Rattle.sets.specs.SetsLaws.{bit-lt, single-lt, union-lt, union-left, union-right, union-either}
-use Rattle.grammar.specs.Members.{true-false, none-in, some-not-none, member, single-in, single-is}
+use Rattle.grammar.specs.TestLaws.{by-test, true-false}
+use Rattle.grammar.specs.Members.{none-in, some-not-none, member, single-in, single-is}
 use Rattle.grammar.specs.Symbol.{Symbol, terminal, nonterminal, Rule, leftOf, rightOf, after}
 use Rattle.grammar.specs.Small.{Low, Small, low-after}
-use Rattle.grammar.specs.Fixpoint.{Constraint, setAt, least}
+use Rattle.grammar.specs.Fixpoint.{setAt}
 use Rattle.grammar.specs.LeastLaws.{Family, Within, none-family, none-within, Fits, least-family, least-closed, least-within}
 use Rattle.grammar.specs.First.{First, past}
 use Rattle.grammar.specs.FirstLaws.{Null, null-end, null-rule, Starts, starts-first, null-first}
@@ -55,20 +55,9 @@ module _ {G : List Rule} {F : Sets} (R : SetsRight G F) where
       → (dead F β ≡ false → null F (nonterminal B ∷ []) ≡ false → Q (setAt reached B))
       → Q (reachIn F reached (nonterminal B ∷ β))
   unfolding reachIn
-  by-reach reached B β Q none more only = go (dead F β) none (through (null F (nonterminal B ∷ [])) more only)
-    where
-      inner : Bool → ℕ
-      inner u = elim u [ true ↦ union (setAt reached B) (first F β) | false ↦ setAt reached B ]
-
-      through : (u : Bool) → (dead F β ≡ false → u ≡ true → Q (union (setAt reached B) (first F β))) → (dead F β ≡ false → u ≡ false → Q (setAt reached B))
-          → dead F β ≡ false → Q (inner u)
-      through true m o d = m d refl
-      through false m o d = o d refl
-
-      go : (t : Bool) → (t ≡ true → Q 0) → (t ≡ false → Q (inner (null F (nonterminal B ∷ []))))
-          → Q (elim t [ true ↦ 0 | false ↦ inner (null F (nonterminal B ∷ [])) ])
-      go true n m = n refl
-      go false n m = m refl
+  by-reach reached B β Q none more only =
+      by-test (dead F β) 0 _ Q none
+      (λ d. by-test (null F (nonterminal B ∷ [])) (union (setAt reached B) (first F β)) (setAt reached B) Q (more d) (only d))
 
   reach-lt : (reached : List ℕ) → Family 32 reached → (β : List Symbol) → Low β → reachIn F reached β < 2 ^ 32
   unfolding reachIn
@@ -152,12 +141,7 @@ module _ {G : List Rule} {F : Sets} (H : Small G) (R : SetsRight G F) where
   by-with : (β : List Symbol) (M : ℕ) (Q : ℕ → Type 0) → (null F β ≡ true → Q (union (reachIn F (reachSets G F) β) M))
       → (null F β ≡ false → Q (reachIn F (reachSets G F) β)) → Q (reachWith F (reachSets G F) β M)
   unfolding reachWith
-  by-with β M Q more only = go (null F β) more only
-    where
-      go : (t : Bool) → (t ≡ true → Q (union (reachIn F (reachSets G F) β) M)) → (t ≡ false → Q (reachIn F (reachSets G F) β))
-          → Q (elim t [ true ↦ union (reachIn F (reachSets G F) β) M | false ↦ reachIn F (reachSets G F) β ])
-      go true m o = m refl
-      go false m o = o refl
+  by-with β M Q = by-test (null F β) (union (reachIn F (reachSets G F) β) M) (reachIn F (reachSets G F) β) Q
 
   pub reaches-with : (P D M a c : ℕ) → M < 2 ^ 32 → bit M c ≡ true → Reaches G a P D c → bit (reachWith F (reachSets G F) (after G P D) M) a ≡ true
   reaches-with P D M a c m e r = by-with (after G P D) M (λ x. bit x a ≡ true) more only

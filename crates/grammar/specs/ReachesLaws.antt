@@ -3,12 +3,12 @@
 use Prim.Native.Nat.{ℕ, _<_}
 use mathlib.Core.Path.{_≡_, refl, sym, _∙_}
 use mathlib.Core.Logic.{_⊎_, inl, inr, ⊎-elim}
-use mathlib.Core.List.{List, [], _∷_}
+use mathlib.Core.List.{List, _∷_}
 use lib.ListN.{length}
 use Rattle.grammar.specs.Symbol.{Symbol, terminal, nonterminal, Rule, leftOf, rightOf, after}
 use Rattle.grammar.specs.First.{First}
 use Rattle.grammar.specs.FirstLaws.{Null, null-end, null-rule, Starts, first-shape, starts-first, null-first}
-use Rattle.grammar.specs.Items.{Derives, derives, Reaches, before, complete, further}
+use Rattle.grammar.specs.Items.{derives, Reaches, before, complete, further}
 
 module _ (G : List Rule) where
   -- what items with these symbols after their dots reach, whatever their lookaheads

@@ -3,6 +3,7 @@ pub mod Book
 pub mod ClosureSets
 pub mod Compiled
 pub mod CoreItems
+pub mod Decides
 pub mod First
 pub mod FirstSets
 pub mod Fixpoint

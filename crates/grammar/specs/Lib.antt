@@ -4,11 +4,15 @@ pub mod ClosureSets
 pub mod Compiled
 pub mod CoreItems
 pub mod Decides
+pub mod DecidesSteps
 pub mod First
 pub mod FirstSets
 pub mod Fixpoint
 pub mod Formula
+pub mod GoLines
 pub mod Items
+pub mod KernelLines
+pub mod KernelRulesLaws
 pub mod Limits
 pub mod ReachSets
 pub mod Slots
@@ -17,3 +21,4 @@ pub mod States
 pub mod StatesCheck
 pub mod Symbol
 pub mod Term
+pub mod WellNamed

@@ -1,5 +1,6 @@
 pub mod Actions
 pub mod Book
+pub mod ClosureBounds
 pub mod ClosureSets
 pub mod Compiled
 pub mod CoreItems

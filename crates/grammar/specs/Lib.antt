@@ -12,6 +12,7 @@ pub mod Fixpoint
 pub mod Formula
 pub mod GoLines
 pub mod Items
+pub mod ItemsRight
 pub mod KernelLines
 pub mod KernelRulesLaws
 pub mod Limits

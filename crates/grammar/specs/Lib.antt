@@ -11,12 +11,14 @@ pub mod FirstSets
 pub mod Fixpoint
 pub mod Formula
 pub mod GoLines
+pub mod GoRulesLaws
 pub mod Items
 pub mod ItemsRight
 pub mod KernelLines
 pub mod KernelRulesLaws
 pub mod Limits
 pub mod ReachSets
+pub mod SetOf
 pub mod Slots
 pub mod StateCases
 pub mod States

@@ -1,8 +1,10 @@
 pub mod Actions
 pub mod Book
+pub mod CellLaws
 pub mod ClosureBounds
 pub mod ClosureSets
 pub mod Compiled
+pub mod CompiledTables
 pub mod CoreItems
 pub mod Decides
 pub mod DecidesSteps

@@ -1,33 +1,30 @@
 -- The table of actions is right: its test decides that there is no conflict (9), and without one the table gives each action.
 -- Assumes what line order, limits and declared names give (WellNamed) and that the listed items are the closure (ItemsRight).
-use Prim.Native.Nat.{ℕ, zero, suc, _≤_, _<_, _-_}
+use Prim.Native.Nat.{ℕ, zero, suc, _≤_, _<_}
 use native.Mathlib.Omega.{arith}
 use mathlib.Core.Path.{_≡_, refl, ap}
 use mathlib.Core.Logic.{_≢_}
 use mathlib.Core.Bool.{Bool, true, false}
-use mathlib.Core.Option.{Option, some}
+use mathlib.Core.Option.{some}
 use mathlib.Core.List.{List, [], _∷_, List·Memᴰ as Mem}
 use lib.Dec.{ltb}
 use lib.ListN.{length, getD, length-drop}
 use lib.Seq.{drop-length}
 use borrow.Author.Tests.{ltb-true, ltb-false}
-use Rattle.sets.specs.Sets.{bit}
-use Rattle.grammar.specs.Symbol.{Rule, rightOf, after}
+use Rattle.grammar.specs.Symbol.{rightOf, after}
 use Rattle.grammar.specs.Book.{Book}
 use Rattle.grammar.specs.Items.{Closure}
 use Rattle.grammar.specs.States.{Action, accept, reduce, Acts, shifts, reduces, accepts, NoConflict}
 use Rattle.grammar.specs.FirstSets.{Sets}
 use Rattle.grammar.specs.CoreItems.{Core, core, coreItems}
-use Rattle.grammar.specs.Actions.{Cell, free, act, conflict, completed, cellFrom, noConflictIn, actionOf}
+use Rattle.grammar.specs.Actions.{Cell, free, act, conflict, completed, noConflictIn, actionOf}
 use Rattle.grammar.specs.Compiled.{itemsTable, cellsTable, noConflict}
 use Rattle.grammar.specs.CompiledTables.{cellAt, cell-at, state-past, terminal-past}
 use Rattle.grammar.specs.ItemsRight.{ItemsRight}
 use Rattle.grammar.specs.Decides.{Decides, true-decides, false-decides, equivalent, then-decides}
 use Rattle.grammar.specs.WellNamed.{WellNamed}
 use Rattle.grammar.specs.ClosureBounds.{next-terminal, closure-state, closure-dot, closure-terminal}
-use Rattle.grammar.specs.CellLaws.{
-  Sums, no-action, sums-same, Gives, shifts as item-shifts, completes, Given, cell-sums, one-at-most, not-conflict, found-given, given-found
-}
+use Rattle.grammar.specs.CellLaws.{Sums, no-action, sums-same, Gives, shifts as item-shifts, completes, Given, cell-sums, one-at-most, not-conflict, found-given, given-found}
 
 -- ---- the test finds every conflict of a table
 

@@ -2,7 +2,7 @@
 -- Assumes what line order, limits and declared names give (WellNamed) and that the listed items are the closure (ItemsRight).
 use Prim.Native.Nat.{ℕ, zero, suc, _≤_, _<_, _-_}
 use native.Mathlib.Omega.{arith}
-use mathlib.Core.Path.{_≡_, refl, sym, _∙_}
+use mathlib.Core.Path.{_≡_, refl, _∙_}
 use mathlib.Core.Bool.{Bool, true, false, _&&_}
 use mathlib.Core.Option.{Option, none, some}
 use mathlib.Core.List.{List, [], _∷_, List·Memᴰ as Mem, List·Memᴰ·head as in-head, List·Memᴰ·not-nil as not-in-nil}
@@ -12,19 +12,17 @@ use Rattle.sets.specs.Sets.{bit, subset}
 use Rattle.grammar.specs.Symbol.{Symbol, Rule, after}
 use Rattle.grammar.specs.Book.{Book, Kernel, Go}
 use Rattle.grammar.specs.Items.{KernelItem, kernel-item, Closure}
-use Rattle.grammar.specs.States.{sameSymbol, goIn, goTo, GoRules}
+use Rattle.grammar.specs.States.{goIn, goTo, GoRules}
 use Rattle.grammar.specs.FirstSets.{Sets}
 use Rattle.grammar.specs.ClosureSets.{setOf, kernelsIn}
 use Rattle.grammar.specs.CoreItems.{Core, core, coreItems}
-use Rattle.grammar.specs.StatesCheck.{
-  holdsItem, advancesTo, advances, allAdvance, nextIs, comesFrom, allCome, someKernel, goLines, statesAdvance, goRules
-}
+use Rattle.grammar.specs.StatesCheck.{holdsItem, advancesTo, advances, allAdvance, nextIs, comesFrom, allCome, someKernel, goLines, statesAdvance, goRules}
 use Rattle.grammar.specs.Compiled.{itemsTable, itemsAt}
 use Rattle.grammar.specs.CompiledTables.{items-at, items-past}
 use Rattle.grammar.specs.ItemsRight.{ItemsRight}
 use Rattle.grammar.specs.Decides.{Decides, true-decides, false-decides, equivalent, le-decides, eq-decides, and-decides}
 use Rattle.grammar.specs.DecidesSteps.{All, Some, all-nil, all-cons, some-nil, some-cons, below-zero, below-suc}
-use Rattle.grammar.specs.WellNamed.{WellNamed, SameItem, one-kernel}
+use Rattle.grammar.specs.WellNamed.{WellNamed, one-kernel}
 use Rattle.grammar.specs.SetOf.{within-decides}
 use Rattle.grammar.specs.KernelLines.{LineOf, line-of, in-state}
 use Rattle.grammar.specs.GoLines.{sameSymbol-decides, LineTo, go-line, go-there}
@@ -130,7 +128,7 @@ goLines-decides b items [] = all-nil
 goLines-decides b items (g ∷ gs) =
     all-cons
     (and-decides (someKernel-decides (kernelsIn (b .kernels) (g .target)))
-     (allCome-decides (b .rules) (g .symbol) (items (g .state)) (kernelsIn (b .kernels) (g .target))))
+    (allCome-decides (b .rules) (g .symbol) (items (g .state)) (kernelsIn (b .kernels) (g .target))))
     (goLines-decides b items gs)
 
 -- the kernel line of an item's state, rule and dot has its lookahead
@@ -142,8 +140,7 @@ in-line w (kernel-item {k = l} m s r d i) k n s′ r′ d′ =
 -- ---- the test of the go rules, by any table of the listed items
 
 module _ {b : Book} {F : Sets} {R : List ℕ} (w : WellNamed b) (right : ItemsRight b F R) (items : ℕ → List Core)
-         (listed : (S : ℕ) → S < b .states → items S ≡ coreItems b F S) where
-
+    (listed : (S : ℕ) → S < b .states → items S ≡ coreItems b F S) where
   -- what the two tests decide
   record Tested : Type 0 where
     states-advance : (S : ℕ) → S < b .states → All (ItemAdvances b S) (items S)

@@ -4,7 +4,13 @@ use Prim.Native.Nat.{ℕ}
 use mathlib.Core.Path.{_≡_, refl}
 use mathlib.Core.Bool.{Bool, true, false}
 use mathlib.Core.List.{
-  List, [], _∷_, List·Memᴰ as Mem, List·Memᴰ·head as in-head, List·Memᴰ·tail as in-tail, List·Memᴰ·not-nil as not-in-nil
+  List,
+  [],
+  _∷_,
+  List·Memᴰ as Mem,
+  List·Memᴰ·head as in-head,
+  List·Memᴰ·tail as in-tail,
+  List·Memᴰ·not-nil as not-in-nil,
 }
 use lib.Dec.{eqb}
 use borrow.Author.Tests.{eqb-true, eq-eqb}

@@ -4,7 +4,7 @@ use Prim.Native.Nat.{ℕ, _≤_, _<_}
 use mathlib.Core.Path.{_≡_, sym}
 use mathlib.Core.List.{List, [], _∷_, List·Memᴰ as Mem, List·Memᴰ·head as in-head, List·Memᴰ·tail as in-tail, List·Memᴰ·not-nil as not-in-nil}
 use lib.ListN.{length}
-use Rattle.grammar.specs.Symbol.{Symbol, terminal, Rule, rightOf}
+use Rattle.grammar.specs.Symbol.{terminal, Rule, rightOf}
 use Rattle.grammar.specs.Book.{Book, Kernel, Go}
 
 -- no element is the same, in the sense given, as one behind it
@@ -27,9 +27,8 @@ pub record WellNamed (b : Book) : Type 0 where
   -- 2: lines ascend strictly
   pub distinct-kernels : Distinct SameItem (b .kernels)
   pub distinct-goes : Distinct SameGo (b .goes)
-  -- 3: "T .. 1 to 31, Q 1 to 128"
+  -- 3: "T and N are 1 to 31"
   pub terminals-fit : b .terminals < 32
-  pub some-state : 0 < b .states
   -- 4: "undeclared name, rule, position or state; dot past the end"
   pub kernel-states : (k : Kernel) → Mem k (b .kernels) → k .state < b .states
   pub kernel-dots : (k : Kernel) → Mem k (b .kernels) → k .dot ≤ length (rightOf (b .rules) (k .rule))

@@ -24,7 +24,8 @@ use Rattle.grammar.specs.ItemsRight.{ItemsRight}
 use Rattle.grammar.specs.Decides.{Decides, true-decides, false-decides, equivalent, then-decides}
 use Rattle.grammar.specs.WellNamed.{WellNamed}
 use Rattle.grammar.specs.ClosureBounds.{next-terminal, closure-state, closure-dot, closure-terminal}
-use Rattle.grammar.specs.CellLaws.{Sums, no-action, sums-same, Gives, shifts as item-shifts, completes, Given, cell-sums, one-at-most, not-conflict, found-given, given-found}
+use Rattle.grammar.specs.CellLaws.{Sums, no-action, sums-same, one-at-most, not-conflict, found-given, given-found}
+use Rattle.grammar.specs.CellLaws.{Gives, shifts as item-shifts, completes, Given, cell-sums}
 
 -- ---- the test finds every conflict of a table
 
@@ -130,7 +131,7 @@ module _ {b : Book} {F : Sets} {R : List ℕ} (w : WellNamed b) (right : ItemsRi
       (λ h S a. not-conflict (cell-right S a) (h S a))
       (noConflict-finds b (cellsTable b (itemsTable b F)))
 
-  -- the action of a state at a terminal
+  -- the action that the table gives at a state and a terminal is one of the state, and without a conflict it gives each
   pub found-acts : (S a : ℕ) (x : Action) → actionOf (cellAt (cellsTable b (itemsTable b F)) S a) ≡ some x → Acts b S a x
   found-acts S a = found-given (cell-right S a)
 

@@ -1,13 +1,17 @@
 pub mod Actions
+pub mod ActionsLaws
 pub mod AfterLaws
 pub mod Book
 pub mod CaseBooks
 pub mod Cases
 pub mod CasesProof
+pub mod CellLaws
 pub mod Chains
+pub mod ClosureBounds
 pub mod ClosureLaws
 pub mod ClosureSets
 pub mod Compiled
+pub mod CompiledTables
 pub mod Complete
 pub mod ConditionCases
 pub mod ConditionTests
@@ -17,6 +21,7 @@ pub mod ConditionsLaws
 pub mod CoreItems
 pub mod CoreItemsLaws
 pub mod Decides
+pub mod DecidesSteps
 pub mod Decorate
 pub mod Decorated
 pub mod DecoratedLaws
@@ -37,9 +42,13 @@ pub mod FixpointLaws
 pub mod Formula
 pub mod FormulaTable
 pub mod GoLaws
+pub mod GoLines
+pub mod GoRulesLaws
 pub mod Items
 pub mod ItemsRight
 pub mod ItemsRightLaws
+pub mod KernelLines
+pub mod KernelRulesLaws
 pub mod LeastLaws
 pub mod LeavesLaws
 pub mod Limits
@@ -75,6 +84,7 @@ pub mod RowsLaws
 pub mod RunLaws
 pub mod Runs
 pub mod SectionLaws
+pub mod SetOf
 pub mod Simulate
 pub mod Slots
 pub mod Small
@@ -88,3 +98,4 @@ pub mod TermLaws
 pub mod TestLaws
 pub mod Tree
 pub mod TreeLaws
+pub mod WellNamed

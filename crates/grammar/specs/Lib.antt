@@ -1,5 +1,6 @@
 pub mod Actions
 pub mod Book
+pub mod ChainLaws
 pub mod ClosureSets
 pub mod Compiled
 pub mod CoreItems
@@ -15,6 +16,7 @@ pub mod Machine
 pub mod ReachSets
 pub mod Rows
 pub mod RowsLaws
+pub mod SameFormula
 pub mod Slots
 pub mod StateCases
 pub mod States

@@ -9,8 +9,10 @@ pub mod Decorated
 pub mod First
 pub mod FirstSets
 pub mod Fixpoint
+pub mod FixpointLaws
 pub mod Formula
 pub mod Items
+pub mod ItemsRight
 pub mod Limits
 pub mod Machine
 pub mod ReachSets

@@ -20,6 +20,7 @@ pub mod Rows
 pub mod RowsLaws
 pub mod SameFormula
 pub mod Slots
+pub mod SlotsFill
 pub mod StateCases
 pub mod States
 pub mod StatesCheck

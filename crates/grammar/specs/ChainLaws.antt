@@ -1,7 +1,7 @@
 -- Chains and partial states (01, "Partial states and chains"): the items of a partial state are the last items of its chains; what one chain says
 -- of a state and a terminal; the one-formula condition of one partial state. Assumes nothing.
 use Prim.Native.Nat.{ℕ}
-use mathlib.Core.Path.{_≡_, refl}
+use mathlib.Core.Path.{_≡_, _∙_}
 use mathlib.Core.List.{List, _∷_}
 use Rattle.grammar.specs.Symbol.{Symbol, nonterminal, after}
 use Rattle.grammar.specs.Book.{Book, inheritedOwner}
@@ -41,8 +41,7 @@ module _ (b : Book) where
       → formula b chain K ≡ formula b chain′ K
 
   -- where the chains agree, each gives what any of them gives
-  pub from-chain-same : {S a P D c : ℕ} {β : List Symbol} (K : ℕ) {f : Formula} → OneFormula S a → (chain : Chain b S a P D c)
-      → after (b .rules) P D ≡ nonterminal (inheritedOwner b K) ∷ β → FromChain S a K f → formula b chain K ≡ f
-  from-chain-same {P = P} {D = D} {c = c} {β = β} K agree chain h (from-chain {P = P′} {D = D′} {c = c′} {β = β′} chain′ h′ e) =
-      let same : formula b chain K ≡ formula b chain′ K = agree P D c P′ D′ c′ (inheritedOwner b K) K β β′ chain chain′ h h′ refl in
-      cc
+  pub from-chain-same : {S a P D c B : ℕ} {β : List Symbol} (K : ℕ) {f : Formula} → OneFormula S a → (chain : Chain b S a P D c)
+      → after (b .rules) P D ≡ nonterminal B ∷ β → inheritedOwner b K ≡ B → FromChain S a K f → formula b chain K ≡ f
+  from-chain-same {P = P} {D = D} {c = c} {B = B} {β = β} K agree chain h o (from-chain {P = P′} {D = D′} {c = c′} {β = β′} chain′ h′ e) =
+      agree P D c P′ D′ c′ B K β β′ chain chain′ h (rw o at h′) o ∙ e

@@ -11,6 +11,7 @@ pub mod FirstSets
 pub mod Fixpoint
 pub mod FixpointLaws
 pub mod Formula
+pub mod FormulaPremises
 pub mod Items
 pub mod ItemsRight
 pub mod Limits
@@ -21,6 +22,8 @@ pub mod RowsLaws
 pub mod SameFormula
 pub mod Slots
 pub mod SlotsFill
+pub mod SlotsLaws
+pub mod SlotsTests
 pub mod StateCases
 pub mod States
 pub mod StatesCheck

@@ -44,6 +44,17 @@ pub and-decides : {s t : Bool} {A B : Type 0} → Decides s A → Decides t B �
 and-decides {s = true} p q = then-decides p q
 and-decides {s = false} p q = then-decides p q
 
+pub and3-decides : {r s t : Bool} {A B C : Type 0} → Decides r A → Decides s B → Decides t C → Decides (r && s && t) (A × B × C)
+and3-decides p q r = equivalent (λ ((x, y), z). (x, y, z)) (λ (x, y, z). ((x, y), z)) (and-decides (and-decides p q) r)
+
+pub and4-decides : {q r s t : Bool} {A B C D : Type 0} → Decides q A → Decides r B → Decides s C → Decides t D
+    → Decides (q && r && s && t) (A × B × C × D)
+and4-decides p q r s = equivalent (λ ((w, x, y), z). (w, x, y, z)) (λ (w, x, y, z). ((w, x, y), z)) (and-decides (and3-decides p q r) s)
+
+pub and5-decides : {p q r s t : Bool} {A B C D E : Type 0} → Decides p A → Decides q B → Decides r C → Decides s D → Decides t E
+    → Decides (p && q && r && s && t) (A × B × C × D × E)
+and5-decides p q r s t = equivalent (λ ((v, w, x, y), z). (v, w, x, y, z)) (λ (v, w, x, y, z). ((v, w, x, y), z)) (and-decides (and4-decides p q r s) t)
+
 -- the second test where the first holds
 pub if-decides : {s t : Bool} {A B : Type 0} → Decides s A → Decides t B → Decides (elim s [ true ↦ t | false ↦ true ]) (A → B)
 if-decides {s = true} p q = equivalent (λ b a. b) (λ f. f (p .sound refl)) q
@@ -113,6 +124,19 @@ allBelow-decides {f} {P} d (suc n) = equivalent join (λ h. (λ i l. h i (omega 
         go true e = rw (eqb-true i n e) (h .1)
         go false e = let d : i ≡ n → ⊥ = eqb-false i n e in h .0 i (omega arith)
 
+-- the test holds of every number that is 1 to n
+unfoldable pub allOneTo : ℕ → (ℕ → Bool) → Bool
+allOneTo n f = allBelow n λ i. f (suc i)
+
+pub allOneTo-decides : {f : ℕ → Bool} {P : ℕ → Type 0} → ((k : ℕ) → Decides (f k) (P k)) → (n : ℕ) → Decides (allOneTo n f) ((k : ℕ) → OneTo n k → P k)
+unfolding allOneTo
+allOneTo-decides {f} {P} d n =
+    equivalent join (λ h i l. h (suc i) (record { low = omega arith; high = omega arith })) (allBelow-decides (λ i. d (suc i)) n)
+  where
+    join : ((i : ℕ) → i < n → P (suc i)) → (k : ℕ) → OneTo n k → P k
+    join h zero l = absurd (omega arith)
+    join h (suc i) l = h i (omega arith)
+
 -- how often the number k stands in the list
 unfoldable pub count : ℕ → List ℕ → ℕ
 count k [] = 0
@@ -147,5 +171,5 @@ few-decides n (x ∷ l) = equivalent join split (then-decides (lt-decides (count
 
 -- opens every definition of this module
 unfoldable pub opens : Unit {0}
-unfolding oneTo all any allBelow count few
+unfolding oneTo all any allBelow allOneTo count few
 opens = tt

@@ -3,9 +3,14 @@ pub mod Book
 pub mod ChainLaws
 pub mod ClosureSets
 pub mod Compiled
+pub mod ConditionTests
+pub mod ConditionTestsLaws
+pub mod Conditions
+pub mod ConditionsLaws
 pub mod CoreItems
 pub mod Decides
 pub mod Decorated
+pub mod DefinitionLaws
 pub mod First
 pub mod FirstSets
 pub mod Fixpoint
@@ -14,6 +19,7 @@ pub mod Formula
 pub mod FormulaPremises
 pub mod Items
 pub mod ItemsRight
+pub mod LeavesLaws
 pub mod Limits
 pub mod Machine
 pub mod ReachSets

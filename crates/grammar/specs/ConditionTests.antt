@@ -1,0 +1,141 @@
+-- The conditions 3 to 6 as tests that compute; `ConditionTestsLaws` says that they decide `Conditions`.
+-- Assumes nothing.
+use Prim.Native.Nat.{ℕ, _+_}
+use mathlib.Core.Bool.{Bool, true, false, _&&_}
+use mathlib.Core.List.{List, [], _∷_}
+use lib.Dec.{leb, ltb, eqb}
+use lib.ListN.{length}
+use Rattle.grammar.specs.Decides.{oneTo, all, any, allBelow, allOneTo, few}
+use Rattle.grammar.specs.Limits.{
+  MAX-TERMINALS, MAX-NONTERMINALS, MAX-STATES, MAX-INHERITED, MAX-SYNTHESIZED, MAX-OWNED, MAX-RULES, MAX-RIGHT, MAX-DEFINITIONS, MAX-NODES, MAX-KERNELS,
+  MAX-STATE-KERNELS, MAX-GOES
+}
+use Rattle.grammar.specs.Symbol.{Symbol, terminal, nonterminal, leftOf, rightOf, symbolAt}
+use Rattle.grammar.specs.Term.{Term, number, leaf, both, pick, nodes}
+use Rattle.grammar.specs.Book.{
+  Place, own, at, val, InheritedDefinition, SynthesizedDefinition, Kernel, Go, Book, inheritedOwner, synthesizedOwner
+}
+use Rattle.grammar.specs.Conditions.{kernelStates}
+
+-- the test holds of every leaf
+unfoldable pub allLeaves : {A : Type 0} → (A → Bool) → Term A → Bool
+allLeaves f (number n) = true
+allLeaves f (leaf a) = f a
+allLeaves f (both o s t) = elim (allLeaves f s) [ true ↦ allLeaves f t | false ↦ false ]
+allLeaves f (pick c s t) = elim (allLeaves f c) [ true ↦ elim (allLeaves f s) [ true ↦ allLeaves f t | false ↦ false ] | false ↦ false ]
+
+unfoldable pub isNonterminal : ℕ → Symbol → Bool
+isNonterminal A (terminal t) = false
+isNonterminal A (nonterminal B) = eqb B A
+
+unfoldable pub isTerminal : Symbol → Bool
+isTerminal (terminal t) = true
+isTerminal (nonterminal A) = false
+
+unfoldable pub oneNonterminal : List Symbol → Bool
+oneNonterminal [] = false
+oneNonterminal (terminal t ∷ β) = false
+oneNonterminal (nonterminal B ∷ []) = true
+oneNonterminal (nonterminal B ∷ X ∷ β) = false
+
+unfoldable pub before : ℕ → Place → Bool
+before J (own K) = true
+before J (at I K) = ltb I J
+before J (val I) = ltb I J
+
+module _ (b : Book) where
+  -- 3
+  unfoldable pub withinLimits : Bool
+  withinLimits =
+      (oneTo MAX-TERMINALS (b .terminals) && oneTo MAX-NONTERMINALS (b .nonterminals) && oneTo MAX-STATES (b .states))
+      && (leb (length (b .inheritedOwners)) MAX-INHERITED && leb (length (b .synthesizedOwners)) MAX-SYNTHESIZED
+        && few MAX-OWNED (b .inheritedOwners) && few MAX-OWNED (b .synthesizedOwners))
+      && (oneTo MAX-RULES (length (b .rules)) && all (λ r. leb (length (r .right)) MAX-RIGHT) (b .rules))
+      && (leb (length (b .inheritedDefinitions) + length (b .synthesizedDefinitions)) MAX-DEFINITIONS
+        && all (λ d. leb (nodes (d .expression)) MAX-NODES) (b .inheritedDefinitions)
+        && all (λ d. leb (nodes (d .expression)) MAX-NODES) (b .synthesizedDefinitions))
+      && (leb (length (b .kernels)) MAX-KERNELS && few MAX-STATE-KERNELS (kernelStates b) && leb (length (b .goes)) MAX-GOES)
+
+  -- 4, each line
+  unfoldable pub rightSymbol : Symbol → Bool
+  rightSymbol (terminal t) = oneTo (b .terminals) t
+  rightSymbol (nonterminal A) = oneTo (b .nonterminals) A
+
+  unfoldable pub goSymbol : Symbol → Bool
+  goSymbol (terminal t) = oneTo (b .terminals) t
+  goSymbol (nonterminal A) = leb A (b .nonterminals)
+
+  unfoldable pub isPosition : ℕ → ℕ → Bool
+  isPosition P J = oneTo (length (rightOf (b .rules) P)) J
+
+  unfoldable pub declaredPlace : ℕ → Place → Bool
+  declaredPlace P (own K) = ltb K (length (b .inheritedOwners))
+  declaredPlace P (at J K) = isPosition P J && ltb K (length (b .synthesizedOwners))
+  declaredPlace P (val J) = isPosition P J
+
+  unfoldable pub declaredInherited : InheritedDefinition → Bool
+  declaredInherited d = ltb (d .rule) (length (b .rules)) && isPosition (d .rule) (d .position)
+      && ltb (d .attribute) (length (b .inheritedOwners)) && allLeaves (declaredPlace (d .rule)) (d .expression)
+
+  unfoldable pub declaredSynthesized : SynthesizedDefinition → Bool
+  declaredSynthesized d = ltb (d .rule) (length (b .rules)) && ltb (d .attribute) (length (b .synthesizedOwners))
+      && allLeaves (declaredPlace (d .rule)) (d .expression)
+
+  unfoldable pub declaredKernel : Kernel → Bool
+  declaredKernel k = ltb (k .state) (b .states) && ltb (k .rule) (length (b .rules)) && leb (k .dot) (length (rightOf (b .rules) (k .rule)))
+      && all (λ t. leb t (b .terminals)) (k .lookaheads)
+
+  unfoldable pub declaredGo : Go → Bool
+  declaredGo g = ltb (g .state) (b .states) && goSymbol (g .symbol) && ltb (g .target) (b .states)
+
+  -- 4
+  unfoldable pub declared : Bool
+  declared =
+      (all (oneTo (b .nonterminals)) (b .inheritedOwners) && all (oneTo (b .nonterminals)) (b .synthesizedOwners))
+      && (eqb (leftOf (b .rules) 0) 0 && oneNonterminal (rightOf (b .rules) 0)
+        && allBelow (length (b .rules)) (λ P. elim (ltb 0 P) [ true ↦ oneTo (b .nonterminals) (leftOf (b .rules) P) | false ↦ true ])
+        && all (λ r. all rightSymbol (r .right)) (b .rules))
+      && (all declaredInherited (b .inheritedDefinitions) && all declaredSynthesized (b .synthesizedDefinitions))
+      && (all declaredKernel (b .kernels) && all declaredGo (b .goes))
+
+  -- 5, each line
+  unfoldable pub nonterminalAt : ℕ → ℕ → ℕ → Bool
+  nonterminalAt P J A = isNonterminal A (symbolAt (b .rules) P J)
+
+  unfoldable pub ownedPlace : ℕ → Place → Bool
+  ownedPlace P (own K) = eqb (inheritedOwner b K) (leftOf (b .rules) P)
+  ownedPlace P (at J K) = nonterminalAt P J (synthesizedOwner b K)
+  ownedPlace P (val J) = isTerminal (symbolAt (b .rules) P J)
+
+  unfoldable pub ownedInherited : InheritedDefinition → Bool
+  ownedInherited d = nonterminalAt (d .rule) (d .position) (inheritedOwner b (d .attribute)) && allLeaves (ownedPlace (d .rule)) (d .expression)
+      && allLeaves (before (d .position)) (d .expression)
+
+  unfoldable pub ownedSynthesized : SynthesizedDefinition → Bool
+  ownedSynthesized d = eqb (synthesizedOwner b (d .attribute)) (leftOf (b .rules) (d .rule)) && allLeaves (ownedPlace (d .rule)) (d .expression)
+
+  -- 5
+  unfoldable pub owned : Bool
+  owned = all ownedInherited (b .inheritedDefinitions) && all ownedSynthesized (b .synthesizedDefinitions)
+
+  -- 6, each place: some line defines it
+  unfoldable pub definesInherited : ℕ → ℕ → ℕ → Bool
+  definesInherited P J K = any (λ d. eqb (d .rule) P && eqb (d .position) J && eqb (d .attribute) K) (b .inheritedDefinitions)
+
+  unfoldable pub definesSynthesized : ℕ → ℕ → Bool
+  definesSynthesized P K = any (λ d. eqb (d .rule) P && eqb (d .attribute) K) (b .synthesizedDefinitions)
+
+  -- 6
+  unfoldable pub defined : Bool
+  defined =
+      allBelow (length (b .rules)) (λ P. allOneTo (length (rightOf (b .rules) P)) λ J. allBelow (length (b .inheritedOwners)) λ K.
+        elim (nonterminalAt P J (inheritedOwner b K)) [ true ↦ definesInherited P J K | false ↦ true ])
+      && allBelow (length (b .rules)) (λ P. allBelow (length (b .synthesizedOwners)) λ K.
+        elim (eqb (synthesizedOwner b K) (leftOf (b .rules) P)) [ true ↦ definesSynthesized P K | false ↦ true ])
+
+-- opens every definition of this module
+unfoldable pub opens : Unit {0}
+unfolding allLeaves isNonterminal isTerminal oneNonterminal before withinLimits rightSymbol goSymbol isPosition declaredPlace declaredInherited
+  declaredSynthesized declaredKernel declaredGo declared nonterminalAt ownedPlace ownedInherited ownedSynthesized owned definesInherited
+  definesSynthesized defined
+opens = tt

@@ -1,6 +1,7 @@
 pub mod Actions
 pub mod Book
 pub mod ChainLaws
+pub mod ClosureBounds
 pub mod ClosureSets
 pub mod Compiled
 pub mod ConditionTests
@@ -9,6 +10,7 @@ pub mod Conditions
 pub mod ConditionsLaws
 pub mod CoreItems
 pub mod Decides
+pub mod DecidesSteps
 pub mod Decorated
 pub mod DefinitionLaws
 pub mod First
@@ -17,8 +19,12 @@ pub mod Fixpoint
 pub mod FixpointLaws
 pub mod Formula
 pub mod FormulaPremises
+pub mod GoLines
+pub mod GoRulesLaws
 pub mod Items
 pub mod ItemsRight
+pub mod KernelLines
+pub mod KernelRulesLaws
 pub mod LeavesLaws
 pub mod Limits
 pub mod Machine
@@ -26,6 +32,7 @@ pub mod ReachSets
 pub mod Rows
 pub mod RowsLaws
 pub mod SameFormula
+pub mod SetOf
 pub mod Slots
 pub mod SlotsFill
 pub mod SlotsLaws
@@ -37,3 +44,4 @@ pub mod Symbol
 pub mod Term
 pub mod TermLaws
 pub mod Tree
+pub mod WellNamed

@@ -1,11 +1,11 @@
--- Chains and partial states (01, "Partial states and chains"): the items of a partial state are the last items of its chains; what one chain says
--- of a state and a terminal; the one-formula condition of one partial state. Assumes nothing.
+-- Chains and partial states (01, "Partial states and chains"): the items of a partial state are the last items of its chains; the
+-- one-formula condition of one partial state. Assumes nothing.
 use Prim.Native.Nat.{ℕ}
 use mathlib.Core.Path.{_≡_, _∙_}
 use mathlib.Core.List.{List, _∷_}
 use Rattle.grammar.specs.Symbol.{Symbol, nonterminal, after}
 use Rattle.grammar.specs.Book.{Book, inheritedOwner}
-use Rattle.grammar.specs.Items.{Reaches, further, KernelItem, Closure, kernel, close, Partial, Chain, one, longer}
+use Rattle.grammar.specs.Items.{Reaches, further, Closure, kernel, close, Partial, Chain, one, longer}
 use Rattle.grammar.specs.Formula.{Formula, formula}
 
 module _ (b : Book) where
@@ -23,11 +23,6 @@ module _ (b : Book) where
   pub chain-to : {S a P D c : ℕ} → Closure b S P D c → Reaches (b .rules) a P D c → Chain b S a P D c
   chain-to (kernel k) r = one k r
   chain-to (close closure e) r = longer (chain-to closure (further e r)) e r
-
-  -- the item that a chain begins with
-  pub chain-kernel : {S a P D c : ℕ} → Chain b S a P D c → (P′ : ℕ) × (D′ : ℕ) × (c′ : ℕ) × KernelItem b S P′ D′ c′ × Reaches (b .rules) a P′ D′ c′
-  chain-kernel (one {P = P} {D = D} {c = c} k r) = (P, D, c, k, r)
-  chain-kernel (longer chain e r) = chain-kernel chain
 
   -- f is the formula of some chain of (S, a) that ends before the owner of K
   pub data FromChain (S a K : ℕ) (f : Formula) : Type 0 where

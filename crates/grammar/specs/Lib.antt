@@ -28,6 +28,7 @@ pub mod KernelRulesLaws
 pub mod LeavesLaws
 pub mod Limits
 pub mod Machine
+pub mod PartialLaws
 pub mod ReachSets
 pub mod Rows
 pub mod RowsLaws

@@ -21,31 +21,10 @@ use Rattle.grammar.specs.CoreItems.{Core, core}
 use Rattle.grammar.specs.Slots.{Slots, slotAt, standing, ownAt, attributes, ready, slotsOf, agrees}
 use Rattle.grammar.specs.SlotsFill.{Filled, Each, slots-each, slots-filled}
 use Rattle.grammar.specs.SlotsTests.{settledBelow-decides, GivesStanding, agrees-decides}
+use Rattle.grammar.specs.PartialLaws.{PartialItems}
 use Rattle.grammar.specs.FormulaPremises.{OwnLeft, FormulaPremises}
 
--- the items at the ends of the chains of (S, a) are those of the list
-pub record PartialItems (b : Book) (S a : ℕ) (items : List Core) : Type 0 where
-  pub item-chain : (P D M : ℕ) → Mem (core P D M) items → (c : ℕ) × Chain b S a P D c
-  pub chain-item : (P D c : ℕ) → Chain b S a P D c → (M : ℕ) × Mem (core P D M) items
-
-drop-member : {A : Type 0} (D : ℕ) (l : List A) {x : A} → Mem x (drop D l) → Mem x l
-drop-member zero l m = m
-drop-member (suc D) [] m = m
-drop-member (suc D) (y ∷ l) m = in-tail (drop-member D l m)
-
--- what is below the default is an element
-getD-below : (l : List ℕ) (n d : ℕ) → getD l n d < d → n < length l
-getD-below [] n d h = absurd (omega arith)
-getD-below (x ∷ l) zero d h = omega arith
-getD-below (x ∷ l) (suc n) d h = let below = getD-below l n d h in omega arith
-
 module _ (b : Book) (H : FormulaPremises b) where
-  -- an attribute of a nonterminal that stands after a dot is one of the book's
-  owned-below : (P D : ℕ) {B : ℕ} {β : List Symbol} (K : ℕ) → after (b .rules) P D ≡ nonterminal B ∷ β → inheritedOwner b K ≡ B → K < attributes b
-  owned-below P D {B} K h o =
-      let small : B < 32 = H .right-nonterminals P B (drop-member D (rightOf (b .rules) P) (rw h (in-head refl))) in
-      getD-below (b .inheritedOwners) K 32 (rw o small)
-
   -- ---------------------------------------------------------------- what an item gives
 
   -- it goes only by what own of its rule's left side becomes
@@ -85,10 +64,10 @@ module _ (b : Book) (H : FormulaPremises b) where
     unfolding formula
     agrees-stands slots agree (one {P = P} {D = D} {c = c} k r) K h o =
         let (M, m) = L .chain-item P D c (one k r) in
-        agrees-decides b slots items .sound agree P D M m _ _ h K (owned-below P D K h o) o ∙ ap some (kernel-gives slots S P D c k K)
+        agrees-decides b slots items .sound agree P D M m _ _ h K (H .next-owned P D _ K _ h o) o ∙ ap some (kernel-gives slots S P D c k K)
     agrees-stands slots agree (longer {Q = Q} {d = d} chain (derives g p q f) r) K h o =
         let (M, m) = L .chain-item Q 0 d (longer chain (derives g p q f) r) in
-        agrees-decides b slots items .sound agree Q 0 M m _ _ h K (owned-below Q 0 K h o) o
+        agrees-decides b slots items .sound agree Q 0 M m _ _ h K (H .next-owned Q 0 _ K _ h o) o
         ∙ ap some (derived-gives slots Q (formula b chain) (λ J u. agrees-stands slots agree chain J g (u ∙ q)) K)
 
     pub agrees-one-formula : (slots : Slots) → agrees b slots items ≡ true → OneFormula b S a
@@ -105,7 +84,7 @@ module _ (b : Book) (H : FormulaPremises b) where
     ready-filled {P} {D} {c} {B} {β} chain K r h o =
         let (M, m) = L .chain-item P D c chain in
         let limit = H .attributes-limit in
-        slots-filled b items (omega arith) P D M B K β m h r (owned-below P D K h o) o
+        slots-filled b items (omega arith) P D M B K β m h r (H .next-owned P D _ K _ h o) o
 
     -- and all chains are ready in the end
     slots-ready : {P D c : ℕ} → Chain b S a P D c → ready b (slotsOf b items) P D ≡ true
@@ -139,7 +118,7 @@ module _ (b : Book) (H : FormulaPremises b) where
           stand : (J : ℕ) → inheritedOwner b J ≡ leftOf (b .rules) Q → slotAt s J ≡ some (formula b chain J)
           stand J o =
               let owner : inheritedOwner b J ≡ B = o ∙ q in
-              let (f, e) = settledBelow-decides (b .inheritedOwners) s (leftOf (b .rules) Q) (attributes b) .sound settled J (owned-below P D J g owner) o in
+              let (f, e) = settledBelow-decides (b .inheritedOwners) s (leftOf (b .rules) Q) (attributes b) .sound settled J (H .next-owned P D B J _ g owner) o in
               e ∙ ap some (sym (from-chain-same b J agree chain g owner (each J f e)))
 
       -- what stands in a slot is the formula of a chain

@@ -6,7 +6,8 @@ use mathlib.Core.Path.{_≡_, refl, sym, _∙_}
 use mathlib.Core.Bool.{Bool, true, false, _&&_}
 use mathlib.Core.Option.{Option, none, some}
 use mathlib.Core.List.{List, [], _∷_, List·Memᴰ as Mem, List·Memᴰ·head as in-head, List·Memᴰ·not-nil as not-in-nil}
-use lib.Dec.{eqb}
+use lib.Dec.{eqb, ltb}
+use borrow.Author.Tests.{ltb-true, ltb-false}
 use Rattle.sets.specs.Sets.{bit, subset}
 use Rattle.grammar.specs.Symbol.{Symbol, Rule, after}
 use Rattle.grammar.specs.Book.{Book, Kernel, Go}
@@ -18,6 +19,8 @@ use Rattle.grammar.specs.CoreItems.{Core, core, coreItems}
 use Rattle.grammar.specs.StatesCheck.{
   holdsItem, advancesTo, advances, allAdvance, nextIs, comesFrom, allCome, someKernel, goLines, statesAdvance, goRules
 }
+use Rattle.grammar.specs.Compiled.{itemsTable, itemsAt}
+use Rattle.grammar.specs.CompiledTables.{items-at, items-past}
 use Rattle.grammar.specs.ItemsRight.{ItemsRight}
 use Rattle.grammar.specs.Decides.{Decides, true-decides, false-decides, equivalent, le-decides, eq-decides, and-decides}
 use Rattle.grammar.specs.DecidesSteps.{All, Some, all-nil, all-cons, some-nil, some-cons, below-zero, below-suc}
@@ -57,9 +60,9 @@ abbrev Advanced : List Rule → Symbol → List Core → Kernel → Type 0
 Advanced G X items k = (1 ≤ k .dot) × Some (Comes G X (k .rule) (k .dot - 1)) items
 
 abbrev LineRight : Book → (ℕ → List Core) → Go → Type 0
-LineRight b itemsAt g =
+LineRight b items g =
     ((k : Kernel) × Mem k (kernelsIn (b .kernels) (g .target)))
-    × All (Advanced (b .rules) (g .symbol) (itemsAt (g .state))) (kernelsIn (b .kernels) (g .target))
+    × All (Advanced (b .rules) (g .symbol) (items (g .state))) (kernelsIn (b .kernels) (g .target))
 
 -- ---- each test decides what it says
 
@@ -93,11 +96,11 @@ unfolding allAdvance
 allAdvance-decides b S [] = all-nil
 allAdvance-decides b S (core P D M ∷ items) = all-cons (advances-decides b S P D M (after (b .rules) P D)) (allAdvance-decides b S items)
 
-statesAdvance-decides : (b : Book) (itemsAt : ℕ → List Core) (n : ℕ)
-    → Decides (statesAdvance b itemsAt n) ((S : ℕ) → S < n → All (ItemAdvances b S) (itemsAt S))
+statesAdvance-decides : (b : Book) (items : ℕ → List Core) (n : ℕ)
+    → Decides (statesAdvance b items n) ((S : ℕ) → S < n → All (ItemAdvances b S) (items S))
 unfolding statesAdvance
-statesAdvance-decides b itemsAt zero = below-zero
-statesAdvance-decides b itemsAt (suc n) = below-suc (allAdvance-decides b n (itemsAt n)) (statesAdvance-decides b itemsAt n)
+statesAdvance-decides b items zero = below-zero
+statesAdvance-decides b items (suc n) = below-suc (allAdvance-decides b n (items n)) (statesAdvance-decides b items n)
 
 nextIs-decides : (X : Symbol) (l : List Symbol) → Decides (nextIs X l) ((β : List Symbol) × (l ≡ X ∷ β))
 unfolding nextIs
@@ -121,14 +124,14 @@ unfolding someKernel
 someKernel-decides [] = false-decides λ h. not-in-nil (h .1)
 someKernel-decides (k ∷ ks) = true-decides (k, in-head refl)
 
-goLines-decides : (b : Book) (itemsAt : ℕ → List Core) (gs : List Go) → Decides (goLines b itemsAt gs) (All (LineRight b itemsAt) gs)
+goLines-decides : (b : Book) (items : ℕ → List Core) (gs : List Go) → Decides (goLines b items gs) (All (LineRight b items) gs)
 unfolding goLines
-goLines-decides b itemsAt [] = all-nil
-goLines-decides b itemsAt (g ∷ gs) =
+goLines-decides b items [] = all-nil
+goLines-decides b items (g ∷ gs) =
     all-cons
     (and-decides (someKernel-decides (kernelsIn (b .kernels) (g .target)))
-     (allCome-decides (b .rules) (g .symbol) (itemsAt (g .state)) (kernelsIn (b .kernels) (g .target))))
-    (goLines-decides b itemsAt gs)
+     (allCome-decides (b .rules) (g .symbol) (items (g .state)) (kernelsIn (b .kernels) (g .target))))
+    (goLines-decides b items gs)
 
 -- the kernel line of an item's state, rule and dot has its lookahead
 in-line : {b : Book} → WellNamed b → {S P D a : ℕ} → KernelItem b S P D a → (k : Kernel) → Mem k (b .kernels) → k .state ≡ S → k .rule ≡ P → k .dot ≡ D
@@ -138,21 +141,21 @@ in-line w (kernel-item {k = l} m s r d i) k n s′ r′ d′ =
 
 -- ---- the test of the go rules, by any table of the listed items
 
-module _ {b : Book} {F : Sets} {R : List ℕ} (w : WellNamed b) (right : ItemsRight b F R) (itemsAt : ℕ → List Core)
-         (listed : (S : ℕ) → S < b .states → itemsAt S ≡ coreItems b F S) where
+module _ {b : Book} {F : Sets} {R : List ℕ} (w : WellNamed b) (right : ItemsRight b F R) (items : ℕ → List Core)
+         (listed : (S : ℕ) → S < b .states → items S ≡ coreItems b F S) where
 
   -- what the two tests decide
   record Tested : Type 0 where
-    states-advance : (S : ℕ) → S < b .states → All (ItemAdvances b S) (itemsAt S)
-    lines-right : All (LineRight b itemsAt) (b .goes)
+    states-advance : (S : ℕ) → S < b .states → All (ItemAdvances b S) (items S)
+    lines-right : All (LineRight b items) (b .goes)
 
   small : {S P D a : ℕ} → Closure b S P D a → a < 32
   small c = omega (arith, closure-terminal w c, w .terminals-fit)
 
-  in-table : (S : ℕ) → S < b .states → (c : Core) → Mem c (coreItems b F S) → Mem c (itemsAt S)
+  in-table : (S : ℕ) → S < b .states → (c : Core) → Mem c (coreItems b F S) → Mem c (items S)
   in-table S l c m = rw (listed S l) m
 
-  in-list : (S : ℕ) → S < b .states → (c : Core) → Mem c (itemsAt S) → Mem c (coreItems b F S)
+  in-list : (S : ℕ) → S < b .states → (c : Core) → Mem c (items S) → Mem c (coreItems b F S)
   in-list S l c m = rw (listed S l) at m
 
   -- the go line of a closure item, by the set of lookaheads that the item is listed with
@@ -185,7 +188,7 @@ module _ {b : Book} {F : Sets} {R : List ℕ} (w : WellNamed b) (right : ItemsRi
             let same : l .line .target ≡ M = cc in
             kernel-item (q .there) (q .of-state ∙ same) (h .of-rule) (h .of-dot) (h .covers a (small c) (l .holds))
 
-    from-item : (S : ℕ) (X : Symbol) (k : Kernel) → S < b .states → 1 ≤ k .dot → (c : Core) → Mem c (itemsAt S)
+    from-item : (S : ℕ) (X : Symbol) (k : Kernel) → S < b .states → 1 ≤ k .dot → (c : Core) → Mem c (items S)
         → Comes (b .rules) X (k .rule) (k .dot - 1) c → Origin S X k
     from-item S X k l pos (core Q E N) m (q, (d, (β, e))) =
         let n : Mem (core (k .rule) (k .dot - 1) N) (coreItems b F S) = rw (q, d) at (in-list S l (core Q E N) m) in
@@ -243,7 +246,7 @@ module _ {b : Book} {F : Sets} {R : List ℕ} (w : WellNamed b) (right : ItemsRi
             let (target, g) = h .go-there S P D a X β c e in
             leads X β e target g a p (h .go-has S P D a target X β g c e)
 
-    line-right : (g : Go) → Mem g (b .goes) → LineRight b itemsAt g
+    line-right : (g : Go) → Mem g (b .goes) → LineRight b items g
     line-right g m =
         let found : goTo b (g .state) (g .symbol) ≡ some (g .target) = go-there w g m in
         let (P, D, a, β, c, e) = h .go-needs (g .state) (g .target) (g .symbol) found in
@@ -252,7 +255,7 @@ module _ {b : Book} {F : Sets} {R : List ℕ} (w : WellNamed b) (right : ItemsRi
         some-line : {P D a : ℕ} → KernelItem b (g .target) P D a → (k : Kernel) × Mem k (kernelsIn (b .kernels) (g .target))
         some-line (kernel-item {k = k} n s r d i) = (k, in-state (g .target) (b .kernels) k n s)
 
-        comes : goTo b (g .state) (g .symbol) ≡ some (g .target) → All (Advanced (b .rules) (g .symbol) (itemsAt (g .state))) (kernelsIn (b .kernels) (g .target))
+        comes : goTo b (g .state) (g .symbol) ≡ some (g .target) → All (Advanced (b .rules) (g .symbol) (items (g .state))) (kernelsIn (b .kernels) (g .target))
         comes found k n =
             let q : LineOf (b .kernels) (g .target) k = line-of (g .target) (b .kernels) k n in
             let (D, a, β, d, c, e) = h .go-only (g .state) (g .target) (g .symbol) k found (q .there) (q .of-state) in
@@ -262,10 +265,33 @@ module _ {b : Book} {F : Sets} {R : List ℕ} (w : WellNamed b) (right : ItemsRi
     tests-hold : Tested
     tests-hold = record { states-advance = λ S l c m. item-advances S c (in-list S l c m); lines-right = line-right }
 
-  pub goRules-decides : Decides (goRules b itemsAt) (GoRules b)
+  pub goRules-decides : Decides (goRules b items) (GoRules b)
   unfolding goRules
   goRules-decides =
       equivalent
       (λ h. rules-hold (record { states-advance = h .0; lines-right = h .1 }))
       (λ h. let t : Tested = tests-hold h in (t .states-advance, t .lines-right))
-      (and-decides (statesAdvance-decides b itemsAt (b .states)) (goLines-decides b itemsAt (b .goes)))
+      (and-decides (statesAdvance-decides b items (b .states)) (goLines-decides b items (b .goes)))
+
+-- ---- the table of the listed items
+
+module _ {b : Book} {F : Sets} {R : List ℕ} (w : WellNamed b) (right : ItemsRight b F R) where
+  -- the table has the listed items of every state: past the last state there are none
+  pub items-listed : (S : ℕ) → itemsAt b (itemsTable b F) S ≡ coreItems b F S
+  items-listed S = by (ltb S (b .states)) refl
+    where
+      nothing : b .states ≤ S → (items : List Core) → coreItems b F S ≡ items → [] ≡ items
+      nothing h [] e = refl
+      nothing h (core P D M ∷ items) e =
+          let m : Mem (core P D M) (coreItems b F S) = rw e (in-head refl) in
+          let (a, p) = right .core-some S P D M m in
+          let l : S < b .states = closure-state w (right .core-closure S P D M a m p) in
+          absurd (omega arith)
+
+      by : (t : Bool) → ltb S (b .states) ≡ t → itemsAt b (itemsTable b F) S ≡ coreItems b F S
+      by true e = items-at b F S (ltb-true S (b .states) e)
+      by false e = let h : b .states ≤ S = ltb-false S (b .states) e in items-past b F S h ∙ nothing h (coreItems b F S) refl
+
+  -- 8, as it is tested
+  pub table-decides : Decides (goRules b (itemsAt b (itemsTable b F))) (GoRules b)
+  table-decides = goRules-decides w right (itemsAt b (itemsTable b F)) (λ S h. items-listed S)

@@ -1,9 +1,11 @@
 pub mod Actions
 pub mod Book
+pub mod CellLaws
 pub mod ChainLaws
 pub mod ClosureBounds
 pub mod ClosureSets
 pub mod Compiled
+pub mod CompiledTables
 pub mod ConditionTests
 pub mod ConditionTestsLaws
 pub mod Conditions

@@ -30,6 +30,7 @@ pub mod KernelRulesLaws
 pub mod LeavesLaws
 pub mod Limits
 pub mod Machine
+pub mod OneFormulaLaws
 pub mod PartialLaws
 pub mod ReachSets
 pub mod Rows

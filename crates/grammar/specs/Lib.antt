@@ -21,6 +21,7 @@ pub mod Fixpoint
 pub mod FixpointLaws
 pub mod Formula
 pub mod FormulaPremises
+pub mod FormulaTable
 pub mod GoLines
 pub mod GoRulesLaws
 pub mod Items

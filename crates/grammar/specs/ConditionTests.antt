@@ -6,15 +6,12 @@ use mathlib.Core.List.{List, [], _∷_}
 use lib.Dec.{leb, ltb, eqb}
 use lib.ListN.{length}
 use Rattle.grammar.specs.Decides.{oneTo, all, any, allBelow, allOneTo, few}
-use Rattle.grammar.specs.Limits.{
-  MAX-TERMINALS, MAX-NONTERMINALS, MAX-STATES, MAX-INHERITED, MAX-SYNTHESIZED, MAX-OWNED, MAX-RULES, MAX-RIGHT, MAX-DEFINITIONS, MAX-NODES, MAX-KERNELS,
-  MAX-STATE-KERNELS, MAX-GOES
-}
+use Rattle.grammar.specs.Limits.{MAX-TERMINALS, MAX-NONTERMINALS, MAX-STATES, MAX-INHERITED, MAX-SYNTHESIZED, MAX-OWNED, MAX-RULES, MAX-RIGHT}
+use Rattle.grammar.specs.Limits.{MAX-DEFINITIONS, MAX-NODES, MAX-KERNELS, MAX-STATE-KERNELS, MAX-GOES}
 use Rattle.grammar.specs.Symbol.{Symbol, terminal, nonterminal, leftOf, rightOf, symbolAt}
 use Rattle.grammar.specs.Term.{Term, number, leaf, both, pick, nodes}
-use Rattle.grammar.specs.Book.{
-  Place, own, at, val, InheritedDefinition, SynthesizedDefinition, Kernel, Go, Book, inheritedOwner, synthesizedOwner
-}
+use Rattle.grammar.specs.Book.{Place, own, at, val, InheritedDefinition, SynthesizedDefinition, Kernel, Go, Book}
+use Rattle.grammar.specs.Book.{inheritedOwner, synthesizedOwner}
 use Rattle.grammar.specs.Conditions.{kernelStates}
 
 -- the test holds of every leaf
@@ -44,17 +41,27 @@ before J (at I K) = ltb I J
 before J (val I) = ltb I J
 
 module _ (b : Book) where
-  -- 3
+  -- 3, in the order of 01's sentences
+  unfoldable pub sizesFit : Bool
+  sizesFit = oneTo MAX-TERMINALS (b .terminals) && oneTo MAX-NONTERMINALS (b .nonterminals) && oneTo MAX-STATES (b .states)
+
+  unfoldable pub attributesFit : Bool
+  attributesFit = leb (length (b .inheritedOwners)) MAX-INHERITED && leb (length (b .synthesizedOwners)) MAX-SYNTHESIZED
+      && few MAX-OWNED (b .inheritedOwners) && few MAX-OWNED (b .synthesizedOwners)
+
+  unfoldable pub rulesFit : Bool
+  rulesFit = oneTo MAX-RULES (length (b .rules)) && all (λ r. leb (length (r .right)) MAX-RIGHT) (b .rules)
+
+  unfoldable pub definitionsFit : Bool
+  definitionsFit = leb (length (b .inheritedDefinitions) + length (b .synthesizedDefinitions)) MAX-DEFINITIONS
+      && all (λ d. leb (nodes (d .expression)) MAX-NODES) (b .inheritedDefinitions)
+      && all (λ d. leb (nodes (d .expression)) MAX-NODES) (b .synthesizedDefinitions)
+
+  unfoldable pub statesFit : Bool
+  statesFit = leb (length (b .kernels)) MAX-KERNELS && few MAX-STATE-KERNELS (kernelStates b) && leb (length (b .goes)) MAX-GOES
+
   unfoldable pub withinLimits : Bool
-  withinLimits =
-      (oneTo MAX-TERMINALS (b .terminals) && oneTo MAX-NONTERMINALS (b .nonterminals) && oneTo MAX-STATES (b .states))
-      && (leb (length (b .inheritedOwners)) MAX-INHERITED && leb (length (b .synthesizedOwners)) MAX-SYNTHESIZED
-        && few MAX-OWNED (b .inheritedOwners) && few MAX-OWNED (b .synthesizedOwners))
-      && (oneTo MAX-RULES (length (b .rules)) && all (λ r. leb (length (r .right)) MAX-RIGHT) (b .rules))
-      && (leb (length (b .inheritedDefinitions) + length (b .synthesizedDefinitions)) MAX-DEFINITIONS
-        && all (λ d. leb (nodes (d .expression)) MAX-NODES) (b .inheritedDefinitions)
-        && all (λ d. leb (nodes (d .expression)) MAX-NODES) (b .synthesizedDefinitions))
-      && (leb (length (b .kernels)) MAX-KERNELS && few MAX-STATE-KERNELS (kernelStates b) && leb (length (b .goes)) MAX-GOES)
+  withinLimits = sizesFit && attributesFit && rulesFit && definitionsFit && statesFit
 
   -- 4, each line
   unfoldable pub rightSymbol : Symbol → Bool
@@ -89,12 +96,16 @@ module _ (b : Book) where
   declaredGo g = ltb (g .state) (b .states) && goSymbol (g .symbol) && ltb (g .target) (b .states)
 
   -- 4
+  unfoldable pub ownersDeclared : Bool
+  ownersDeclared = all (oneTo (b .nonterminals)) (b .inheritedOwners) && all (oneTo (b .nonterminals)) (b .synthesizedOwners)
+
+  unfoldable pub rulesDeclared : Bool
+  rulesDeclared = eqb (leftOf (b .rules) 0) 0 && oneNonterminal (rightOf (b .rules) 0)
+      && allBelow (length (b .rules)) (λ P. elim (ltb 0 P) [ true ↦ oneTo (b .nonterminals) (leftOf (b .rules) P) | false ↦ true ])
+      && all (λ r. all rightSymbol (r .right)) (b .rules)
+
   unfoldable pub declared : Bool
-  declared =
-      (all (oneTo (b .nonterminals)) (b .inheritedOwners) && all (oneTo (b .nonterminals)) (b .synthesizedOwners))
-      && (eqb (leftOf (b .rules) 0) 0 && oneNonterminal (rightOf (b .rules) 0)
-        && allBelow (length (b .rules)) (λ P. elim (ltb 0 P) [ true ↦ oneTo (b .nonterminals) (leftOf (b .rules) P) | false ↦ true ])
-        && all (λ r. all rightSymbol (r .right)) (b .rules))
+  declared = ownersDeclared && rulesDeclared
       && (all declaredInherited (b .inheritedDefinitions) && all declaredSynthesized (b .synthesizedDefinitions))
       && (all declaredKernel (b .kernels) && all declaredGo (b .goes))
 
@@ -125,17 +136,22 @@ module _ (b : Book) where
   unfoldable pub definesSynthesized : ℕ → ℕ → Bool
   definesSynthesized P K = any (λ d. eqb (d .rule) P && eqb (d .attribute) K) (b .synthesizedDefinitions)
 
+  -- 6, each right nonterminal, each left side
+  unfoldable pub rightDefined : ℕ → ℕ → Bool
+  rightDefined P J = allBelow (length (b .inheritedOwners)) λ K.
+      elim (nonterminalAt P J (inheritedOwner b K)) [ true ↦ definesInherited P J K | false ↦ true ]
+
+  unfoldable pub leftDefined : ℕ → Bool
+  leftDefined P = allBelow (length (b .synthesizedOwners)) λ K.
+      elim (eqb (synthesizedOwner b K) (leftOf (b .rules) P)) [ true ↦ definesSynthesized P K | false ↦ true ]
+
   -- 6
   unfoldable pub defined : Bool
-  defined =
-      allBelow (length (b .rules)) (λ P. allOneTo (length (rightOf (b .rules) P)) λ J. allBelow (length (b .inheritedOwners)) λ K.
-        elim (nonterminalAt P J (inheritedOwner b K)) [ true ↦ definesInherited P J K | false ↦ true ])
-      && allBelow (length (b .rules)) (λ P. allBelow (length (b .synthesizedOwners)) λ K.
-        elim (eqb (synthesizedOwner b K) (leftOf (b .rules) P)) [ true ↦ definesSynthesized P K | false ↦ true ])
+  defined = allBelow (length (b .rules)) λ P. allOneTo (length (rightOf (b .rules) P)) (rightDefined P) && leftDefined P
 
 -- opens every definition of this module
 unfoldable pub opens : Unit {0}
-unfolding allLeaves isNonterminal isTerminal oneNonterminal before withinLimits rightSymbol goSymbol isPosition declaredPlace declaredInherited
-  declaredSynthesized declaredKernel declaredGo declared nonterminalAt ownedPlace ownedInherited ownedSynthesized owned definesInherited
-  definesSynthesized defined
+unfolding allLeaves isNonterminal isTerminal oneNonterminal before sizesFit attributesFit rulesFit definitionsFit statesFit withinLimits rightSymbol
+    goSymbol isPosition declaredPlace declaredInherited declaredSynthesized declaredKernel declaredGo ownersDeclared rulesDeclared declared
+    nonterminalAt ownedPlace ownedInherited ownedSynthesized owned definesInherited definesSynthesized rightDefined leftDefined defined
 opens = tt

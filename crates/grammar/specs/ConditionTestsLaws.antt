@@ -1,33 +1,28 @@
 -- The tests of `ConditionTests` decide the conditions 3 to 6 of `Conditions`. Assumes nothing.
-use Prim.Native.Nat.{ℕ}
+use Prim.Native.Nat.{ℕ, _+_}
 use native.Mathlib.Omega.{arith}
 use mathlib.Core.Path.{_≡_, refl, ap}
-use mathlib.Core.Bool.{Bool, true, false}
+use mathlib.Core.Bool.{Bool}
 use mathlib.Core.List.{List, [], _∷_}
 use lib.ListN.{length}
-use Rattle.grammar.specs.Decides.{
-  Decides, true-decides, false-decides, equivalent, le-decides, lt-decides, eq-decides, then-decides, and-decides, and3-decides, and4-decides,
-  and5-decides, if-decides, oneTo-decides, all-decides, any-decides, allBelow-decides, allOneTo-decides, few-decides
-}
-use Rattle.grammar.specs.Limits.{
-  MAX-TERMINALS, MAX-NONTERMINALS, MAX-STATES, MAX-INHERITED, MAX-SYNTHESIZED, MAX-OWNED, MAX-RULES, MAX-RIGHT, MAX-DEFINITIONS, MAX-NODES, MAX-KERNELS,
-  MAX-STATE-KERNELS, MAX-GOES
-}
+use Rattle.grammar.specs.Decides.{Decides, true-decides, false-decides, equivalent, le-decides, lt-decides, eq-decides, then-decides}
+use Rattle.grammar.specs.Decides.{and-decides, and3-decides, and4-decides, and5-decides, if-decides, oneTo-decides, all-decides, any-decides}
+use Rattle.grammar.specs.Decides.{allBelow-decides, allOneTo-decides, few-decides}
+use Rattle.grammar.specs.Limits.{MAX-TERMINALS, MAX-NONTERMINALS, MAX-STATES, MAX-INHERITED, MAX-SYNTHESIZED, MAX-OWNED, MAX-RULES, MAX-RIGHT}
+use Rattle.grammar.specs.Limits.{MAX-DEFINITIONS, MAX-NODES, MAX-KERNELS, MAX-STATE-KERNELS, MAX-GOES}
 use Rattle.grammar.specs.Symbol.{Symbol, terminal, nonterminal, leftOf, rightOf, symbolAt}
 use Rattle.grammar.specs.Term.{Term, number, leaf, both, pick, nodes, Leaves, in-number, in-leaf, in-both, in-pick}
 use Rattle.grammar.specs.LeavesLaws.{of-leaf, of-both, of-pick}
-use Rattle.grammar.specs.Book.{
-  Place, own, at, val, InheritedDefinition, SynthesizedDefinition, Kernel, Go, Book, inheritedOwner, synthesizedOwner
-}
-use Rattle.grammar.specs.Conditions.{
-  kernelStates, Before, WithinLimits, RightSymbol, GoSymbol, IsPosition, DeclaredPlace, DeclaredInherited, DeclaredSynthesized, DeclaredKernel, DeclaredGo,
-  Declared, NonterminalAt, TerminalAt, OwnedPlace, OwnedInherited, OwnedSynthesized, Owned, DefinesInherited, DefinesSynthesized, Defined
-}
-use Rattle.grammar.specs.ConditionTests.{
-  allLeaves, isNonterminal, isTerminal, oneNonterminal, before, withinLimits, rightSymbol, goSymbol, isPosition, declaredPlace, declaredInherited,
-  declaredSynthesized, declaredKernel, declaredGo, declared, nonterminalAt, ownedPlace, ownedInherited, ownedSynthesized, owned, definesInherited,
-  definesSynthesized, defined
-}
+use Rattle.grammar.specs.Book.{Place, own, at, val, InheritedDefinition, SynthesizedDefinition, Kernel, Go, Book}
+use Rattle.grammar.specs.Book.{inheritedOwner, synthesizedOwner}
+use Rattle.grammar.specs.Conditions.{kernelStates, Before, WithinLimits, RightSymbol, GoSymbol, IsInherited, IsSynthesized, IsPosition}
+use Rattle.grammar.specs.Conditions.{DeclaredPlace, DeclaredInherited, DeclaredSynthesized, DeclaredKernel, DeclaredGo, Declared, NonterminalAt}
+use Rattle.grammar.specs.Conditions.{OwnedPlace, OwnedInherited, OwnedSynthesized, Owned, DefinesInherited, DefinesSynthesized, Defined}
+use Rattle.grammar.specs.ConditionTests.{allLeaves, isNonterminal, isTerminal, oneNonterminal, before, sizesFit, attributesFit, rulesFit}
+use Rattle.grammar.specs.ConditionTests.{definitionsFit, statesFit, withinLimits, rightSymbol, goSymbol, isPosition, declaredPlace}
+use Rattle.grammar.specs.ConditionTests.{declaredInherited, declaredSynthesized, declaredKernel, declaredGo, ownersDeclared, rulesDeclared, declared}
+use Rattle.grammar.specs.ConditionTests.{nonterminalAt, ownedPlace, ownedInherited, ownedSynthesized, owned, definesInherited, definesSynthesized}
+use Rattle.grammar.specs.ConditionTests.{rightDefined, leftDefined, defined}
 
 pub allLeaves-decides : {A : Type 0} {f : A → Bool} {R : A → Type 0} → ((a : A) → Decides (f a) (R a)) → (e : Term A) → Decides (allLeaves f e) (Leaves R e)
 unfolding allLeaves
@@ -63,31 +58,54 @@ before-decides J (val I) = lt-decides I J
 
 module _ (b : Book) where
   pub withinLimits-decides : Decides (withinLimits b) (WithinLimits b)
-  unfolding withinLimits
+  unfolding withinLimits sizesFit attributesFit rulesFit definitionsFit statesFit
   withinLimits-decides =
+      let terminals = oneTo-decides MAX-TERMINALS (b .terminals) in
+      let nonterminals = oneTo-decides MAX-NONTERMINALS (b .nonterminals) in
+      let states = oneTo-decides MAX-STATES (b .states) in
+      let inherited = le-decides (length (b .inheritedOwners)) MAX-INHERITED in
+      let synthesized = le-decides (length (b .synthesizedOwners)) MAX-SYNTHESIZED in
+      let inherited-each = few-decides MAX-OWNED (b .inheritedOwners) in
+      let synthesized-each = few-decides MAX-OWNED (b .synthesizedOwners) in
+      let rules = oneTo-decides MAX-RULES (length (b .rules)) in
+      let right = all-decides (λ r. le-decides (length (r .right)) MAX-RIGHT) (b .rules) in
+      let definitions = le-decides (length (b .inheritedDefinitions) + length (b .synthesizedDefinitions)) MAX-DEFINITIONS in
+      let inherited-nodes = all-decides (λ d. le-decides (nodes (d .expression)) MAX-NODES) (b .inheritedDefinitions) in
+      let synthesized-nodes = all-decides (λ d. le-decides (nodes (d .expression)) MAX-NODES) (b .synthesizedDefinitions) in
+      let kernels = le-decides (length (b .kernels)) MAX-KERNELS in
+      let kernels-each = few-decides MAX-STATE-KERNELS (kernelStates b) in
+      let goes = le-decides (length (b .goes)) MAX-GOES in
       equivalent
       (λ ((t, n, q), (i, s, i-each, s-each), (r, r-each), (d, i-nodes, s-nodes), (k, k-each, g)). record {
-        terminals-limit = t; nonterminals-limit = n; states-limit = q; inherited-limit = i; synthesized-limit = s; inherited-each = i-each;
-        synthesized-each = s-each; rules-limit = r; right-limit = r-each; definitions-limit = d; inherited-nodes = i-nodes;
-        synthesized-nodes = s-nodes; kernels-limit = k; kernels-each = k-each; goes-limit = g
+        terminals-limit = t;
+        nonterminals-limit = n;
+        states-limit = q;
+        inherited-limit = i;
+        synthesized-limit = s;
+        inherited-each = i-each;
+        synthesized-each = s-each;
+        rules-limit = r;
+        right-limit = r-each;
+        definitions-limit = d;
+        inherited-nodes = i-nodes;
+        synthesized-nodes = s-nodes;
+        kernels-limit = k;
+        kernels-each = k-each;
+        goes-limit = g;
       })
       (λ w. (
         (w .terminals-limit, w .nonterminals-limit, w .states-limit),
         (w .inherited-limit, w .synthesized-limit, w .inherited-each, w .synthesized-each),
         (w .rules-limit, w .right-limit),
         (w .definitions-limit, w .inherited-nodes, w .synthesized-nodes),
-        (w .kernels-limit, w .kernels-each, w .goes-limit)
+        (w .kernels-limit, w .kernels-each, w .goes-limit),
       ))
       (and5-decides
-        (and3-decides (oneTo-decides MAX-TERMINALS (b .terminals)) (oneTo-decides MAX-NONTERMINALS (b .nonterminals)) (oneTo-decides MAX-STATES (b .states)))
-        (and4-decides (le-decides (length (b .inheritedOwners)) MAX-INHERITED) (le-decides (length (b .synthesizedOwners)) MAX-SYNTHESIZED)
-          (few-decides MAX-OWNED (b .inheritedOwners)) (few-decides MAX-OWNED (b .synthesizedOwners)))
-        (and-decides (oneTo-decides MAX-RULES (length (b .rules))) (all-decides (λ r. le-decides (length (r .right)) MAX-RIGHT) (b .rules)))
-        (and3-decides (le-decides _ MAX-DEFINITIONS)
-          (all-decides (λ d. le-decides (nodes (d .expression)) MAX-NODES) (b .inheritedDefinitions))
-          (all-decides (λ d. le-decides (nodes (d .expression)) MAX-NODES) (b .synthesizedDefinitions)))
-        (and3-decides (le-decides (length (b .kernels)) MAX-KERNELS) (few-decides MAX-STATE-KERNELS (kernelStates b))
-          (le-decides (length (b .goes)) MAX-GOES)))
+      (and3-decides terminals nonterminals states)
+      (and4-decides inherited synthesized inherited-each synthesized-each)
+      (and-decides rules right)
+      (and3-decides definitions inherited-nodes synthesized-nodes)
+      (and3-decides kernels kernels-each goes))
 
   rightSymbol-decides : (X : Symbol) → Decides (rightSymbol b X) (RightSymbol b X)
   unfolding rightSymbol
@@ -112,26 +130,31 @@ module _ (b : Book) where
   declaredInherited-decides : (d : InheritedDefinition) → Decides (declaredInherited b d) (DeclaredInherited b d)
   unfolding declaredInherited
   declaredInherited-decides d =
+      let rule = lt-decides (d .rule) (length (b .rules)) in
+      let position = isPosition-decides (d .rule) (d .position) in
+      let attribute = lt-decides (d .attribute) (length (b .inheritedOwners)) in
+      let leaves = allLeaves-decides (declaredPlace-decides (d .rule)) (d .expression) in
       equivalent (λ (r, p, a, l). record { rule-there = r; position-there = p; attribute-there = a; leaves-there = l })
-      (λ h. (h .rule-there, h .position-there, h .attribute-there, h .leaves-there))
-      (and4-decides (lt-decides (d .rule) (length (b .rules))) (isPosition-decides (d .rule) (d .position))
-        (lt-decides (d .attribute) (length (b .inheritedOwners))) (allLeaves-decides (declaredPlace-decides (d .rule)) (d .expression)))
+      (λ h. (h .rule-there, h .position-there, h .attribute-there, h .leaves-there)) (and4-decides rule position attribute leaves)
 
   declaredSynthesized-decides : (d : SynthesizedDefinition) → Decides (declaredSynthesized b d) (DeclaredSynthesized b d)
   unfolding declaredSynthesized
   declaredSynthesized-decides d =
+      let rule = lt-decides (d .rule) (length (b .rules)) in
+      let attribute = lt-decides (d .attribute) (length (b .synthesizedOwners)) in
+      let leaves = allLeaves-decides (declaredPlace-decides (d .rule)) (d .expression) in
       equivalent (λ (r, a, l). record { rule-there = r; attribute-there = a; leaves-there = l })
-      (λ h. (h .rule-there, h .attribute-there, h .leaves-there))
-      (and3-decides (lt-decides (d .rule) (length (b .rules))) (lt-decides (d .attribute) (length (b .synthesizedOwners)))
-        (allLeaves-decides (declaredPlace-decides (d .rule)) (d .expression)))
+      (λ h. (h .rule-there, h .attribute-there, h .leaves-there)) (and3-decides rule attribute leaves)
 
   declaredKernel-decides : (k : Kernel) → Decides (declaredKernel b k) (DeclaredKernel b k)
   unfolding declaredKernel
   declaredKernel-decides k =
+      let state = lt-decides (k .state) (b .states) in
+      let rule = lt-decides (k .rule) (length (b .rules)) in
+      let dot = le-decides (k .dot) (length (rightOf (b .rules) (k .rule))) in
+      let lookaheads = all-decides (λ t. le-decides t (b .terminals)) (k .lookaheads) in
       equivalent (λ (s, r, d, l). record { state-there = s; rule-there = r; dot-there = d; lookaheads-there = l })
-      (λ h. (h .state-there, h .rule-there, h .dot-there, h .lookaheads-there))
-      (and4-decides (lt-decides (k .state) (b .states)) (lt-decides (k .rule) (length (b .rules)))
-        (le-decides (k .dot) (length (rightOf (b .rules) (k .rule)))) (all-decides (λ t. le-decides t (b .terminals)) (k .lookaheads)))
+      (λ h. (h .state-there, h .rule-there, h .dot-there, h .lookaheads-there)) (and4-decides state rule dot lookaheads)
 
   declaredGo-decides : (g : Go) → Decides (declaredGo b g) (DeclaredGo b g)
   unfolding declaredGo
@@ -141,28 +164,42 @@ module _ (b : Book) where
       (and3-decides (lt-decides (g .state) (b .states)) (goSymbol-decides (g .symbol)) (lt-decides (g .target) (b .states)))
 
   pub declared-decides : Decides (declared b) (Declared b)
-  unfolding declared
+  unfolding declared ownersDeclared rulesDeclared
   declared-decides =
+      let inherited-owners = all-decides (oneTo-decides (b .nonterminals)) (b .inheritedOwners) in
+      let synthesized-owners = all-decides (oneTo-decides (b .nonterminals)) (b .synthesizedOwners) in
+      let start-left = eq-decides (leftOf (b .rules) 0) 0 in
+      let start-right = oneNonterminal-decides (rightOf (b .rules) 0) in
+      let left = allBelow-decides (λ P. if-decides (lt-decides 0 P) (oneTo-decides (b .nonterminals) (leftOf (b .rules) P))) (length (b .rules)) in
+      let right = all-decides (λ r. all-decides rightSymbol-decides (r .right)) (b .rules) in
+      let inherited = all-decides declaredInherited-decides (b .inheritedDefinitions) in
+      let synthesized = all-decides declaredSynthesized-decides (b .synthesizedDefinitions) in
+      let kernels = all-decides declaredKernel-decides (b .kernels) in
+      let goes = all-decides declaredGo-decides (b .goes) in
       equivalent
       (λ ((i, s), (l, r, ls, rs), (di, ds), (k, g)). record {
-        inherited-owners = i; synthesized-owners = s; start-left = l; start-right = r; left-sides = λ P h q. ls P q h; right-symbols = rs;
-        inherited-declared = di; synthesized-declared = ds; kernels-declared = k; goes-declared = g
+        inherited-owners = i;
+        synthesized-owners = s;
+        start-left = l;
+        start-right = r;
+        left-sides = λ P h q. ls P q h;
+        right-symbols = rs;
+        inherited-declared = di;
+        synthesized-declared = ds;
+        kernels-declared = k;
+        goes-declared = g;
       })
       (λ h. (
         (h .inherited-owners, h .synthesized-owners),
         (h .start-left, h .start-right, λ P q p. h .left-sides P p q, h .right-symbols),
         (h .inherited-declared, h .synthesized-declared),
-        (h .kernels-declared, h .goes-declared)
+        (h .kernels-declared, h .goes-declared),
       ))
       (and4-decides
-        (and-decides (all-decides (oneTo-decides (b .nonterminals)) (b .inheritedOwners))
-          (all-decides (oneTo-decides (b .nonterminals)) (b .synthesizedOwners)))
-        (and4-decides (eq-decides (leftOf (b .rules) 0) 0) (oneNonterminal-decides (rightOf (b .rules) 0))
-          (allBelow-decides (λ P. if-decides (lt-decides 0 P) (oneTo-decides (b .nonterminals) (leftOf (b .rules) P))) (length (b .rules)))
-          (all-decides (λ r. all-decides rightSymbol-decides (r .right)) (b .rules)))
-        (and-decides (all-decides declaredInherited-decides (b .inheritedDefinitions))
-          (all-decides declaredSynthesized-decides (b .synthesizedDefinitions)))
-        (and-decides (all-decides declaredKernel-decides (b .kernels)) (all-decides declaredGo-decides (b .goes))))
+      (and-decides inherited-owners synthesized-owners)
+      (and4-decides start-left start-right left right)
+      (and-decides inherited synthesized)
+      (and-decides kernels goes))
 
   nonterminalAt-decides : (P J A : ℕ) → Decides (nonterminalAt b P J A) (NonterminalAt b P J A)
   unfolding nonterminalAt
@@ -177,17 +214,18 @@ module _ (b : Book) where
   ownedInherited-decides : (d : InheritedDefinition) → Decides (ownedInherited b d) (OwnedInherited b d)
   unfolding ownedInherited
   ownedInherited-decides d =
+      let target = nonterminalAt-decides (d .rule) (d .position) (inheritedOwner b (d .attribute)) in
+      let leaves = allLeaves-decides (ownedPlace-decides (d .rule)) (d .expression) in
+      let left = allLeaves-decides (before-decides (d .position)) (d .expression) in
       equivalent (λ (t, l, f). record { target-owns = t; leaves-owned = l; leaves-before = f })
-      (λ h. (h .target-owns, h .leaves-owned, h .leaves-before))
-      (and3-decides (nonterminalAt-decides (d .rule) (d .position) (inheritedOwner b (d .attribute)))
-        (allLeaves-decides (ownedPlace-decides (d .rule)) (d .expression)) (allLeaves-decides (before-decides (d .position)) (d .expression)))
+      (λ h. (h .target-owns, h .leaves-owned, h .leaves-before)) (and3-decides target leaves left)
 
   ownedSynthesized-decides : (d : SynthesizedDefinition) → Decides (ownedSynthesized b d) (OwnedSynthesized b d)
   unfolding ownedSynthesized
   ownedSynthesized-decides d =
-      equivalent (λ (t, l). record { left-owns = t; leaves-owned = l }) (λ h. (h .left-owns, h .leaves-owned))
-      (and-decides (eq-decides (synthesizedOwner b (d .attribute)) (leftOf (b .rules) (d .rule)))
-        (allLeaves-decides (ownedPlace-decides (d .rule)) (d .expression)))
+      let left = eq-decides (synthesizedOwner b (d .attribute)) (leftOf (b .rules) (d .rule)) in
+      let leaves = allLeaves-decides (ownedPlace-decides (d .rule)) (d .expression) in
+      equivalent (λ (t, l). record { left-owns = t; leaves-owned = l }) (λ h. (h .left-owns, h .leaves-owned)) (and-decides left leaves)
 
   pub owned-decides : Decides (owned b) (Owned b)
   unfolding owned
@@ -204,16 +242,24 @@ module _ (b : Book) where
   unfolding definesSynthesized
   definesSynthesized-decides P K = any-decides (λ d. and-decides (eq-decides (d .rule) P) (eq-decides (d .attribute) K)) (b .synthesizedDefinitions)
 
+  rightDefined-decides : (P J : ℕ)
+      → Decides (rightDefined b P J) ((K : ℕ) → IsInherited b K → NonterminalAt b P J (inheritedOwner b K) → DefinesInherited b P J K)
+  unfolding rightDefined
+  rightDefined-decides P J =
+      allBelow-decides (λ K. if-decides (nonterminalAt-decides P J (inheritedOwner b K)) (definesInherited-decides P J K)) (length (b .inheritedOwners))
+
+  leftDefined-decides : (P : ℕ)
+      → Decides (leftDefined b P) ((K : ℕ) → IsSynthesized b K → synthesizedOwner b K ≡ leftOf (b .rules) P → DefinesSynthesized b P K)
+  unfolding leftDefined
+  leftDefined-decides P =
+      allBelow-decides (λ K. if-decides (eq-decides (synthesizedOwner b K) (leftOf (b .rules) P)) (definesSynthesized-decides P K))
+      (length (b .synthesizedOwners))
+
   pub defined-decides : Decides (defined b) (Defined b)
   unfolding defined
   defined-decides =
       equivalent
-      (λ (i, s). record { inherited-defined = λ P J K p j k. i P p J j K k; synthesized-defined = λ P K p k. s P p K k })
-      (λ h. (λ P p J j K k. h .inherited-defined P J K p j k, λ P p K k. h .synthesized-defined P K p k))
-      (and-decides
-        (allBelow-decides (λ P. allOneTo-decides (λ J. allBelow-decides
-          (λ K. if-decides (nonterminalAt-decides P J (inheritedOwner b K)) (definesInherited-decides P J K)) (length (b .inheritedOwners)))
-          (length (rightOf (b .rules) P))) (length (b .rules)))
-        (allBelow-decides (λ P. allBelow-decides
-          (λ K. if-decides (eq-decides (synthesizedOwner b K) (leftOf (b .rules) P)) (definesSynthesized-decides P K)) (length (b .synthesizedOwners)))
-          (length (b .rules))))
+      (λ f. record { inherited-defined = λ P J K p j k. f P p .0 J j K k; synthesized-defined = λ P K p k. f P p .1 K k })
+      (λ h P p. (λ J j K k. h .inherited-defined P J K p j k, λ K k. h .synthesized-defined P K p k))
+      (allBelow-decides (λ P. and-decides (allOneTo-decides (rightDefined-decides P) (length (rightOf (b .rules) P))) (leftDefined-decides P))
+      (length (b .rules)))

@@ -1,20 +1,17 @@
 -- What 01 asks of a book that is spelled right, before its states are looked at (rows 3 to 6 of "Turned-back input"): the limits (3), declared names
--- and places (4), attributes that belong to their symbols (5), no definition missing (6). A row is answered only where no lower one is, so a later
--- condition says nothing of what an earlier one refuses. Assumes nothing.
+-- and places (4), attributes that belong to their symbols (5), no definition missing (6). A row is answered only where no lower one is, so no
+-- condition repeats what an earlier one asks. Assumes nothing.
 use Prim.Native.Nat.{ℕ, _+_, _≤_, _<_}
 use mathlib.Core.Path.{_≡_}
 use mathlib.Core.List.{List, [], _∷_, map, List·Memᴰ as Mem}
 use lib.ListN.{length}
 use Rattle.grammar.specs.Decides.{OneTo, count}
-use Rattle.grammar.specs.Limits.{
-  MAX-TERMINALS, MAX-NONTERMINALS, MAX-STATES, MAX-INHERITED, MAX-SYNTHESIZED, MAX-OWNED, MAX-RULES, MAX-RIGHT, MAX-DEFINITIONS, MAX-NODES, MAX-KERNELS,
-  MAX-STATE-KERNELS, MAX-GOES
-}
+use Rattle.grammar.specs.Limits.{MAX-TERMINALS, MAX-NONTERMINALS, MAX-STATES, MAX-INHERITED, MAX-SYNTHESIZED, MAX-OWNED, MAX-RULES, MAX-RIGHT}
+use Rattle.grammar.specs.Limits.{MAX-DEFINITIONS, MAX-NODES, MAX-KERNELS, MAX-STATE-KERNELS, MAX-GOES}
 use Rattle.grammar.specs.Symbol.{Symbol, terminal, nonterminal, Rule, leftOf, rightOf, symbolAt}
 use Rattle.grammar.specs.Term.{nodes, Leaves}
-use Rattle.grammar.specs.Book.{
-  Place, own, at, val, InheritedDefinition, SynthesizedDefinition, Kernel, Go, Book, inheritedOwner, synthesizedOwner
-}
+use Rattle.grammar.specs.Book.{Place, own, at, val, InheritedDefinition, SynthesizedDefinition, Kernel, Go, Book, inheritedOwner}
+use Rattle.grammar.specs.Book.{synthesizedOwner}
 
 -- the states of the kernel lines, in order
 abbrev pub kernelStates : Book → List ℕ

@@ -1,68 +1,23 @@
 -- What follows from the conditions 3 to 6 for every rule, place and attribute number, in the forms that later proofs use. Assumes nothing.
-use Prim.Native.Nat.{ℕ, zero, suc, _-_, _≤_, _<_, zero-le}
+use Prim.Native.Nat.{ℕ, zero, suc, _≤_, _<_, zero-le}
 use native.Mathlib.Omega.{arith}
-use native.Mathlib.Decide.{ℕ-discrete}
-use mathlib.Core.Path.{_≡_, refl, sym, ap, _∙_}
+use mathlib.Core.Path.{_≡_, refl, ap, _∙_}
 use mathlib.Core.Logic.{_≢_, _⊎_, inl, inr}
-use mathlib.Core.Bool.{Bool, true, false, _&&_}
-use mathlib.Core.Option.{Option, none, some}
-use mathlib.Core.List.{List, [], _∷_, _++_, List·Memᴰ as Mem, List·Memᴰ·head as in-head, List·Memᴰ·tail as in-tail}
+use mathlib.Core.List.{List, [], _∷_, List·Memᴰ as Mem, List·Memᴰ·head as in-head, List·Memᴰ·tail as in-tail}
 use mathlib.Core.List.{List·Memᴰ·append-cases as in-append, List·Memᴰ·not-nil as not-in-nil}
-use lib.ListN.{length, getD, drop}
-use Rattle.grammar.specs.Decides.{OneTo}
+use lib.ListN.{length}
 use Rattle.grammar.specs.Limits.{MAX-RIGHT, MAX-NODES}
-use Rattle.grammar.specs.Symbol.{Symbol, terminal, nonterminal, Rule, ruleAt, leftOf, rightOf, symbolAt, after, firstSymbol, goal}
-use Rattle.grammar.specs.Term.{number, nodes, Leaves, in-number}
+use Rattle.grammar.specs.Symbol.{Symbol, terminal, nonterminal, ruleAt, leftOf, rightOf, after, firstSymbol, goal}
+use Rattle.grammar.specs.Term.{nodes, Leaves, in-number}
 use Rattle.grammar.specs.LeavesLaws.{leaves-map, leaves-join}
-use Rattle.grammar.specs.Book.{
-  Place, own, at, val, InheritedDefinition, SynthesizedDefinition, Book, ownerAt, inheritedOwner, synthesizedOwner, inheritedExpr, synthesizedExpr
-}
-use Rattle.grammar.specs.Conditions.{
-  Before, InheritedOf, SynthesizedOf, WithinLimits, IsNonterminal, IsTerminal, IsInherited, IsSynthesized, IsRule, IsPosition, RightSymbol, DeclaredPlace, DeclaredKernel, DeclaredGo, IsState, GoSymbol,
-  Declared, NonterminalAt, TerminalAt, OwnedPlace, Owned, DefinesInherited, DefinesSynthesized, Defined
-}
+use Rattle.grammar.specs.Book.{Place, own, at, val, Book, ownerAt, inheritedOwner, synthesizedOwner, inheritedExpr, synthesizedExpr}
 use Rattle.grammar.specs.First.{First, past, here, expand}
-use Rattle.grammar.specs.Items.{KernelItem, kernel-item, Derives, derives, Closure, kernel, close}
+use Rattle.grammar.specs.Items.{KernelItem, kernel-item, derives, Closure, kernel, close}
+use Rattle.grammar.specs.Conditions.{Before, WithinLimits, IsNonterminal, IsTerminal, IsState, IsInherited, IsSynthesized, IsRule, IsPosition}
+use Rattle.grammar.specs.Conditions.{RightSymbol, DeclaredPlace, DeclaredKernel, Declared, NonterminalAt, TerminalAt, OwnedPlace, Owned}
+use Rattle.grammar.specs.Conditions.{DefinesInherited, DefinesSynthesized, Defined}
+use Rattle.grammar.specs.AfterLaws.{getD-all, drop-in, after-rule, after-position, after-symbol}
 use Rattle.grammar.specs.DefinitionLaws.{inherited-by, synthesized-by}
-
--- an element of a list by its place, and the first after a dot
-module _ {A : Type 0} where
-  -- what holds of every element and of the default holds at every place
-  getD-all : (Q : A → Type 0) (l : List A) (i : ℕ) (d : A) → ((x : A) → Mem x l → Q x) → Q d → Q (getD l i d)
-  getD-all Q [] i d f q = q
-  getD-all Q (x ∷ l) zero d f q = f x (in-head refl)
-  getD-all Q (x ∷ l) (suc i) d f q = getD-all Q l i d (λ y m. f y (in-tail m)) q
-
-  drop-inside : (n : ℕ) (l : List A) {x : A} {β : List A} → drop n l ≡ x ∷ β → n < length l
-  drop-inside zero [] e = let z : _≡_ {A = ℕ} 0 1 = cc in omega arith
-  drop-inside zero (y ∷ l) e = omega arith
-  drop-inside (suc n) [] e = let z : _≡_ {A = ℕ} 0 1 = cc in omega arith
-  drop-inside (suc n) (y ∷ l) e = let h : n < length l = drop-inside n l e in omega arith
-
-  drop-getD : (n : ℕ) (l : List A) (d : A) {x : A} {β : List A} → drop n l ≡ x ∷ β → getD l n d ≡ x
-  drop-getD zero [] d e = cc
-  drop-getD zero (y ∷ l) d e = cc
-  drop-getD (suc n) [] d e = cc
-  drop-getD (suc n) (y ∷ l) d e = drop-getD n l d e
-
-  drop-in : (n : ℕ) (l : List A) {γ : List A} → drop n l ≡ γ → {x : A} → Mem x γ → Mem x l
-  drop-in zero l e m = rw e m
-  drop-in (suc n) [] e m = rw e m
-  drop-in (suc n) (y ∷ l) e m = in-tail (drop-in n l e m)
-
--- a rule with the symbol X after its dot D is there; D + 1 is a position of it, where X stands
-pub after-rule : (G : List Rule) (P D : ℕ) {X : Symbol} {β : List Symbol} → after G P D ≡ X ∷ β → P < length G
-unfolding ruleAt
-after-rule [] P D e = let h : D < length {A = Symbol} [] = drop-inside D [] e in omega arith
-after-rule (r ∷ G) zero D e = omega arith
-after-rule (r ∷ G) (suc P) D e = let h : P < length G = after-rule G P D e in omega arith
-
-pub after-position : (G : List Rule) (P D : ℕ) {X : Symbol} {β : List Symbol} → after G P D ≡ X ∷ β → OneTo (length (rightOf G P)) (suc D)
-after-position G P D e = let h : D < length (rightOf G P) = drop-inside D (rightOf G P) e in record { low = omega arith; high = omega arith }
-
-pub after-symbol : (G : List Rule) (P D : ℕ) {X : Symbol} {β : List Symbol} → after G P D ≡ X ∷ β → symbolAt G P (suc D) ≡ X
-unfolding symbolAt
-after-symbol G P D e = let n : suc D - 1 ≡ D = omega arith in rw n (drop-getD D (rightOf G P) (terminal 0) e)
 
 -- the owner past the last attribute is 32
 owner-inside : (owners : List ℕ) (K : ℕ) → ownerAt owners K < 32 → K < length owners
@@ -101,6 +56,9 @@ module _ {b : Book} (h : Declared b) where
   pub no-synthesized-start : (K : ℕ) → synthesizedOwner b K ≢ 0
   no-synthesized-start K =
       getD-all (λ A. A ≢ 0) (b .synthesizedOwners) K 32 (λ A m e. let n : IsNonterminal b A = h .synthesized-owners A m in omega arith) (λ e. omega arith)
+
+  pub no-own-start : (K : ℕ) → inheritedOwner b K ≢ leftOf (b .rules) 0
+  no-own-start K e = no-inherited-start K (e ∙ h .start-left)
 
   -- every right symbol is declared, so n0 and t0 stand on no right side
   pub symbols-declared : (P : ℕ) (X : Symbol) → Mem X (rightOf (b .rules) P) → RightSymbol b X
@@ -152,8 +110,9 @@ reads-whole b P (val I) (i, e) = (i, omega arith, e)
 module _ {b : Book} (h : Declared b) (o : Owned b) where
   pub inherited-reads : (P J K : ℕ) → Leaves (Reads b P J) (inheritedExpr b P J K)
   inherited-reads P J K = inherited-by (Leaves (Reads b P J)) P J K (b .inheritedDefinitions) (λ none. in-number) λ d m (p, j, k).
-      rw (← p, ← j) (leaves-map (reads-before b (d .rule) (d .position))
-        (leaves-join (leaves-join (h .inherited-declared d m .leaves-there) (o .inherited-owned d m .leaves-owned)) (o .inherited-owned d m .leaves-before)))
+      let there = h .inherited-declared d m .leaves-there in
+      let owned = o .inherited-owned d m in
+      rw (← p, ← j) (leaves-map (reads-before b (d .rule) (d .position)) (leaves-join (leaves-join there (owned .leaves-owned)) (owned .leaves-before)))
 
   pub synthesized-reads : (P K : ℕ) → Leaves (Reads b P (suc (length (rightOf (b .rules) P)))) (synthesizedExpr b P K)
   synthesized-reads P K =
@@ -188,7 +147,7 @@ module _ {b : Book} (h : Declared b) where
         state-there = rw s at (c .state-there);
         rule-there = rw p at (c .rule-there);
         dot-there = rw (d, p) at (c .dot-there);
-        lookahead-there = c .lookaheads-there a l
+        lookahead-there = c .lookaheads-there a l;
       }
 
   -- a terminal of FIRST(βb) is b or a terminal of the book, if β holds right symbols only
@@ -209,5 +168,5 @@ module _ {b : Book} (h : Declared b) where
         state-there = i .state-there;
         rule-there = q;
         dot-there = zero-le;
-        lookahead-there = first-declared f (λ X m. symbols-declared h P X (drop-in D (rightOf (b .rules) P) e (in-tail m))) (i .lookahead-there)
+        lookahead-there = first-declared f (λ X m. symbols-declared h P X (drop-in D (rightOf (b .rules) P) e (in-tail m))) (i .lookahead-there);
       }

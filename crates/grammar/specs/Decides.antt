@@ -2,7 +2,7 @@
 -- A test that is done at the first failure is written with `elim`, so that nothing more is computed. Assumes nothing.
 use Prim.Native.Nat.{ℕ, zero, suc, _≤_, _<_, zero-le}
 use native.Mathlib.Omega.{arith}
-use mathlib.Core.Path.{_≡_, refl, sym}
+use mathlib.Core.Path.{_≡_, refl}
 use mathlib.Core.Bool.{Bool, true, false, _&&_, false≢true}
 use mathlib.Core.List.{List, [], _∷_, List·Memᴰ as Mem, List·Memᴰ·head as in-head, List·Memᴰ·tail as in-tail, List·Memᴰ·not-nil as not-in-nil}
 use lib.Dec.{leb, ltb, eqb}
@@ -35,7 +35,7 @@ lt-decides m n = record { sound = ltb-true m n; complete = lt-ltb m n }
 pub eq-decides : (m n : ℕ) → Decides (eqb m n) (m ≡ n)
 eq-decides m n = record { sound = eqb-true m n; complete = eq-eqb m n }
 
--- both tests; the second form does not ask the second test where the first fails
+-- both tests; in the first form the second is asked only where the first holds
 pub then-decides : {s t : Bool} {A B : Type 0} → Decides s A → Decides t B → Decides (elim s [ true ↦ t | false ↦ false ]) (A × B)
 then-decides {s = true} p q = equivalent (λ h. (p .sound refl, h)) (λ h. h .1) q
 then-decides {s = false} p q = false-decides λ h. refutes p (h .0)

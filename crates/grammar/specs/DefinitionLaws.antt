@@ -44,7 +44,7 @@ inherited-by R P J K lines n s = rw (as-first lines) (first-by decides (λ d. d 
 
     decides : (d : InheritedDefinition) → Decides (test d) (InheritedOf P J K d)
     decides d = equivalent (λ (r, (p, a)). (r, p, a)) (λ (r, p, a). (r, (p, a)))
-      (and-decides (eq-decides (d .rule) P) (and-decides (eq-decides (d .position) J) (eq-decides (d .attribute) K)))
+        (and-decides (eq-decides (d .rule) P) (and-decides (eq-decides (d .position) J) (eq-decides (d .attribute) K)))
 
 pub synthesized-by : (R : Expr → Type 0) (P K : ℕ) (lines : List SynthesizedDefinition)
     → (((d : SynthesizedDefinition) → Mem d lines → SynthesizedOf P K d → ⊥) → R (number 0))

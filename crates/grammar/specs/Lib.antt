@@ -1,4 +1,5 @@
 pub mod Actions
+pub mod AfterLaws
 pub mod Book
 pub mod CellLaws
 pub mod ChainLaws
@@ -6,6 +7,7 @@ pub mod ClosureBounds
 pub mod ClosureSets
 pub mod Compiled
 pub mod CompiledTables
+pub mod ConditionCases
 pub mod ConditionTests
 pub mod ConditionTestsLaws
 pub mod Conditions
@@ -22,6 +24,7 @@ pub mod FixpointLaws
 pub mod Formula
 pub mod FormulaPremises
 pub mod FormulaTable
+pub mod GoLaws
 pub mod GoLines
 pub mod GoRulesLaws
 pub mod Items

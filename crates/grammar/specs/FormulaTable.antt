@@ -15,12 +15,12 @@ use Rattle.grammar.specs.Items.{Chain}
 use Rattle.grammar.specs.Formula.{Formula, formula, LR-attributed}
 use Rattle.grammar.specs.ChainLaws.{FromChain}
 use Rattle.grammar.specs.FirstSets.{Sets}
-use Rattle.grammar.specs.CoreItems.{Core, coreItems}
+use Rattle.grammar.specs.CoreItems.{coreItems}
 use Rattle.grammar.specs.ItemsRight.{ItemsRight}
-use Rattle.grammar.specs.Slots.{Slots, slotAt, partialOf, slotsOf}
+use Rattle.grammar.specs.Slots.{Slots, slotAt, slotsOf}
 use Rattle.grammar.specs.Compiled.{tabulate, Partials, partials, itemsTable, partialsAt, partsTable}
 use Rattle.grammar.specs.CompiledTables.{tabulate-at, tabulate-past}
-use Rattle.grammar.specs.PartialLaws.{partial-items}
+use Rattle.grammar.specs.PartialLaws.{partialAt, partial-items}
 use Rattle.grammar.specs.FormulaPremises.{FormulaPremises}
 use Rattle.grammar.specs.SlotsLaws.{slots-some, slots-none, slots-formula}
 
@@ -35,12 +35,8 @@ module _ (b : Book) (F : Sets) (R : List ℕ) where
   abbrev pub formulaTable : List (List Partials)
   formulaTable = partsTable b F R (itemsTable b F)
 
-  -- the items of the partial state (S, a)
-  abbrev pub partItems : ℕ → ℕ → List Core
-  partItems S a = partialOf (b .rules) F R a (coreItems b F S)
-
   partOf : ℕ → ℕ → Partials
-  partOf S a = partialsAt b (partItems S a)
+  partOf S a = partialsAt b (partialAt b F R S a)
 
   partsOf : ℕ → List Partials
   partsOf S = tabulate (partOf S) 0 (suc (b .terminals))
@@ -51,12 +47,12 @@ module _ (b : Book) (F : Sets) (R : List ℕ) where
   parts-tabulated i (suc count) = ap (λ parts. partsOf i ∷ parts) (parts-tabulated (suc i) count)
 
   pub formula-at : (S a K : ℕ) → S < b .states → a ≤ b .terminals
-      → formulaAt formulaTable S a K ≡ slotAt (slotsOf b (partItems S a)) K
+      → formulaAt formulaTable S a K ≡ slotAt (slotsOf b (partialAt b F R S a)) K
   unfolding formulaAt itemsTable slotsIn partialsAt partOf partsOf
   formula-at S a K h l =
       rw (parts-tabulated 0 (b .states), tabulate-at partsOf (b .states) S [] h, tabulate-at (partOf S) (suc (b .terminals)) a (partials [] []) (omega arith))
 
-  -- what stands in the table past the states and terminals is nothing
+  -- a formula stands only at the states and terminals of the book
   formula-within : (S a K : ℕ) (f : Formula) → formulaAt formulaTable S a K ≡ some f → (S < b .states) × (a ≤ b .terminals)
   unfolding formulaAt itemsTable slotsIn partsOf
   formula-within S a K f e = by (ltb S (b .states)) refl (ltb a (suc (b .terminals))) refl
@@ -67,29 +63,35 @@ module _ (b : Book) (F : Sets) (R : List ℕ) where
       by : (s : Bool) → ltb S (b .states) ≡ s → (t : Bool) → ltb a (suc (b .terminals)) ≡ t → (S < b .states) × (a ≤ b .terminals)
       by true h true l = (ltb-true _ _ h, omega (arith, ltb-true))
       by true h false l =
-          absurd (nothing (rw (parts-tabulated 0 (b .states), tabulate-at partsOf (b .states) S [] (ltb-true _ _ h),
-            tabulate-past (partOf S) (suc (b .terminals)) a (partials [] []) (ltb-false _ _ l))))
+          absurd (nothing (rw (
+            parts-tabulated 0 (b .states),
+            tabulate-at partsOf (b .states) S [] (ltb-true _ _ h),
+            tabulate-past (partOf S) (suc (b .terminals)) a (partials [] []) (ltb-false _ _ l),
+          )))
       by false h t l = absurd (nothing (rw (parts-tabulated 0 (b .states), tabulate-past partsOf (b .states) S [] (ltb-false _ _ h))))
 
 module _ {b : Book} {F : Sets} {R : List ℕ} (right : ItemsRight b F R) (H : FormulaPremises b) where
-  -- a chain's formula has a place in the table
-  chain-at : {S a P D c : ℕ} → Chain b S a P D c → (K : ℕ) → formulaAt (formulaTable b F R) S a K ≡ slotAt (slotsOf b (partItems b F R S a)) K
+  -- a chain is of a state and a terminal of the book
+  chain-at : {S a P D c : ℕ} → Chain b S a P D c → (K : ℕ) → formulaAt (formulaTable b F R) S a K ≡ slotAt (slotsOf b (partialAt b F R S a)) K
   chain-at {S} {a} {P} {D} {c} chain K = formula-at b F R S a K (H .chain-state S a P D c chain) (H .chain-terminal S a P D c chain)
 
+  -- nothing stands only where no chain ends before the owner
   pub formula-none : (S a P D c K : ℕ) (β : List Symbol) → formulaAt (formulaTable b F R) S a K ≡ none → Chain b S a P D c
       → after (b .rules) P D ≡ nonterminal (inheritedOwner b K) ∷ β → ⊥
-  formula-none S a P D c K β e chain h = slots-none b H S a (partItems b F R S a) (partial-items right S a) K (sym (chain-at chain K) ∙ e) chain h
+  formula-none S a P D c K β e chain h = slots-none b H S a (partialAt b F R S a) (partial-items right S a) K (sym (chain-at chain K) ∙ e) chain h
 
   module _ (attributed : LR-attributed b) where
+    -- what stands is the formula of a chain that ends before the owner
     pub formula-some : (S a K : ℕ) (f : Formula) → formulaAt (formulaTable b F R) S a K ≡ some f → FromChain b S a K f
     formula-some S a K f e =
         let (h, l) = formula-within b F R S a K f e in
-        slots-some b H S a (partItems b F R S a) (partial-items right S a) (attributed S a) K f (sym (formula-at b F R S a K h l) ∙ e)
+        slots-some b H S a (partialAt b F R S a) (partial-items right S a) (attributed S a) K f (sym (formula-at b F R S a K h l) ∙ e)
 
+    -- the formula of every chain stands
     pub formula-there : (S a P D c K : ℕ) (β : List Symbol) (chain : Chain b S a P D c) → after (b .rules) P D ≡ nonterminal (inheritedOwner b K) ∷ β
         → formulaAt (formulaTable b F R) S a K ≡ some (formula b chain K)
     formula-there S a P D c K β chain h =
-        chain-at chain K ∙ slots-formula b H S a (partItems b F R S a) (partial-items right S a) (attributed S a) chain K h refl
+        chain-at chain K ∙ slots-formula b H S a (partialAt b F R S a) (partial-items right S a) (attributed S a) chain K h refl
 
 -- opens every definition of this module
 unfoldable pub opens : Unit {0}

@@ -15,6 +15,10 @@ use Rattle.grammar.specs.CoreItems.{Core, core, coreItems}
 use Rattle.grammar.specs.ItemsRight.{ItemsRight}
 use Rattle.grammar.specs.Slots.{partialOf}
 
+-- the listed items of the partial state (S, a)
+abbrev pub partialAt : Book → Sets → List ℕ → ℕ → ℕ → List Core
+partialAt b F R S a = partialOf (b .rules) F R a (coreItems b F S)
+
 -- the items at the ends of the chains of (S, a) are those of the list
 pub record PartialItems (b : Book) (S a : ℕ) (items : List Core) : Type 0 where
   pub item-chain : (P D M : ℕ) → Mem (core P D M) items → (c : ℕ) × Chain b S a P D c
@@ -49,16 +53,16 @@ module _ (G : List Rule) (F : Sets) (R : List ℕ) (a : ℕ) where
       by false e n below = let (i, t) = below n in (in-tail i, t)
 
 module _ {b : Book} {F : Sets} {R : List ℕ} (right : ItemsRight b F R) (S a : ℕ) where
-  pub partial-items : PartialItems b S a (partialOf (b .rules) F R a (coreItems b F S))
+  pub partial-items : PartialItems b S a (partialAt b F R S a)
   partial-items = record { item-chain = item; chain-item = listed }
     where
-      item : (P D M : ℕ) → Mem (core P D M) (partialOf (b .rules) F R a (coreItems b F S)) → (c : ℕ) × Chain b S a P D c
+      item : (P D M : ℕ) → Mem (core P D M) (partialAt b F R S a) → (c : ℕ) × Chain b S a P D c
       item P D M m =
           let (n, t) = partial-out (b .rules) F R a P D M (coreItems b F S) m in
           let (c, l, r) = right .core-reaches S P D M a n t in
           (c, chain-to b (right .core-closure S P D M c n l) r)
 
-      listed : (P D c : ℕ) → Chain b S a P D c → (M : ℕ) × Mem (core P D M) (partialOf (b .rules) F R a (coreItems b F S))
+      listed : (P D c : ℕ) → Chain b S a P D c → (M : ℕ) × Mem (core P D M) (partialAt b F R S a)
       listed P D c chain =
           let (M, m, l) = right .closure-core S P D c (chain-closure b chain) in
           (M, partial-in (b .rules) F R a P D M (coreItems b F S) m (right .reaches-core S P D M a c m l (chain-reaches b chain)))

@@ -3,19 +3,18 @@
 use Prim.Native.Nat.{ℕ, zero, suc, _<_, _≤_, _^_}
 use native.Mathlib.Omega.{arith}
 use native.Mathlib.Decide.{ℕ-discrete}
-use mathlib.Core.Path.{_≡_, refl, sym, ap, _∙_}
+use mathlib.Core.Path.{_≡_, refl, ap, _∙_}
 use mathlib.Core.Logic.{_≢_, _⊎_, inl, inr}
 use mathlib.Core.Bool.{Bool, true, false}
 use mathlib.Core.Option.{Option, none, some}
 use mathlib.Core.List.{List, [], _∷_, List·Memᴰ as Mem, List·Memᴰ·head as in-head, List·Memᴰ·tail as in-tail}
 use lib.Dec.{eqb}
-use lib.ListN.{length, getD, set, replicate, length-set, length-replicate}
+use lib.ListN.{length, set, replicate, length-set, length-replicate}
 use lib.Seq.{getD-set-same}
 use borrow.Author.Tests.{eqb-true, eq-eqb, eqb-false}
 use Rattle.grammar.specs.Symbol.{Symbol, terminal, nonterminal, after}
-use Rattle.grammar.specs.Book.{Book, ownerAt, inheritedOwner}
+use Rattle.grammar.specs.Book.{Book, inheritedOwner}
 use Rattle.grammar.specs.Formula.{Formula, gives}
-use Rattle.grammar.specs.Fixpoint.{iterate}
 use Rattle.grammar.specs.FixpointLaws.{Grows, kept, fixed}
 use Rattle.grammar.specs.CoreItems.{Core, core}
 use Rattle.grammar.specs.Slots.{Slots, slotAt, ownAt, fill, filled, attributes, ready, fillFrom, fillItem, fillPass, slotsOf}
@@ -67,14 +66,14 @@ set-each R (x ∷ s) zero f h r (suc J) g e = h (suc J) g e
 set-each R (x ∷ s) (suc K) f h r zero g e = h zero g e
 set-each R (x ∷ s) (suc K) f h r (suc J) g e = set-each (λ j. R (suc j)) s K f (λ j. h (suc j)) r J g e
 
-set-keeps : (s : Slots) (K : ℕ) (f : Formula) (J : ℕ) → slotAt s K ≡ none → Filled (slotAt s J) → Filled (slotAt (set s K (some f)) J)
-set-keeps [] K f J e h = h
-set-keeps (x ∷ s) zero f zero e h = (f, refl)
-set-keeps (x ∷ s) zero f (suc J) e h = h
-set-keeps (x ∷ s) (suc K) f zero e h = h
-set-keeps (x ∷ s) (suc K) f (suc J) e h = set-keeps s K f J e h
+set-keeps : (s : Slots) (K : ℕ) (f : Formula) (J : ℕ) → Filled (slotAt s J) → Filled (slotAt (set s K (some f)) J)
+set-keeps [] K f J h = h
+set-keeps (x ∷ s) zero f zero h = (f, refl)
+set-keeps (x ∷ s) zero f (suc J) h = h
+set-keeps (x ∷ s) (suc K) f zero h = h
+set-keeps (x ∷ s) (suc K) f (suc J) h = set-keeps s K f J h
 
--- what holds of the slots where the slot is filled already, and of the slots with the formula put there where it is empty, holds after filling
+-- filling by cases: the slot is filled already, or it is empty and takes the formula
 fill-by : (Q : Slots → Type 0) (s : Slots) (K : ℕ) (f : Formula) → (Filled (slotAt s K) → Q s) → (slotAt s K ≡ none → Q (set s K (some f)))
     → Q (fill s K f)
 unfolding fill
@@ -94,11 +93,12 @@ fill-length : (s : Slots) (K : ℕ) (f : Formula) → length (fill s K f) ≡ le
 fill-length s K f = fill-by (λ t. length t ≡ length s) s K f (λ h. refl) (λ e. length-set s K (some f))
 
 fill-keeps : (s : Slots) (K : ℕ) (f : Formula) (J : ℕ) → Filled (slotAt s J) → Filled (slotAt (fill s K f) J)
-fill-keeps s K f J h = fill-by (λ t. Filled (slotAt t J)) s K f (λ old. h) (λ e. set-keeps s K f J e h)
+fill-keeps s K f J h = fill-by (λ t. Filled (slotAt t J)) s K f (λ old. h) (λ e. set-keeps s K f J h)
 
 fill-fills : (s : Slots) (K : ℕ) (f : Formula) → K < length s → Filled (slotAt (fill s K f) K)
 fill-fills s K f l = fill-by (λ t. Filled (slotAt t K)) s K f (λ h. h) (λ e. (f, getD-set-same s K (some f) none l))
 
+-- the slots below n are filled, and then slot n
 fill-next : (s : Slots) (n K : ℕ) (f : Formula) → K < suc n → K < length s → (K < n → Filled (slotAt s K)) → Filled (slotAt (fill s n f) K)
 fill-next s n K f h l below = by (ℕ-discrete K n)
   where
@@ -149,13 +149,13 @@ module _ (b : Book) where
   fillFrom-fills old P D B (suc n) s K h l o =
       let room : K < length (fillFrom b old P D B n s) = rw (fillFrom-length old P D B n s) l in
       fillFrom-turn (λ t. Filled (slotAt t K)) old P D B n s
-        (λ p. fill-next (fillFrom b old P D B n s) n K _ h room (λ k. fillFrom-fills old P D B n s K k l o))
-        (λ p. let d : K ≢ n = λ e. p (rw e at o) in fillFrom-fills old P D B n s K (omega arith) l o)
+      (λ p. fill-next (fillFrom b old P D B n s) n K _ h room (λ k. fillFrom-fills old P D B n s K k l o))
+      (λ p. let d : K ≢ n = λ e. p (rw e at o) in fillFrom-fills old P D B n s K (omega arith) l o)
 
   -- what filling a slot of the item's next nonterminal keeps holds after the item
   fillItem-by : (Q : Slots → Type 0) (P D : ℕ) (rest : List Symbol) (s : Slots)
       → ((B K : ℕ) (β : List Symbol) (t : Slots) → rest ≡ nonterminal B ∷ β → ready b s P D ≡ true → inheritedOwner b K ≡ B → Q t
-        → Q (fill t K (gives b P D (ownAt s D) K)))
+      → Q (fill t K (gives b P D (ownAt s D) K)))
       → Q s → Q (fillItem b P D rest s)
   unfolding fillItem
   fillItem-by Q P D [] s step q = q
@@ -174,6 +174,9 @@ module _ (b : Book) where
   fillItem-fuller : (P D : ℕ) (rest : List Symbol) (s : Slots) → Fuller s (fillItem b P D rest s)
   fillItem-fuller P D rest s = fillItem-by (Fuller s) P D rest s (λ B K β t e r o h. fuller-trans h (fill-fuller t K _)) (inl refl)
 
+  fillItem-length : (P D : ℕ) (rest : List Symbol) (s : Slots) → length (fillItem b P D rest s) ≡ length s
+  fillItem-length P D rest s = fillItem-by (λ t. length t ≡ length s) P D rest s (λ B K β t e r o h. fill-length t K _ ∙ h) refl
+
   -- what the items keep holds after the pass
   fillPass-by : (Q : Slots → Type 0) (items : List Core) (s : Slots)
       → ((P D M : ℕ) (t : Slots) → Mem (core P D M) items → Q t → Q (fillItem b P D (after (b .rules) P D) t)) → Q s → Q (fillPass b items s)
@@ -185,21 +188,21 @@ module _ (b : Book) where
   fillPass-fuller items s = fillPass-by (Fuller s) items s (λ P D M t m h. fuller-trans h (fillItem-fuller P D _ t)) (inl refl)
 
   fillPass-length : (items : List Core) (s : Slots) → length (fillPass b items s) ≡ length s
-  fillPass-length items s =
-      fillPass-by (λ t. length t ≡ length s) items s
-        (λ P D M t m h. fillItem-by (λ u. length u ≡ length s) P D _ t (λ B K β u e r o g. fill-length u K _ ∙ g) h) refl
+  fillPass-length items s = fillPass-by (λ t. length t ≡ length s) items s (λ P D M t m h. fillItem-length P D _ t ∙ h) refl
 
-  -- a pass that changes nothing has no item that changes anything
+  -- a pass that changes nothing has no item that changes anything: the first does not, and so the rest do not
+  first-rests : (P D : ℕ) (items : List Core) (s : Slots) → fillPass b items (fillItem b P D (after (b .rules) P D) s) ≡ s
+      → fillItem b P D (after (b .rules) P D) s ≡ s
+  first-rests P D items s e = fuller-between (fillItem-fuller P D _ s) (fillPass-fuller items _) e
+
   pass-rests : (items : List Core) (s : Slots) → fillPass b items s ≡ s → (P D M : ℕ) → Mem (core P D M) items → fillItem b P D (after (b .rules) P D) s ≡ s
   unfolding fillPass
   pass-rests (core P D M ∷ items) s e P′ D′ M′ (in-head q) =
-      let still : fillItem b P D (after (b .rules) P D) s ≡ s = fuller-between (fillItem-fuller P D _ s) (fillPass-fuller items _) e in
       let same-rule : P′ ≡ P = cc in
       let same-dot : D′ ≡ D = cc in
-      rw (same-rule, same-dot) still
+      rw (same-rule, same-dot) (first-rests P D items s e)
   pass-rests (core P D M ∷ items) s e P′ D′ M′ (in-tail m) =
-      let still : fillItem b P D (after (b .rules) P D) s ≡ s = fuller-between (fillItem-fuller P D _ s) (fillPass-fuller items _) e in
-      pass-rests items s (rw still at e) P′ D′ M′ m
+      pass-rests items s (rw (first-rests P D items s e) at e) P′ D′ M′ m
 
   -- ---------------------------------------------------------------- the passes
 
@@ -226,16 +229,15 @@ module _ (b : Book) where
     slots-length : length (slotsOf b items) ≡ attributes b
     slots-length = slots-by (λ s. length s ≡ attributes b) (λ s k. fillPass-length items s ∙ k) (length-replicate (attributes b) none)
 
-    -- what every item that is ready gives, if all that stood before is so, is true of all that stands at the end
+    -- what every ready item gives is as R says, if all that stood before is; so all that stands at the end is
     pub slots-each : (R : ℕ → Formula → Type 0)
         → ((P D M B K : ℕ) (β : List Symbol) (s : Slots) → Mem (core P D M) items → after (b .rules) P D ≡ nonterminal B ∷ β → inheritedOwner b K ≡ B
-          → ready b s P D ≡ true → Each R s → R K (gives b P D (ownAt s D) K))
+        → ready b s P D ≡ true → Each R s → R K (gives b P D (ownAt s D) K))
         → Each R (slotsOf b items)
-    slots-each R step =
-        slots-by (Each R)
-          (λ s h. fillPass-by (Each R) items s
-            (λ P D M t m g. fillItem-by (Each R) P D _ t (λ B K β u e r o k. fill-each R u K _ k (step P D M B K β t m e o r g)) g) h)
-          (empty-each R (attributes b))
+    slots-each R step = slots-by (Each R) (λ s. fillPass-by (Each R) items s item) (empty-each R (attributes b))
+      where
+        item : (P D M : ℕ) (s : Slots) → Mem (core P D M) items → Each R s → Each R (fillItem b P D (after (b .rules) P D) s)
+        item P D M s m h = fillItem-by (Each R) P D _ s (λ B K β t e r o g. fill-each R t K _ g (step P D M B K β s m e o r h)) h
 
     slots-rest : attributes b ≤ 2 ^ 40 → fillPass b items (slotsOf b items) ≡ slotsOf b items
     unfolding slotsOf

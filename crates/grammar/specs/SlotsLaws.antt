@@ -1,26 +1,24 @@
 -- The one-formula check decides the one-formula condition of a partial state (10, of one state and terminal). If every item gives what stands in the
 -- slots, by induction every chain's formula stands there. If all chains agree, every slot that a pass fills holds a chain's formula, and at the end
--- of the passes every chain's slots are filled, so that each item gives what stands there. Assumes nothing.
-use Prim.Native.Nat.{ℕ, zero, suc, _<_, _≤_}
+-- of the passes every chain's slots are filled, so that each item gives what stands there. Assumes the premises of formulas and that the list has the
+-- partial state's items.
+use Prim.Native.Nat.{ℕ, zero, suc}
 use native.Mathlib.Omega.{arith}
-use native.Mathlib.Decide.{ℕ-discrete}
 use mathlib.Core.Path.{_≡_, refl, ap, sym, _∙_}
-use mathlib.Core.Bool.{true, false}
-use mathlib.Core.Option.{Option, none, some}
-use mathlib.Core.List.{List, [], _∷_, nil≢cons, List·Memᴰ as Mem, List·Memᴰ·head as in-head, List·Memᴰ·tail as in-tail}
-use lib.ListN.{length, getD, drop, List·getD-eq-default}
+use mathlib.Core.Bool.{true}
+use mathlib.Core.Option.{none, some}
+use mathlib.Core.List.{List, _∷_, List·Memᴰ as Mem}
 use Rattle.grammar.specs.Decides.{Decides}
-use Rattle.grammar.specs.Symbol.{Symbol, nonterminal, leftOf, rightOf, after}
-use Rattle.grammar.specs.Term.{Term, replace}
+use Rattle.grammar.specs.Symbol.{Symbol, nonterminal, leftOf, after}
 use Rattle.grammar.specs.TermLaws.{replace-same}
-use Rattle.grammar.specs.Book.{Place, own, at, val, Book, inheritedOwner, inheritedExpr}
-use Rattle.grammar.specs.Items.{Derives, derives, KernelItem, Chain, one, longer}
+use Rattle.grammar.specs.Book.{Place, own, at, val, Book, inheritedOwner}
+use Rattle.grammar.specs.Items.{derives, KernelItem, Chain, one, longer}
 use Rattle.grammar.specs.Formula.{Formula, becomes, ownBelow, gives, formula}
 use Rattle.grammar.specs.ChainLaws.{FromChain, from-chain, OneFormula, from-chain-same}
 use Rattle.grammar.specs.CoreItems.{Core, core}
 use Rattle.grammar.specs.Slots.{Slots, slotAt, standing, ownAt, attributes, ready, slotsOf, agrees}
 use Rattle.grammar.specs.SlotsFill.{Filled, Each, slots-each, slots-filled}
-use Rattle.grammar.specs.SlotsTests.{settledBelow-decides, GivesStanding, agrees-decides}
+use Rattle.grammar.specs.SlotsTests.{settledBelow-decides, ItemAgrees, agrees-decides}
 use Rattle.grammar.specs.PartialLaws.{PartialItems}
 use Rattle.grammar.specs.FormulaPremises.{OwnLeft, FormulaPremises}
 
@@ -55,7 +53,7 @@ module _ (b : Book) (H : FormulaPremises b) where
   unfolding ownAt standing
   derived-gives slots Q f stand K = gives-same Q 0 (ownAt slots 0) f (λ J o. ap standing (stand J o)) K
 
-  module _ (S a : ℕ) (items : List Core) (L : PartialItems b S a items) where
+  module _ (S a : ℕ) (items : List Core) (listed : PartialItems b S a items) where
     -- ---------------------------------------------------------------- if the check finds nothing wrong
 
     -- every chain's formula stands in the slots
@@ -63,11 +61,11 @@ module _ (b : Book) (H : FormulaPremises b) where
         → after (b .rules) P D ≡ nonterminal B ∷ β → inheritedOwner b K ≡ B → slotAt slots K ≡ some (formula b chain K)
     unfolding formula
     agrees-stands slots agree (one {P = P} {D = D} {c = c} k r) K h o =
-        let (M, m) = L .chain-item P D c (one k r) in
-        agrees-decides b slots items .sound agree P D M m _ _ h K (H .next-owned P D _ K _ h o) o ∙ ap some (kernel-gives slots S P D c k K)
+        let (M, m) = listed .chain-item P D c (one k r) in
+        agrees-decides b slots items .sound agree (core P D M) m _ _ h K (H .next-owned P D _ K _ h o) o ∙ ap some (kernel-gives slots S P D c k K)
     agrees-stands slots agree (longer {Q = Q} {d = d} chain (derives g p q f) r) K h o =
-        let (M, m) = L .chain-item Q 0 d (longer chain (derives g p q f) r) in
-        agrees-decides b slots items .sound agree Q 0 M m _ _ h K (H .next-owned Q 0 _ K _ h o) o
+        let (M, m) = listed .chain-item Q 0 d (longer chain (derives g p q f) r) in
+        agrees-decides b slots items .sound agree (core Q 0 M) m _ _ h K (H .next-owned Q 0 _ K _ h o) o
         ∙ ap some (derived-gives slots Q (formula b chain) (λ J u. agrees-stands slots agree chain J g (u ∙ q)) K)
 
     pub agrees-one-formula : (slots : Slots) → agrees b slots items ≡ true → OneFormula b S a
@@ -82,7 +80,7 @@ module _ (b : Book) (H : FormulaPremises b) where
     ready-filled : {P D c B : ℕ} {β : List Symbol} → Chain b S a P D c → (K : ℕ) → ready b (slotsOf b items) P D ≡ true
         → after (b .rules) P D ≡ nonterminal B ∷ β → inheritedOwner b K ≡ B → Filled (slotAt (slotsOf b items) K)
     ready-filled {P} {D} {c} {B} {β} chain K r h o =
-        let (M, m) = L .chain-item P D c chain in
+        let (M, m) = listed .chain-item P D c chain in
         let limit = H .attributes-limit in
         slots-filled b items (omega arith) P D M B K β m h r (H .next-owned P D _ K _ h o) o
 
@@ -123,11 +121,13 @@ module _ (b : Book) (H : FormulaPremises b) where
 
       -- what stands in a slot is the formula of a chain
       pub slots-some : (K : ℕ) (f : Formula) → slotAt (slotsOf b items) K ≡ some f → FromChain b S a K f
-      slots-some =
-          slots-each b items (FromChain b S a)
-            (λ P D M B K β s m h o r each.
-              let (c, chain) = L .item-chain P D M m in
-              from-chain {β = β} chain (rw o h) (sym (chain-gives s each chain r K)))
+      slots-some = slots-each b items (FromChain b S a) item-gives
+        where
+          item-gives : (P D M B K : ℕ) (β : List Symbol) (s : Slots) → Mem (core P D M) items → after (b .rules) P D ≡ nonterminal B ∷ β
+              → inheritedOwner b K ≡ B → ready b s P D ≡ true → Each (FromChain b S a) s → FromChain b S a K (gives b P D (ownAt s D) K)
+          item-gives P D M B K β s m h o r each =
+              let (c, chain) = listed .item-chain P D M m in
+              from-chain {β = β} chain (rw o h) (sym (chain-gives s each chain r K))
 
       -- the formula of every chain stands there
       pub slots-formula : {P D c B : ℕ} {β : List Symbol} (chain : Chain b S a P D c) (K : ℕ) → after (b .rules) P D ≡ nonterminal B ∷ β
@@ -137,10 +137,12 @@ module _ (b : Book) (H : FormulaPremises b) where
           e ∙ ap some (sym (from-chain-same b K agree chain h o (slots-some K f e)))
 
       pub one-formula-agrees : agrees b (slotsOf b items) items ≡ true
-      one-formula-agrees =
-          agrees-decides b (slotsOf b items) items .complete λ P D M m B β h K l o.
-            let (c, chain) = L .item-chain P D M m in
-            slots-formula chain K h o ∙ ap some (sym (chain-gives (slotsOf b items) slots-some chain (slots-ready chain) K))
+      one-formula-agrees = agrees-decides b (slotsOf b items) items .complete item-agrees
+        where
+          item-agrees : (item : Core) → Mem item items → ItemAgrees b (slotsOf b items) item
+          item-agrees (core P D M) m = λ B β h K l o.
+              let (c, chain) = listed .item-chain P D M m in
+              slots-formula chain K h o ∙ ap some (sym (chain-gives (slotsOf b items) slots-some chain (slots-ready chain) K))
 
     -- 10, of one partial state
     pub agrees-decides-one-formula : Decides (agrees b (slotsOf b items) items) (OneFormula b S a)

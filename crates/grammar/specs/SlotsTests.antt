@@ -6,16 +6,15 @@ use native.Mathlib.Decide.{ℕ-discrete}
 use mathlib.Core.Path.{_≡_, refl, ap, _∙_}
 use mathlib.Core.Bool.{Bool, true, false}
 use mathlib.Core.Option.{Option, none, some}
-use mathlib.Core.List.{List, [], _∷_, List·Memᴰ as Mem, List·Memᴰ·head as in-head, List·Memᴰ·tail as in-tail, List·Memᴰ·not-nil as not-in-nil}
+use mathlib.Core.List.{List, [], _∷_}
 use lib.Dec.{eqb}
 use Rattle.grammar.specs.Decides.{Decides, true-decides, false-decides, refutes, equivalent, eq-decides, then-decides}
+use Rattle.grammar.specs.DecidesSteps.{All, all-nil, all-cons}
 use Rattle.grammar.specs.Symbol.{Symbol, terminal, nonterminal, after}
 use Rattle.grammar.specs.Book.{Book, ownerAt, inheritedOwner}
 use Rattle.grammar.specs.Formula.{Formula, gives}
 use Rattle.grammar.specs.CoreItems.{Core, core}
-use Rattle.grammar.specs.Slots.{
-  Slots, slotAt, ownAt, settledBelow, sameFormula, stands, attributes, agreesBelow, agreesItem, agrees
-}
+use Rattle.grammar.specs.Slots.{Slots, slotAt, ownAt, settledBelow, stands, attributes, agreesBelow, agreesItem, agrees}
 use Rattle.grammar.specs.SameFormula.{same-formula}
 use Rattle.grammar.specs.SlotsFill.{Filled}
 
@@ -28,7 +27,7 @@ stands-decides (some g) f = equivalent (λ e. ap some e) (λ e. cc) (same-formul
 abbrev pub OwnedBelow : (ℕ → ℕ) → ℕ → ℕ → (ℕ → Type 0) → Type 0
 OwnedBelow owner A n Q = (K : ℕ) → K < n → owner K ≡ A → Q K
 
--- one attribute more: tests of those below, and of them with it
+-- one attribute more, tested if A owns it
 below-decides : (owner : ℕ → ℕ) (A n : ℕ) (Q : ℕ → Type 0) {t u : Bool} → Decides t (OwnedBelow owner A n Q) → Decides u (Q n × OwnedBelow owner A n Q)
     → Decides (elim (eqb (owner n) A) [ true ↦ u | false ↦ t ]) (OwnedBelow owner A (suc n) Q)
 below-decides owner A n Q {t} {u} below also = by (eq-decides (owner n) A)
@@ -57,39 +56,32 @@ settledBelow-decides owners slots A (suc n) =
     by (some f) d = equivalent (λ h. ((f, refl), h)) (λ h. h .1) d
 
 module _ (b : Book) (slots : Slots) where
-  -- the item (P, D) gives every attribute of its next nonterminal, behind which β stands, just what stands in its slot
-  abbrev pub GivesStanding : ℕ → ℕ → List Symbol → Type 0
-  GivesStanding P D rest = (B : ℕ) (β : List Symbol) → rest ≡ nonterminal B ∷ β
-      → OwnedBelow (inheritedOwner b) B (attributes b) (λ K. slotAt slots K ≡ some (gives b P D (ownAt slots D) K))
+  -- the item (P, D) gives the attribute K just what stands in its slot
+  abbrev pub GivesStanding : ℕ → ℕ → ℕ → Type 0
+  GivesStanding P D K = slotAt slots K ≡ some (gives b P D (ownAt slots D) K)
 
-  agreesBelow-decides : (P D B n : ℕ)
-      → Decides (agreesBelow b slots P D B n) (OwnedBelow (inheritedOwner b) B n (λ K. slotAt slots K ≡ some (gives b P D (ownAt slots D) K)))
+  -- it does so for each attribute of its next nonterminal, where `rest` stands behind its dot
+  abbrev pub Agrees : ℕ → ℕ → List Symbol → Type 0
+  Agrees P D rest = (B : ℕ) (β : List Symbol) → rest ≡ nonterminal B ∷ β → OwnedBelow (inheritedOwner b) B (attributes b) (GivesStanding P D)
+
+  abbrev pub ItemAgrees : Core → Type 0
+  ItemAgrees (core P D M) = Agrees P D (after (b .rules) P D)
+
+  agreesBelow-decides : (P D B n : ℕ) → Decides (agreesBelow b slots P D B n) (OwnedBelow (inheritedOwner b) B n (GivesStanding P D))
   unfolding agreesBelow
   agreesBelow-decides P D B zero = true-decides λ K l. absurd (omega arith)
   agreesBelow-decides P D B (suc n) =
       let below = agreesBelow-decides P D B n in
-      below-decides (inheritedOwner b) B n (λ K. slotAt slots K ≡ some (gives b P D (ownAt slots D) K)) below (then-decides (stands-decides _ _) below)
+      below-decides (inheritedOwner b) B n (GivesStanding P D) below (then-decides (stands-decides _ _) below)
 
-  agreesItem-decides : (P D : ℕ) (rest : List Symbol) → Decides (agreesItem b slots P D rest) (GivesStanding P D rest)
+  agreesItem-decides : (P D : ℕ) (rest : List Symbol) → Decides (agreesItem b slots P D rest) (Agrees P D rest)
   unfolding agreesItem
   agreesItem-decides P D [] = true-decides λ B β e. absurd (let z : _≡_ {A = ℕ} 0 1 = cc in omega arith)
   agreesItem-decides P D (terminal a ∷ β) = true-decides λ B γ e. absurd (let z : _≡_ {A = ℕ} 0 1 = cc in omega arith)
   agreesItem-decides P D (nonterminal B ∷ β) =
       equivalent (λ h C γ e K l o. let same : C ≡ B = cc in h K l (o ∙ same)) (λ h. h B β refl) (agreesBelow-decides P D B (attributes b))
 
-  -- 10, of one partial state: every item agrees with the slots
-  pub agrees-decides : (items : List Core)
-      → Decides (agrees b slots items) ((P D M : ℕ) → Mem (core P D M) items → GivesStanding P D (after (b .rules) P D))
+  pub agrees-decides : (items : List Core) → Decides (agrees b slots items) (All ItemAgrees items)
   unfolding agrees
-  agrees-decides [] = true-decides λ P D M m. absurd (not-in-nil m)
-  agrees-decides (core P D M ∷ items) =
-      equivalent join (λ h. (h P D M (in-head refl), λ P′ D′ M′ m. h P′ D′ M′ (in-tail m)))
-        (then-decides (agreesItem-decides P D (after (b .rules) P D)) (agrees-decides items))
-    where
-      join : GivesStanding P D (after (b .rules) P D) × ((P D M : ℕ) → Mem (core P D M) items → GivesStanding P D (after (b .rules) P D))
-          → (P′ D′ M′ : ℕ) → Mem (core P′ D′ M′) (core P D M ∷ items) → GivesStanding P′ D′ (after (b .rules) P′ D′)
-      join h P′ D′ M′ (in-head e) =
-          let same-rule : P′ ≡ P = cc in
-          let same-dot : D′ ≡ D = cc in
-          rw (same-rule, same-dot) (h .0)
-      join h P′ D′ M′ (in-tail m) = h .1 P′ D′ M′ m
+  agrees-decides [] = all-nil
+  agrees-decides (core P D M ∷ items) = all-cons (agreesItem-decides P D (after (b .rules) P D)) (agrees-decides items)

@@ -2,7 +2,7 @@
 -- slots, by induction every chain's formula stands there. If all chains agree, every slot that a pass fills holds a chain's formula, and at the end
 -- of the passes every chain's slots are filled, so that each item gives what stands there. Assumes the premises of formulas and that the list has the
 -- partial state's items.
-use Prim.Native.Nat.{ℕ, zero, suc}
+use Prim.Native.Nat.{ℕ, zero, suc, _<_}
 use native.Mathlib.Omega.{arith}
 use mathlib.Core.Path.{_≡_, refl, ap, sym, _∙_}
 use mathlib.Core.Bool.{true}
@@ -116,7 +116,8 @@ module _ (b : Book) (H : FormulaPremises b) where
           stand : (J : ℕ) → inheritedOwner b J ≡ leftOf (b .rules) Q → slotAt s J ≡ some (formula b chain J)
           stand J o =
               let owner : inheritedOwner b J ≡ B = o ∙ q in
-              let (f, e) = settledBelow-decides (b .inheritedOwners) s (leftOf (b .rules) Q) (attributes b) .sound settled J (H .next-owned P D B J _ g owner) o in
+              let below : J < attributes b = H .next-owned P D B J _ g owner in
+              let (f, e) = settledBelow-decides (b .inheritedOwners) s (leftOf (b .rules) Q) (attributes b) .sound settled J below o in
               e ∙ ap some (sym (from-chain-same b J agree chain g owner (each J f e)))
 
       -- what stands in a slot is the formula of a chain

@@ -3,8 +3,9 @@
 use Prim.Native.Nat.{ℕ, zero, suc, _+_, _<_, _≤_}
 use mathlib.Core.Path.{_≡_, refl, sym, ap, _∙_}
 use mathlib.Core.Bool.{Bool, true, false}
-use mathlib.Core.Logic.{_⊎_, inl, inr, ⊎-elim}
+use mathlib.Core.Logic.{_⊎_, ⊎-elim}
 use native.Mathlib.Omega.{arith}
+use Rattle.grammar.specs.TestLaws.{by-test, true-false}
 use Rattle.grammar.specs.Fixpoint.{iterate}
 
 -- what a step must meet: `same` tells whether it changes anything, `ok` is kept, and a change makes the size larger, up to a bound
@@ -28,11 +29,8 @@ module _ {S : Type 0} (same : S → S → Bool) (step : S → S) (fuel : ℕ) (s
   -- what holds of s if the step changes nothing, and of what the next turns make of the step's outcome, holds of what the turn makes
   by-turn : (P : S → Type 0) → (same (step s) s ≡ true → P s) → (same (step s) s ≡ false → P (iterate same step fuel (step s)))
       → P (iterate same step (suc fuel) s)
-  by-turn P still moves = go (same (step s) s) refl
-    where
-      go : (t : Bool) → same (step s) s ≡ t → P (iterate same step (suc fuel) s)
-      go true q = rw (ends q) (still q)
-      go false q = rw (goes-on q) (moves q)
+  unfolding iterate
+  by-turn P = by-test (same (step s) s) s (iterate same step fuel (step s)) P
 
 -- what the step keeps holds at the end
 module _ {S : Type 0} (same : S → S → Bool) (step : S → S) (P : S → Type 0) (keeps : (s : S) → P s → P (step s)) where
@@ -45,7 +43,7 @@ module _ {S : Type 0} {same : S → S → Bool} {step : S → S} {ok : S → Typ
   -- a step that is not told to be still makes the size larger
   moved : (s : S) → ok s → same (step s) s ≡ false → size s < size (step s)
   moved s k q =
-      ⊎-elim (λ e. let t : same (step s) s ≡ true = G .still-same s k e in absurd (let z : _≡_ {A = ℕ} 0 1 = cc in omega arith)) (λ l. l) (G .grows s k)
+      ⊎-elim (λ e. true-false (G .still-same s k e) q) (λ l. l) (G .grows s k)
 
   -- at the bound nothing moves
   full : (s : S) → ok s → bound ≤ size s → step s ≡ s

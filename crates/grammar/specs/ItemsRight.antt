@@ -2,15 +2,15 @@
 -- The laws about a book's sets give it; what is decided by the sets takes it as its hypothesis. Assumes nothing.
 use Prim.Native.Nat.{ℕ}
 use mathlib.Core.Path.{_≡_}
-use mathlib.Core.Bool.{Bool, true}
+use mathlib.Core.Bool.{true}
 use mathlib.Core.List.{List, List·Memᴰ as Mem}
 use Rattle.sets.specs.Sets.{bit}
-use Rattle.grammar.specs.Symbol.{Rule, after}
+use Rattle.grammar.specs.Symbol.{after}
 use Rattle.grammar.specs.Book.{Book}
 use Rattle.grammar.specs.Items.{Reaches, Closure}
 use Rattle.grammar.specs.FirstSets.{Sets}
 use Rattle.grammar.specs.ReachSets.{reachWith}
-use Rattle.grammar.specs.CoreItems.{Core, core, coreItems}
+use Rattle.grammar.specs.CoreItems.{core, coreItems}
 
 pub record ItemsRight (b : Book) (F : Sets) (R : List ℕ) : Type 0 where
   -- the items of a closure are those listed

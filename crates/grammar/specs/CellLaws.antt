@@ -1,14 +1,13 @@
 -- A cell sums up the actions that are given at a state and a terminal: none, one, or several that differ.
 -- Assumes nothing.
-use Prim.Native.Nat.{ℕ, zero, suc}
+use Prim.Native.Nat.{ℕ}
 use native.Mathlib.Decide.{ℕ-discrete}
 use native.Mathlib.Omega.{arith}
 use mathlib.Core.Path.{_≡_, refl, sym, _∙_}
 use mathlib.Core.Logic.{_≢_, _⊎_, inl, inr, ⊎-elim}
 use mathlib.Core.Bool.{Bool, true, false, false≢true}
-use mathlib.Core.Option.{Option, none, some}
+use mathlib.Core.Option.{some}
 use mathlib.Core.List.{List, [], _∷_, List·Memᴰ as Mem, List·Memᴰ·head as in-head, List·Memᴰ·tail as in-tail, List·Memᴰ·not-nil as not-in-nil}
-use lib.ListN.{getD}
 use lib.Dec.{eqb}
 use borrow.Author.Tests.{eqb-true, eqb-false}
 use Rattle.sets.specs.Sets.{bit, single}
@@ -16,7 +15,7 @@ use Rattle.sets.specs.SetsLaws.{bit-single}
 use Rattle.grammar.specs.Symbol.{Symbol, terminal, nonterminal, Rule, after}
 use Rattle.grammar.specs.States.{Action, Action-discrete, shift}
 use Rattle.grammar.specs.CoreItems.{Core, core}
-use Rattle.grammar.specs.Actions.{Cell, free, act, conflict, sameAction, meld, completed, meldItem, cellFrom, noConflictIn, actionOf}
+use Rattle.grammar.specs.Actions.{Cell, free, act, conflict, sameAction, meld, completed, meldItem, cellFrom, actionOf}
 use Rattle.grammar.specs.Decides.{Decides, true-decides, false-decides, refutes}
 use Rattle.grammar.specs.DecidesSteps.{Some}
 
@@ -42,7 +41,7 @@ sameAction-decides x y = go (Action-discrete ℕ-discrete x y)
     go (no n) = false-decides n
 
 module _ {Given More : Action → Type 0} (x : Action) (new : More x) (old : (y : Action) → Given y → More y)
-         (either : (y : Action) → More y → (y ≡ x) ⊎ Given y) where
+    (either : (y : Action) → More y → (y ≡ x) ⊎ Given y) where
   -- one action more
   meld-sums : {cell : Cell} → Sums Given cell → Sums More (meld cell x)
   unfolding meld

@@ -2,17 +2,15 @@
 -- and terminals behind dots are terminals of the book. Assumes what line order, limits and declared names give (WellNamed).
 use Prim.Native.Nat.{ℕ, zero, suc, _≤_, _<_}
 use native.Mathlib.Omega.{arith}
-use mathlib.Core.Path.{_≡_, refl, sym}
+use mathlib.Core.Path.{_≡_, refl}
 use mathlib.Core.Logic.{⊎-elim}
-use mathlib.Core.List.{
-  List, [], _∷_, _++_, List·Memᴰ as Mem, List·Memᴰ·head as in-head, List·Memᴰ·tail as in-tail, List·Memᴰ·not-nil as not-in-nil,
-  List·Memᴰ·append-cases as in-append
-}
+use mathlib.Core.List.{List, [], _∷_, List·Memᴰ as Mem, List·Memᴰ·head as in-head, List·Memᴰ·tail as in-tail, List·Memᴰ·not-nil as not-in-nil}
+use mathlib.Core.List.{List·Memᴰ·append-cases as in-append}
 use lib.ListN.{length, drop}
-use Rattle.grammar.specs.Symbol.{Symbol, terminal, nonterminal, Rule, ruleAt, rightOf, after}
-use Rattle.grammar.specs.Book.{Book, Kernel}
+use Rattle.grammar.specs.Symbol.{Symbol, terminal, Rule, ruleAt, rightOf, after}
+use Rattle.grammar.specs.Book.{Book}
 use Rattle.grammar.specs.First.{First, past, here, expand}
-use Rattle.grammar.specs.Items.{Derives, derives, KernelItem, kernel-item, Closure, kernel, close}
+use Rattle.grammar.specs.Items.{derives, kernel-item, Closure, kernel, close}
 use Rattle.grammar.specs.WellNamed.{WellNamed}
 
 in-drop : {A : Type 0} (D : ℕ) (l : List A) (x : A) → Mem x (drop D l) → Mem x l
@@ -27,7 +25,7 @@ right-line [] P X m = absurd (not-in-nil m)
 right-line (r ∷ G) zero X m = (r, in-head refl, m)
 right-line (r ∷ G) (suc P) X m = let (q, n, i) = right-line G P X m in (q, in-tail n, i)
 
--- the terminals in a list of symbols are t1..tT
+-- the terminals in a list of symbols are at most tT
 abbrev Known : ℕ → List Symbol → Type 0
 Known T β = (a : ℕ) → Mem (terminal a) β → a ≤ T
 

@@ -2,7 +2,7 @@
 -- Assumes what line order, limits and declared names give (WellNamed) and that the listed items are the closure (ItemsRight).
 use Prim.Native.Nat.{ℕ, zero, suc, _≤_, _<_, _-_}
 use native.Mathlib.Omega.{arith}
-use mathlib.Core.Path.{_≡_, refl, sym, _∙_}
+use mathlib.Core.Path.{_≡_, refl, _∙_}
 use mathlib.Core.Bool.{Bool, true, false, _&&_}
 use mathlib.Core.Option.{Option, none, some}
 use mathlib.Core.List.{List, [], _∷_, List·Memᴰ as Mem, List·Memᴰ·head as in-head, List·Memᴰ·not-nil as not-in-nil}
@@ -12,22 +12,21 @@ use Rattle.sets.specs.Sets.{bit, subset}
 use Rattle.grammar.specs.Symbol.{Symbol, Rule, after}
 use Rattle.grammar.specs.Book.{Book, Kernel, Go}
 use Rattle.grammar.specs.Items.{KernelItem, kernel-item, Closure}
-use Rattle.grammar.specs.States.{sameSymbol, goIn, goTo, GoRules}
+use Rattle.grammar.specs.States.{goIn, goTo, GoRules}
 use Rattle.grammar.specs.FirstSets.{Sets}
 use Rattle.grammar.specs.ClosureSets.{setOf, kernelsIn}
 use Rattle.grammar.specs.CoreItems.{Core, core, coreItems}
-use Rattle.grammar.specs.StatesCheck.{
-  holdsItem, advancesTo, advances, allAdvance, nextIs, comesFrom, allCome, someKernel, goLines, statesAdvance, goRules
-}
+use Rattle.grammar.specs.StatesCheck.{holdsItem, advancesTo, advances, allAdvance, statesAdvance}
+use Rattle.grammar.specs.StatesCheck.{nextIs, comesFrom, allCome, someKernel, goLines, goRules}
 use Rattle.grammar.specs.Compiled.{itemsTable, itemsAt}
 use Rattle.grammar.specs.CompiledTables.{items-at, items-past}
 use Rattle.grammar.specs.ItemsRight.{ItemsRight}
 use Rattle.grammar.specs.Decides.{Decides, true-decides, false-decides, equivalent, le-decides, eq-decides, and-decides}
 use Rattle.grammar.specs.DecidesSteps.{All, Some, all-nil, all-cons, some-nil, some-cons, below-zero, below-suc}
-use Rattle.grammar.specs.WellNamed.{WellNamed, SameItem, one-kernel}
+use Rattle.grammar.specs.WellNamed.{WellNamed, one-kernel}
 use Rattle.grammar.specs.SetOf.{within-decides}
 use Rattle.grammar.specs.KernelLines.{LineOf, line-of, in-state}
-use Rattle.grammar.specs.GoLines.{sameSymbol-decides, LineTo, go-line, go-there}
+use Rattle.grammar.specs.GoLines.{sameSymbol-decides, LineTo, go-line, line-found}
 use Rattle.grammar.specs.ClosureBounds.{closure-state, closure-terminal}
 
 -- ---- what the tests say
@@ -59,6 +58,7 @@ Comes G X P D (core Q E M) = (Q ≡ P) × ((E ≡ D) × ((β : List Symbol) × (
 abbrev Advanced : List Rule → Symbol → List Core → Kernel → Type 0
 Advanced G X items k = (1 ≤ k .dot) × Some (Comes G X (k .rule) (k .dot - 1)) items
 
+-- the target of the go line has kernel lines, each of them an item advanced over its symbol
 abbrev LineRight : Book → (ℕ → List Core) → Go → Type 0
 LineRight b items g =
     ((k : Kernel) × Mem k (kernelsIn (b .kernels) (g .target)))
@@ -130,7 +130,7 @@ goLines-decides b items [] = all-nil
 goLines-decides b items (g ∷ gs) =
     all-cons
     (and-decides (someKernel-decides (kernelsIn (b .kernels) (g .target)))
-     (allCome-decides (b .rules) (g .symbol) (items (g .state)) (kernelsIn (b .kernels) (g .target))))
+    (allCome-decides (b .rules) (g .symbol) (items (g .state)) (kernelsIn (b .kernels) (g .target))))
     (goLines-decides b items gs)
 
 -- the kernel line of an item's state, rule and dot has its lookahead
@@ -142,13 +142,13 @@ in-line w (kernel-item {k = l} m s r d i) k n s′ r′ d′ =
 -- ---- the test of the go rules, by any table of the listed items
 
 module _ {b : Book} {F : Sets} {R : List ℕ} (w : WellNamed b) (right : ItemsRight b F R) (items : ℕ → List Core)
-         (listed : (S : ℕ) → S < b .states → items S ≡ coreItems b F S) where
-
+    (listed : (S : ℕ) → S < b .states → items S ≡ coreItems b F S) where
   -- what the two tests decide
   record Tested : Type 0 where
     states-advance : (S : ℕ) → S < b .states → All (ItemAdvances b S) (items S)
     lines-right : All (LineRight b items) (b .goes)
 
+  -- sets hold every lookahead of a closure
   small : {S P D a : ℕ} → Closure b S P D a → a < 32
   small c = omega (arith, closure-terminal w c, w .terminals-fit)
 
@@ -183,7 +183,7 @@ module _ {b : Book} {F : Sets} {R : List ℕ} (w : WellNamed b) (right : ItemsRi
         go : Lead S P D a X → KernelItem b M P (suc D) a
         go l =
             let (k, m, h) = l .line .stands in
-            let q : LineOf (b .kernels) (l .line .target) k = line-of (l .line .target) (b .kernels) k m in
+            let q : LineOf (b .kernels) (l .line .target) k = line-of m in
             let f : goTo b S X ≡ some (l .line .target) = l .line .found in
             let same : l .line .target ≡ M = cc in
             kernel-item (q .there) (q .of-state ∙ same) (h .of-rule) (h .of-dot) (h .covers a (small c) (l .holds))
@@ -196,20 +196,20 @@ module _ {b : Book} {F : Sets} {R : List ℕ} (w : WellNamed b) (right : ItemsRi
         (k .dot - 1, a, β, omega arith, right .core-closure S (k .rule) (k .dot - 1) N a n p, rw (q, d) at e)
 
     only : (S M : ℕ) (X : Symbol) (k : Kernel) → goTo b S X ≡ some M → Mem k (b .kernels) → k .state ≡ M → Origin S X k
-    only S M X k g m e = go (go-line S X (b .goes) M g)
+    only S M X k g m e = go (go-line g)
       where
         go : LineTo (b .goes) S X M → Origin S X k
         go l =
-            let (pos, (c, n, comes)) = t .lines-right (l .line) (l .there) .1 k (in-state (l .line .target) (b .kernels) k m (cc)) in
+            let (pos, (c, n, comes)) = t .lines-right (l .line) (l .there) .1 k (in-state m (cc)) in
             let below : l .line .state < b .states = w .go-states (l .line) (l .there) in
             rw (← l .from-state, ← l .on-symbol) (from-item (l .line .state) (l .line .symbol) k below pos c n comes)
 
     needs : (S M : ℕ) (X : Symbol) → goTo b S X ≡ some M
         → (P : ℕ) × (D : ℕ) × (a : ℕ) × (β : List Symbol) × Closure b S P D a × (after (b .rules) P D ≡ X ∷ β)
     needs S M X g =
-        let l : LineTo (b .goes) S X M = go-line S X (b .goes) M g in
+        let l : LineTo (b .goes) S X M = go-line g in
         let (k, m) = t .lines-right (l .line) (l .there) .0 in
-        let q : LineOf (b .kernels) (l .line .target) k = line-of (l .line .target) (b .kernels) k m in
+        let q : LineOf (b .kernels) (l .line .target) k = line-of m in
         let (D, a, β, d, c, e) = only S M X k g (q .there) (cc) in
         (k .rule, D, a, β, c, e)
 
@@ -232,7 +232,7 @@ module _ {b : Book} {F : Sets} {R : List ℕ} (w : WellNamed b) (right : ItemsRi
             record {
               target = target;
               found = g;
-              stands = (k, in-state target (b .kernels) k n s, record { of-rule = r; of-dot = d; covers = covers });
+              stands = (k, in-state n s, record { of-rule = r; of-dot = d; covers = covers });
             }
           where
             covers : (c : ℕ) → c < 32 → bit M c ≡ true → Mem c (k .lookaheads)
@@ -248,16 +248,16 @@ module _ {b : Book} {F : Sets} {R : List ℕ} (w : WellNamed b) (right : ItemsRi
 
     line-right : (g : Go) → Mem g (b .goes) → LineRight b items g
     line-right g m =
-        let found : goTo b (g .state) (g .symbol) ≡ some (g .target) = go-there w g m in
+        let found : goTo b (g .state) (g .symbol) ≡ some (g .target) = line-found w g m in
         let (P, D, a, β, c, e) = h .go-needs (g .state) (g .target) (g .symbol) found in
         (some-line (h .go-has (g .state) P D a (g .target) (g .symbol) β found c e), comes found)
       where
         some-line : {P D a : ℕ} → KernelItem b (g .target) P D a → (k : Kernel) × Mem k (kernelsIn (b .kernels) (g .target))
-        some-line (kernel-item {k = k} n s r d i) = (k, in-state (g .target) (b .kernels) k n s)
+        some-line (kernel-item {k = k} n s r d i) = (k, in-state n s)
 
         comes : goTo b (g .state) (g .symbol) ≡ some (g .target) → All (Advanced (b .rules) (g .symbol) (items (g .state))) (kernelsIn (b .kernels) (g .target))
         comes found k n =
-            let q : LineOf (b .kernels) (g .target) k = line-of (g .target) (b .kernels) k n in
+            let q : LineOf (b .kernels) (g .target) k = line-of n in
             let (D, a, β, d, c, e) = h .go-only (g .state) (g .target) (g .symbol) k found (q .there) (q .of-state) in
             let (N, i, p) = right .closure-core (g .state) (k .rule) D a c in
             (omega arith, (core (k .rule) D N, in-table (g .state) (w .go-states g m) (core (k .rule) D N) i, (refl, (omega arith, (β, e)))))
@@ -292,6 +292,9 @@ module _ {b : Book} {F : Sets} {R : List ℕ} (w : WellNamed b) (right : ItemsRi
       by true e = items-at b F S (ltb-true S (b .states) e)
       by false e = let h : b .states ≤ S = ltb-false S (b .states) e in items-past b F S h ∙ nothing h (coreItems b F S) refl
 
-  -- 8, as it is tested
-  pub table-decides : Decides (goRules b (itemsAt b (itemsTable b F))) (GoRules b)
-  table-decides = goRules-decides w right (itemsAt b (itemsTable b F)) (λ S h. items-listed S)
+  -- 8, by the listed items and by their table
+  pub goCore-decides : Decides (goRules b (coreItems b F)) (GoRules b)
+  goCore-decides = goRules-decides w right (coreItems b F) (λ S h. refl)
+
+  pub goTable-decides : Decides (goRules b (itemsAt b (itemsTable b F))) (GoRules b)
+  goTable-decides = goRules-decides w right (itemsAt b (itemsTable b F)) (λ S h. items-listed S)

@@ -2,25 +2,23 @@
 -- Assumes what line order, limits and declared names give (WellNamed).
 use Prim.Native.Nat.{ℕ, zero, suc, _≤_, _<_, _-_}
 use native.Mathlib.Omega.{arith}
-use mathlib.Core.Path.{_≡_, refl, sym, ap, _∙_}
+use mathlib.Core.Path.{_≡_, refl, sym, _∙_}
 use mathlib.Core.Logic.{_≢_}
-use mathlib.Core.Bool.{Bool, true, false, _&&_}
-use mathlib.Core.List.{
-  List, [], _∷_, List·Memᴰ as Mem, List·Memᴰ·head as in-head, List·Memᴰ·tail as in-tail, List·Memᴰ·not-nil as not-in-nil,
-  List·Memᴰ·eq-of-singleton as in-one, Memᴰ·cast as in-cast
-}
+use mathlib.Core.Bool.{Bool, true, false}
+use mathlib.Core.List.{List, [], _∷_, List·Memᴰ as Mem, List·Memᴰ·head as in-head, List·Memᴰ·tail as in-tail, List·Memᴰ·not-nil as not-in-nil}
+use mathlib.Core.List.{List·Memᴰ·eq-of-singleton as in-one}
 use Rattle.grammar.specs.Symbol.{Symbol, Rule, symbolAt}
 use Rattle.grammar.specs.Book.{Book, Kernel}
 use Rattle.grammar.specs.States.{startKernel, KernelRules}
 use Rattle.grammar.specs.ClosureSets.{kernelsIn}
 use Rattle.grammar.specs.StatesCheck.{endAlone, startState, oneSymbol, otherState, otherStates, startLookaheads, kernelRules}
-use Rattle.grammar.specs.Decides.{
-  Decides, true-decides, false-decides, equivalent, le-decides, eq-decides, then-decides, and-decides, if-decides
-}
+use Rattle.grammar.specs.Decides.{Decides, true-decides, false-decides, equivalent, le-decides, eq-decides, and-decides}
 use Rattle.grammar.specs.DecidesSteps.{All, all-nil, all-cons, below-zero, below-suc}
-use Rattle.grammar.specs.WellNamed.{Distinct, none, next, SameItem, WellNamed}
+use Rattle.grammar.specs.WellNamed.{Distinct, next, SameItem, WellNamed}
 use Rattle.grammar.specs.KernelLines.{LineOf, line-of, in-state, distinct-lines}
 use Rattle.grammar.specs.GoLines.{sameSymbol-decides}
+
+-- ---- each test decides what it says
 
 endAlone-decides : (l : List ℕ) → Decides (endAlone l) (l ≡ 0 ∷ [])
 unfolding endAlone
@@ -87,11 +85,13 @@ startLookaheads-decides (k ∷ ks) = go (k .rule) refl (startLookaheads-decides 
   where
     go : (P : ℕ) → k .rule ≡ P → {t : Bool} → Decides t (All (λ l. l .rule ≡ 0 → l .lookaheads ≡ 0 ∷ []) ks)
         → Decides (elim P [ zero ↦ elim (endAlone (k .lookaheads)) [ true ↦ t | false ↦ false ] | suc Q ↦ t ])
-          (All (λ l. l .rule ≡ 0 → l .lookaheads ≡ 0 ∷ []) (k ∷ ks))
+        (All (λ l. l .rule ≡ 0 → l .lookaheads ≡ 0 ∷ []) (k ∷ ks))
     go zero e d = all-cons (equivalent (λ h z. h) (λ h. h e) (endAlone-decides (k .lookaheads))) d
     go (suc Q) e d = all-cons (true-decides λ z. absurd (omega arith)) d
 
-module _ (b : Book) (w : WellNamed b) where
+-- ---- the kernel rules
+
+module _ {b : Book} (w : WellNamed b) where
   -- what the three tests decide
   record Tested : Type 0 where
     start : StartAlone (kernelsIn (b .kernels) 0)
@@ -101,12 +101,12 @@ module _ (b : Book) (w : WellNamed b) where
   rules-hold : Tested → KernelRules b
   rules-hold h =
       record {
-        start-there = line-of 0 (b .kernels) startKernel (h .start .start-there) .there;
-        start-only = λ k m e. h .start .start-only k (in-state 0 (b .kernels) k m e);
+        start-there = let l : LineOf (b .kernels) 0 startKernel = line-of (h .start .start-there) in l .there;
+        start-only = λ k m e. h .start .start-only k (in-state m e);
         has-kernel = λ S p l. kernel-of S (other S (λ z. omega arith) l .has-kernel);
-        dots = λ k m n. other (k .state) n (w .kernel-states k m) .dots k (in-state (k .state) (b .kernels) k m refl);
+        dots = λ k m n. other (k .state) n (w .kernel-states k m) .dots k (in-state m refl);
         one-symbol = λ k l m m′ n e.
-          other (k .state) n (w .kernel-states k m) .one-symbol k l (in-state (k .state) (b .kernels) k m refl) (in-state (k .state) (b .kernels) l m′ (sym e));
+            other (k .state) n (w .kernel-states k m) .one-symbol k l (in-state m refl) (in-state m′ (sym e));
         start-lookahead = h .lookaheads;
       }
     where
@@ -115,15 +115,15 @@ module _ (b : Book) (w : WellNamed b) where
       other (suc i) n l = h .others i (omega arith)
 
       kernel-of : (S : ℕ) → (k : Kernel) × Mem k (kernelsIn (b .kernels) S) → (k : Kernel) × Mem k (b .kernels) × (k .state ≡ S)
-      kernel-of S (k, m) = let l : LineOf (b .kernels) S k = line-of S (b .kernels) k m in (k, l .there, l .of-state)
+      kernel-of S (k, m) = let l : LineOf (b .kernels) S k = line-of m in (k, l .there, l .of-state)
 
   tests-hold : KernelRules b → Tested
   tests-hold h =
       record {
         start =
             record {
-              start-there = in-state 0 (b .kernels) startKernel (h .start-there) refl;
-              start-only = λ k m. let l : LineOf (b .kernels) 0 k = line-of 0 (b .kernels) k m in h .start-only k (l .there) (l .of-state);
+              start-there = in-state (h .start-there) refl;
+              start-only = λ k m. let l : LineOf (b .kernels) 0 k = line-of m in h .start-only k (l .there) (l .of-state);
             };
         others = λ i l. other (suc i) (omega arith) (omega arith);
         lookaheads = h .start-lookahead;
@@ -132,12 +132,12 @@ module _ (b : Book) (w : WellNamed b) where
       other : (S : ℕ) → 0 < S → S < b .states → OneSymbol (b .rules) (kernelsIn (b .kernels) S)
       other S p l =
           record {
-            has-kernel = let (k, m, e) = h .has-kernel S p l in (k, in-state S (b .kernels) k m e);
-            dots = λ k m. let q : LineOf (b .kernels) S k = line-of S (b .kernels) k m in h .dots k (q .there) (λ z. omega arith);
+            has-kernel = let (k, m, e) = h .has-kernel S p l in (k, in-state m e);
+            dots = λ k m. let q : LineOf (b .kernels) S k = line-of m in h .dots k (q .there) (λ z. omega arith);
             one-symbol = λ k n m m′.
-              let q : LineOf (b .kernels) S k = line-of S (b .kernels) k m in
-              let r : LineOf (b .kernels) S n = line-of S (b .kernels) n m′ in
-              h .one-symbol k n (q .there) (r .there) (λ z. omega arith) (cc);
+                let q : LineOf (b .kernels) S k = line-of m in
+                let r : LineOf (b .kernels) S n = line-of m′ in
+                h .one-symbol k n (q .there) (r .there) (λ z. omega arith) (cc);
           }
 
   pub kernelRules-decides : Decides (kernelRules b) (KernelRules b)
@@ -147,5 +147,8 @@ module _ (b : Book) (w : WellNamed b) where
       (λ h. rules-hold (record { start = h .0; others = h .1 .0; lookaheads = h .1 .1 }))
       (λ h. let t : Tested = tests-hold h in (t .start, (t .others, t .lookaheads)))
       (and-decides
-       (startState-decides (kernelsIn (b .kernels) 0) (λ k m. line-of 0 (b .kernels) k m .of-state) (distinct-lines 0 (w .distinct-kernels)))
-       (and-decides (otherStates-decides b (b .states - 1)) (startLookaheads-decides (b .kernels))))
+      (startState-decides (kernelsIn (b .kernels) 0) of-zero (distinct-lines 0 (w .distinct-kernels)))
+      (and-decides (otherStates-decides b (b .states - 1)) (startLookaheads-decides (b .kernels))))
+    where
+      of-zero : All (λ k. k .state ≡ 0) (kernelsIn (b .kernels) 0)
+      of-zero k m = let l : LineOf (b .kernels) 0 k = line-of m in l .of-state

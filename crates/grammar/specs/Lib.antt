@@ -1,4 +1,5 @@
 pub mod Actions
+pub mod ActionsLaws
 pub mod AfterLaws
 pub mod Book
 pub mod CellLaws

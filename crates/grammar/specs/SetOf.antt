@@ -1,12 +1,11 @@
 -- The set of a list's numbers holds just these, as far as a set holds numbers: below 32.
 -- Assumes nothing.
 use Prim.Native.Nat.{ℕ, _<_}
-use native.Mathlib.Omega.{arith}
-use mathlib.Core.Path.{_≡_, refl, sym, _∙_}
-use mathlib.Core.Bool.{Bool, true, false, _||_, false≢true}
-use mathlib.Core.List.{List, [], _∷_, List·Memᴰ as Mem, List·Memᴰ·head as in-head, List·Memᴰ·tail as in-tail, List·Memᴰ·not-nil as not-in-nil}
+use mathlib.Core.Path.{_≡_, sym, _∙_}
+use mathlib.Core.Bool.{true, false≢true}
+use mathlib.Core.List.{List, [], _∷_, List·Memᴰ as Mem, List·Memᴰ·head as in-head, List·Memᴰ·tail as in-tail}
 use mathlib.Core.Logic.{⊎-elim}
-use borrow.Author.Tests.{eq-eqb, eqb-true}
+use borrow.Author.Tests.{eqb-true}
 use Rattle.sets.specs.Sets.{bit, empty, single, with, subset}
 use Rattle.sets.specs.SetsLaws.{bit-empty, bit-single, union-either, with-keeps, with-self, subset-holds, subset-true}
 use Rattle.grammar.specs.ClosureSets.{setOf}

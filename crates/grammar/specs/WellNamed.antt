@@ -4,7 +4,7 @@ use Prim.Native.Nat.{ℕ, _≤_, _<_}
 use mathlib.Core.Path.{_≡_, sym}
 use mathlib.Core.List.{List, [], _∷_, List·Memᴰ as Mem, List·Memᴰ·head as in-head, List·Memᴰ·tail as in-tail, List·Memᴰ·not-nil as not-in-nil}
 use lib.ListN.{length}
-use Rattle.grammar.specs.Symbol.{Symbol, terminal, Rule, rightOf}
+use Rattle.grammar.specs.Symbol.{terminal, Rule, rightOf}
 use Rattle.grammar.specs.Book.{Book, Kernel, Go}
 
 -- no element is the same, in the sense given, as one behind it
@@ -27,10 +27,9 @@ pub record WellNamed (b : Book) : Type 0 where
   -- 2: lines ascend strictly
   pub distinct-kernels : Distinct SameItem (b .kernels)
   pub distinct-goes : Distinct SameGo (b .goes)
-  -- 3: "T .. 1 to 31, Q 1 to 128"
+  -- 3: "T and N are 1 to 31"
   pub terminals-fit : b .terminals < 32
-  pub some-state : 0 < b .states
-  -- 4: "undeclared name, rule, position or state; dot past the end"
+  -- 4: not "undeclared name, rule, position or state; dot past the end"
   pub kernel-states : (k : Kernel) → Mem k (b .kernels) → k .state < b .states
   pub kernel-dots : (k : Kernel) → Mem k (b .kernels) → k .dot ≤ length (rightOf (b .rules) (k .rule))
   pub kernel-lookaheads : (k : Kernel) → Mem k (b .kernels) → (a : ℕ) → Mem a (k .lookaheads) → a ≤ b .terminals
@@ -38,7 +37,7 @@ pub record WellNamed (b : Book) : Type 0 where
   pub right-terminals : (r : Rule) → Mem r (b .rules) → (a : ℕ) → Mem (terminal a) (r .right) → a ≤ b .terminals
 
 module _ {A : Type 0} {Same : A → A → Type 0} (turn : (x y : A) → Same x y → Same y x) where
-  -- the same in a list without two of the same are one
+  -- of elements that are the same there is one
   pub unique : {l : List A} → Distinct Same l → (x y : A) → Mem x l → Mem y l → Same x y → x ≡ y
   unique none x y m n s = absurd (not-in-nil m)
   unique (next {x = z} {l = l} apart d) x y m n s = go (λ m′ n′. unique d x y m′ n′ s) m n
@@ -50,7 +49,8 @@ module _ {A : Type 0} {Same : A → A → Type 0} (turn : (x y : A) → Same x y
       go below (in-tail m) (in-tail n) = below m n
 
 pub one-kernel : {b : Book} → WellNamed b → (k l : Kernel) → Mem k (b .kernels) → Mem l (b .kernels) → SameItem k l → k ≡ l
-one-kernel w = unique (λ k l s. record { same-state = sym (s .same-state); same-rule = sym (s .same-rule); same-dot = sym (s .same-dot) }) (w .distinct-kernels)
+one-kernel w =
+    unique (λ k l s. record { same-state = sym (s .same-state); same-rule = sym (s .same-rule); same-dot = sym (s .same-dot) }) (w .distinct-kernels)
 
 pub one-go : {b : Book} → WellNamed b → (g h : Go) → Mem g (b .goes) → Mem h (b .goes) → SameGo g h → g ≡ h
 one-go w = unique (λ g h s. record { same-state = sym (s .same-state); same-symbol = sym (s .same-symbol) }) (w .distinct-goes)

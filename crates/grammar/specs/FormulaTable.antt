@@ -1,40 +1,99 @@
--- The table of formulas and the one-formula condition (01, "Partial states and chains"): a table that is filled from chains has the formula of every
--- chain exactly if all chains agree. Assumes nothing.
-use Prim.Native.Nat.{ℕ}
+-- The formulas in the tables of a book that is LR-attributed: what stands at a state, a terminal and an attribute is the formula of a chain, and every
+-- chain's formula stands there. Assumes what is right about the book's sets (ItemsRight) and conditions 3 to 5 and 7 (FormulaPremises).
+use Prim.Native.Nat.{ℕ, zero, suc, _≤_, _<_}
+use native.Mathlib.Omega.{arith}
 use mathlib.Core.Path.{_≡_, refl, ap, sym, _∙_}
+use mathlib.Core.Bool.{Bool, true, false}
 use mathlib.Core.Option.{Option, none, some}
-use mathlib.Core.List.{List, _∷_}
+use mathlib.Core.List.{List, [], _∷_}
+use lib.Dec.{ltb}
+use lib.ListN.{getD}
+use borrow.Author.Tests.{ltb-true, ltb-false}
 use Rattle.grammar.specs.Symbol.{Symbol, nonterminal, after}
 use Rattle.grammar.specs.Book.{Book, inheritedOwner}
 use Rattle.grammar.specs.Items.{Chain}
 use Rattle.grammar.specs.Formula.{Formula, formula, LR-attributed}
-use Rattle.grammar.specs.Machine.{Tables}
-use Rattle.grammar.specs.Premises.{Premises}
+use Rattle.grammar.specs.ChainLaws.{FromChain}
+use Rattle.grammar.specs.FirstSets.{Sets}
+use Rattle.grammar.specs.CoreItems.{coreItems}
+use Rattle.grammar.specs.ItemsRight.{ItemsRight}
+use Rattle.grammar.specs.Slots.{Slots, slotAt, slotsOf}
+use Rattle.grammar.specs.Compiled.{tabulate, Partials, partials, itemsTable, partialsAt, partsTable}
+use Rattle.grammar.specs.CompiledTables.{tabulate-at, tabulate-past}
+use Rattle.grammar.specs.PartialLaws.{partialAt, partial-items}
+use Rattle.grammar.specs.FormulaPremises.{FormulaPremises}
+use Rattle.grammar.specs.SlotsLaws.{slots-some, slots-none, slots-formula}
 
-module _ (b : Book) where
-  -- f is the formula of some chain of (S, a) that ends before the owner of K
-  pub data FromChain (S a K : ℕ) (f : Formula) : Type 0 where
-    from-chain : {P D c : ℕ} {β : List Symbol} (chain : Chain b S a P D c) → after (b .rules) P D ≡ nonterminal (inheritedOwner b K) ∷ β
-        → formula b chain K ≡ f → FromChain S a K f
+unfoldable pub slotsIn : Partials → Slots
+slotsIn (partials items slots) = slots
 
-module _ (b : Book) (T : Tables) where
-  -- a table that has a formula of some chain where there is one, and nothing elsewhere, has the formula of every chain if all agree
-  pub formula-found : LR-attributed b → ((S a K : ℕ) (f : Formula) → T .formulaAt S a K ≡ some f → FromChain b S a K f)
-      → ((S a K P D c : ℕ) (β : List Symbol) → T .formulaAt S a K ≡ none → Chain b S a P D c → after (b .rules) P D ≡ nonterminal (inheritedOwner b K) ∷ β → ⊥)
-      → (S a P D c K : ℕ) (β : List Symbol) (chain : Chain b S a P D c) → after (b .rules) P D ≡ nonterminal (inheritedOwner b K) ∷ β
-      → T .formulaAt S a K ≡ some (formula b chain K)
-  formula-found agree found missing S a P D c K β chain h = by (T .formulaAt S a K) refl
+-- the formula of attribute K in the partial state (S, a); none past the states and terminals
+unfoldable pub formulaAt : List (List Partials) → ℕ → ℕ → ℕ → Option Formula
+formulaAt parts S a K = slotAt (slotsIn (getD (getD parts S []) a (partials [] []))) K
+
+module _ (b : Book) (F : Sets) (R : List ℕ) where
+  abbrev pub formulaTable : List (List Partials)
+  formulaTable = partsTable b F R (itemsTable b F)
+
+  partOf : ℕ → ℕ → Partials
+  partOf S a = partialsAt b (partialAt b F R S a)
+
+  partsOf : ℕ → List Partials
+  partsOf S = tabulate (partOf S) 0 (suc (b .terminals))
+
+  parts-tabulated : (i count : ℕ) → partsTable b F R (tabulate (coreItems b F) i count) ≡ tabulate partsOf i count
+  unfolding partsTable tabulate partOf partsOf
+  parts-tabulated i zero = refl
+  parts-tabulated i (suc count) = ap (λ parts. partsOf i ∷ parts) (parts-tabulated (suc i) count)
+
+  pub formula-at : (S a K : ℕ) → S < b .states → a ≤ b .terminals
+      → formulaAt formulaTable S a K ≡ slotAt (slotsOf b (partialAt b F R S a)) K
+  unfolding formulaAt itemsTable slotsIn partialsAt partOf partsOf
+  formula-at S a K h l =
+      rw (parts-tabulated 0 (b .states), tabulate-at partsOf (b .states) S [] h, tabulate-at (partOf S) (suc (b .terminals)) a (partials [] []) (omega arith))
+
+  -- a formula stands only at the states and terminals of the book
+  formula-within : (S a K : ℕ) (f : Formula) → formulaAt formulaTable S a K ≡ some f → (S < b .states) × (a ≤ b .terminals)
+  unfolding formulaAt itemsTable slotsIn partsOf
+  formula-within S a K f e = by (ltb S (b .states)) refl (ltb a (suc (b .terminals))) refl
     where
-      same : {f : Formula} → FromChain b S a K f → formula b chain K ≡ f
-      same (from-chain {P = P′} {D = D′} {c = c′} {β = β′} chain′ h′ e) = agree S a P D c P′ D′ c′ (inheritedOwner b K) K β β′ chain chain′ h h′ refl ∙ e
+      nothing : formulaAt formulaTable S a K ≡ none → ⊥
+      nothing n = let z : _≡_ {A = ℕ} 0 1 = cc in omega arith
 
-      by : (x : Option Formula) → T .formulaAt S a K ≡ x → T .formulaAt S a K ≡ some (formula b chain K)
-      by none e = absurd (missing S a K P D c β e chain h)
-      by (some f) e = e ∙ ap some (sym (same (found S a K f e)))
+      by : (s : Bool) → ltb S (b .states) ≡ s → (t : Bool) → ltb a (suc (b .terminals)) ≡ t → (S < b .states) × (a ≤ b .terminals)
+      by true h true l = (ltb-true _ _ h, omega (arith, ltb-true))
+      by true h false l =
+          absurd (nothing (rw (
+            parts-tabulated 0 (b .states),
+            tabulate-at partsOf (b .states) S [] (ltb-true _ _ h),
+            tabulate-past (partOf S) (suc (b .terminals)) a (partials [] []) (ltb-false _ _ l),
+          )))
+      by false h t l = absurd (nothing (rw (parts-tabulated 0 (b .states), tabulate-past partsOf (b .states) S [] (ltb-false _ _ h))))
 
-  -- and from the premises all chains agree
-  pub all-agree : Premises b T → LR-attributed b
-  all-agree H S a P D c P′ D′ c′ B K β β′ chain chain′ h h′ o =
-      let e = H .formula-there S a P D c K β chain (rw o h) in
-      let e′ = H .formula-there S a P′ D′ c′ K β′ chain′ (rw o h′) in
-      cc
+module _ {b : Book} {F : Sets} {R : List ℕ} (right : ItemsRight b F R) (H : FormulaPremises b) where
+  -- a chain is of a state and a terminal of the book
+  chain-at : {S a P D c : ℕ} → Chain b S a P D c → (K : ℕ) → formulaAt (formulaTable b F R) S a K ≡ slotAt (slotsOf b (partialAt b F R S a)) K
+  chain-at {S} {a} {P} {D} {c} chain K = formula-at b F R S a K (H .chain-state S a P D c chain) (H .chain-terminal S a P D c chain)
+
+  -- nothing stands only where no chain ends before the owner
+  pub formula-none : (S a P D c K : ℕ) (β : List Symbol) → formulaAt (formulaTable b F R) S a K ≡ none → Chain b S a P D c
+      → after (b .rules) P D ≡ nonterminal (inheritedOwner b K) ∷ β → ⊥
+  formula-none S a P D c K β e chain h = slots-none b H S a (partialAt b F R S a) (partial-items right S a) K (sym (chain-at chain K) ∙ e) chain h
+
+  module _ (attributed : LR-attributed b) where
+    -- what stands is the formula of a chain that ends before the owner
+    pub formula-some : (S a K : ℕ) (f : Formula) → formulaAt (formulaTable b F R) S a K ≡ some f → FromChain b S a K f
+    formula-some S a K f e =
+        let (h, l) = formula-within b F R S a K f e in
+        slots-some b H S a (partialAt b F R S a) (partial-items right S a) (attributed S a) K f (sym (formula-at b F R S a K h l) ∙ e)
+
+    -- the formula of every chain stands
+    pub formula-there : (S a P D c K : ℕ) (β : List Symbol) (chain : Chain b S a P D c) → after (b .rules) P D ≡ nonterminal (inheritedOwner b K) ∷ β
+        → formulaAt (formulaTable b F R) S a K ≡ some (formula b chain K)
+    formula-there S a P D c K β chain h =
+        chain-at chain K ∙ slots-formula b H S a (partialAt b F R S a) (partial-items right S a) (attributed S a) chain K h refl
+
+-- opens every definition of this module
+unfoldable pub opens : Unit {0}
+unfolding slotsIn formulaAt
+opens = tt

@@ -6,6 +6,7 @@ pub mod CaseBooks
 pub mod Cases
 pub mod CasesProof
 pub mod CellLaws
+pub mod ChainLaws
 pub mod Chains
 pub mod ClosureBounds
 pub mod ClosureLaws
@@ -40,6 +41,7 @@ pub mod FirstSetsLaws
 pub mod Fixpoint
 pub mod FixpointLaws
 pub mod Formula
+pub mod FormulaPremises
 pub mod FormulaTable
 pub mod GoLaws
 pub mod GoLines
@@ -57,6 +59,7 @@ pub mod ListLaws
 pub mod Machine
 pub mod Members
 pub mod Moves
+pub mod OneFormulaLaws
 pub mod OrderLaws
 pub mod Ordered
 pub mod Packing
@@ -66,6 +69,7 @@ pub mod ParseLaws
 pub mod ParseReads
 pub mod ParseSections
 pub mod ParseWas
+pub mod PartialLaws
 pub mod Postfix
 pub mod Premises
 pub mod PremisesLaws
@@ -83,10 +87,14 @@ pub mod Rows
 pub mod RowsLaws
 pub mod RunLaws
 pub mod Runs
+pub mod SameFormula
 pub mod SectionLaws
 pub mod SetOf
 pub mod Simulate
 pub mod Slots
+pub mod SlotsFill
+pub mod SlotsLaws
+pub mod SlotsTests
 pub mod Small
 pub mod Soundness
 pub mod StateCases

@@ -2,6 +2,7 @@ pub mod Actions
 pub mod ActionsLaws
 pub mod AfterLaws
 pub mod Book
+pub mod BookFacts
 pub mod CaseBooks
 pub mod Cases
 pub mod CasesProof
@@ -82,6 +83,7 @@ pub mod Reader
 pub mod ReaderLaws
 pub mod Rebuild
 pub mod Refusal
+pub mod RefusalLaws
 pub mod Repeat
 pub mod Rows
 pub mod RowsLaws

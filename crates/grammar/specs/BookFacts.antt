@@ -1,0 +1,85 @@
+-- What the laws of states and sets take of a book, from its order (2), limits (3) and declared names (4).
+-- Assumes nothing.
+use Prim.Native.Nat.{ℕ, zero, suc, _<_, _≤_}
+use native.Mathlib.Omega.{arith}
+use mathlib.Core.Path.{_≡_, refl}
+use mathlib.Core.List.{List, [], _∷_, List·Memᴰ as Mem, List·Memᴰ·head as in-head, List·Memᴰ·tail as in-tail, List·Memᴰ·not-nil}
+use lib.ListN.{length}
+use Rattle.grammar.specs.Symbol.{Symbol, terminal, nonterminal, Rule, leftOf, rightOf}
+use Rattle.grammar.specs.Book.{Book, Kernel, Go}
+use Rattle.grammar.specs.Ordered.{Before, empty, less, same, Ascends, ascends-[], ascends-∷, Every, every-[], every-∷, Lookaheads, Ordered, kernelKey, goKey, symbolKey}
+use Rattle.grammar.specs.Conditions.{WithinLimits, Declared, RightSymbol}
+use Rattle.grammar.specs.ConditionsLaws.{symbols-declared, left-declared}
+use Rattle.grammar.specs.Small.{numberOf, Low, low-all, SmallBook}
+use Rattle.grammar.specs.WellNamed.{Distinct, none, next, SameItem, SameGo, WellNamed}
+
+-- strict ascent leaves no two lines of one key
+
+before-apart : {u v : List ℕ} → Before u v → u ≡ v → ⊥
+before-apart empty e = let z : _≡_ {A = ℕ} 0 1 = cc in omega arith
+before-apart (less {x = x} {y = y} l) e = let q : x ≡ y = cc in omega arith
+before-apart (same b) e = before-apart b (cc)
+
+before-trans : {u v w : List ℕ} → Before u v → Before v w → Before u w
+before-trans empty (less l) = empty
+before-trans empty (same b) = empty
+before-trans (less {x = x} l) (less {y = z} m) = let q : x < z = omega arith in less q
+before-trans (less l) (same b) = less l
+before-trans (same a) (less m) = less m
+before-trans (same a) (same b) = same (before-trans a b)
+
+module _ {A : Type 0} {key : A → List ℕ} {Same : A → A → Type 0} (same-key : (x y : A) → Same x y → key x ≡ key y) where
+  beyond : {u : List ℕ} {xs : List A} → Ascends key u xs → (y : A) → Mem y xs → Before u (key y)
+  beyond ascends-[] y m = absurd (List·Memᴰ·not-nil m)
+  beyond (ascends-∷ h a) y (in-head e) = rw e h
+  beyond (ascends-∷ h a) y (in-tail m) = before-trans h (beyond a y m)
+
+  ascent-distinct : {u : List ℕ} {xs : List A} → Ascends key u xs → Distinct Same xs
+  ascent-distinct ascends-[] = none
+  ascent-distinct (ascends-∷ {x = x} h a) = next (λ y m s. before-apart (beyond a y m) (same-key x y s)) (ascent-distinct a)
+
+kernel-same : (k l : Kernel) → SameItem k l → kernelKey k ≡ kernelKey l
+unfolding kernelKey
+kernel-same k l s = rw (s .same-state, s .same-rule, s .same-dot)
+
+go-same : (g h : Go) → SameGo g h → goKey g ≡ goKey h
+unfolding goKey
+go-same g h s = rw (s .same-state, s .same-symbol)
+
+-- every kernel has a lookahead
+
+some-in : (l : List ℕ) → 0 < length l → (a : ℕ) × Mem a l
+some-in [] h = absurd (omega arith)
+some-in (a ∷ l) h = (a, in-head refl)
+
+every-at : {A : Type 0} {P : A → Type 0} {xs : List A} → Every P xs → (x : A) → Mem x xs → P x
+every-at every-[] x m = absurd (List·Memᴰ·not-nil m)
+every-at (every-∷ p ps) x (in-head e) = rw e p
+every-at (every-∷ p ps) x (in-tail m) = every-at ps x m
+
+module _ {b : Book} (ordered : Ordered b) (limits : WithinLimits b) (declared : Declared b) where
+  pub well-named : WellNamed b
+  well-named = record {
+    distinct-kernels = ascent-distinct kernel-same (ordered .kernels);
+    distinct-goes = ascent-distinct go-same (ordered .goes);
+    terminals-fit = omega (arith, limits .terminals-limit .high);
+    kernel-states = λ k m. declared .kernels-declared k m .state-there;
+    kernel-dots = λ k m. declared .kernels-declared k m .dot-there;
+    kernel-lookaheads = λ k m. declared .kernels-declared k m .lookaheads-there;
+    go-states = λ g m. declared .goes-declared g m .state-there;
+    right-terminals = λ r m a n. declared .right-symbols r m (terminal a) n .high;
+  }
+
+  low-symbol : (X : Symbol) → RightSymbol b X → numberOf X < 32
+  low-symbol (terminal a) h = omega (arith, h .high, limits .terminals-limit .high)
+  low-symbol (nonterminal B) h = omega (arith, h .high, limits .nonterminals-limit .high)
+
+  pub small-book : SmallBook b
+  small-book = record {
+    small-rules = record {
+      left-low = λ P h. omega (arith, left-declared declared P h, limits .nonterminals-limit .high);
+      right-low = λ P h. low-all (rightOf (b .rules) P) (λ X m. low-symbol X (symbols-declared declared P X m));
+    };
+    low-lookaheads = λ k m a n. omega (arith, declared .kernels-declared k m .lookaheads-there a n, limits .terminals-limit .high);
+    some-lookahead = λ k m. some-in (k .lookaheads) (every-at (ordered .lookaheads) k m .some);
+  }

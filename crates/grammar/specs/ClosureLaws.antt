@@ -4,7 +4,8 @@ use Prim.Native.Nat.{ℕ, zero, suc, _^_, _<_}
 use mathlib.Core.Path.{_≡_, refl, sym, ap, _∙_, subst}
 use mathlib.Core.Bool.{true}
 use mathlib.Core.Logic.{_⊎_, inl, inr, ⊎-elim}
-use mathlib.Core.List.{List, [], _∷_, List·Memᴰ as Mem, List·Memᴰ·head as mem-head, List·Memᴰ·tail as mem-tail, List·Memᴰ·not-nil as not-nil, List·Memᴰ·cases-cons as cases-cons}
+use mathlib.Core.List.{List, [], _∷_, List·Memᴰ as Mem, List·Memᴰ·head as mem-head, List·Memᴰ·tail as mem-tail}
+use mathlib.Core.List.{List·Memᴰ·not-nil as not-nil, List·Memᴰ·cases-cons as cases-cons}
 use native.Mathlib.Omega.{arith}
 use lib.Dec.{eqb}
 use lib.ListN.{length, replicate}
@@ -17,7 +18,8 @@ use Rattle.grammar.specs.Symbol.{Symbol, terminal, nonterminal, Rule, le
 use Rattle.grammar.specs.Book.{Book, Kernel}
 use Rattle.grammar.specs.Small.{Low, low-after, SmallBook}
 use Rattle.grammar.specs.Fixpoint.{Constraint, setAt, visit}
-use Rattle.grammar.specs.LeastLaws.{Family, Within, none-family, none-within, visit-family, visit-keeps, visit-adds, visit-within, Fits, least-family, least-holds, least-closed, least-within}
+use Rattle.grammar.specs.LeastLaws.{Family, Within, none-family, none-within, visit-family, visit-keeps, visit-adds, visit-within}
+use Rattle.grammar.specs.LeastLaws.{Fits, least-family, least-holds, least-closed, least-within}
 use Rattle.grammar.specs.First.{First}
 use Rattle.grammar.specs.FirstSets.{Sets, firstWith}
 use Rattle.grammar.specs.FirstSetsLaws.{SetsRight, with-low, first-with, with-first}
@@ -70,6 +72,10 @@ has-kernelsIn {k} (x ∷ ks) S m =
 
 -- ---- what items give the next nonterminal
 
+-- the constraint gives a to the set at B
+abbrev Gives : Constraint → List ℕ → ℕ → ℕ → Type 0
+Gives c family B a = (c .target ≡ B) × (bit (c .gives family) a ≡ true)
+
 module _ {G : List Rule} {F : Sets} (R : SetsRight G F) where
   into-target : (β : List Symbol) (own : List ℕ → ℕ) → Low β → (derivesInto F β own) .target < 32
   unfolding derivesInto
@@ -88,7 +94,8 @@ module _ {G : List Rule} {F : Sets} (R : SetsRight G F) where
       go (suc n) = with-low R β (suc n) (l .1)
 
   -- a lookahead given comes from one that the items have
-  into-from : (β : List Symbol) (own : List ℕ → ℕ) (family : List ℕ) (a : ℕ) → own family < 2 ^ 32 → bit ((derivesInto F β own) .gives family) a ≡ true
+  into-from : (β : List Symbol) (own : List ℕ → ℕ) (family : List ℕ) (a : ℕ) → own family < 2 ^ 32
+      → bit ((derivesInto F β own) .gives family) a ≡ true
       → (γ : List Symbol) × (c : ℕ) × (β ≡ nonterminal ((derivesInto F β own) .target) ∷ γ) × (bit (own family) c ≡ true) × First G γ c a
   unfolding derivesInto
   into-from [] own family a l e = none-in a e
@@ -105,90 +112,104 @@ module _ {G : List Rule} {F : Sets} (R : SetsRight G F) where
 
   -- and each that FIRST has is given
   into-gives : (B : ℕ) (β γ : List Symbol) (own : List ℕ → ℕ) (family : List ℕ) (a c : ℕ) → Low γ → γ ≡ nonterminal B ∷ β → own family < 2 ^ 32
-      → bit (own family) c ≡ true → First G β c a → ((derivesInto F γ own) .target ≡ B) × (bit ((derivesInto F γ own) .gives family) a ≡ true)
+      → bit (own family) c ≡ true → First G β c a → Gives (derivesInto F γ own) family B a
   into-gives B β γ own family a c l h m e f =
-      subst (λ (δ : List Symbol). Low δ → ((derivesInto F δ own) .target ≡ B) × (bit ((derivesInto F δ own) .gives family) a ≡ true)) (sym h) there l
+      subst (λ (δ : List Symbol). Low δ → Gives (derivesInto F δ own) family B a) (sym h) there l
     where
       go : (M : ℕ) → M < 2 ^ 32 → bit M c ≡ true → Low β → bit (elim M [ zero ↦ 0 | suc n ↦ firstWith F β (suc n) ]) a ≡ true
       go zero m e k = none-in c e
       go (suc n) m e k = first-with R (suc n) k m e f
 
-      there : Low (nonterminal B ∷ β) → ((derivesInto F (nonterminal B ∷ β) own) .target ≡ B) × (bit ((derivesInto F (nonterminal B ∷ β) own) .gives family) a ≡ true)
+      there : Low (nonterminal B ∷ β) → Gives (derivesInto F (nonterminal B ∷ β) own) family B a
       there k = unfold derivesInto in (refl, go (own family) m e (k .1))
 
 -- ---- the closure of a state
 
-module _ {b : Book} {F : Sets} (H : SmallBook b) (R : SetsRight (b .rules) F) where
+module _ (b : Book) where
   -- some item of the closure stands before the nonterminal and directly derives items with the lookahead
   data Enters (S B a : ℕ) : Type 0 where
-    enters : {P D c : ℕ} {β : List Symbol} → Closure b S P D c → after (b .rules) P D ≡ nonterminal B ∷ β → First (b .rules) β c a → Enters S B a
+    enters : {P D c : ℕ} {β : List Symbol} → Closure b S P D c → after (b .rules) P D ≡ nonterminal B ∷ β → First (b .rules) β c a
+        → Enters S B a
 
   entered : {S B a Q : ℕ} → Enters S B a → Q < length (b .rules) → leftOf (b .rules) Q ≡ B → Closure b S Q 0 a
   entered (enters k h f) q e = close k (derives h q e f)
 
-  -- what the kernel line gives
+module _ (b : Book) (F : Sets) where
+  -- what a kernel line gives
   abbrev line : Kernel → Constraint
   line k = derivesInto F (after (b .rules) (k .rule) (k .dot)) (λ _. setOf (k .lookaheads))
 
-  line-low : (k : Kernel) → (line k) .target < 32
-  line-low k = into-target R (after (b .rules) (k .rule) (k .dot)) (λ _. setOf (k .lookaheads)) (low-after (b .rules) (H .small-rules) (k .rule) (k .dot))
+  -- a line gives the lookahead, whatever sets stand
+  abbrev LineGives : Kernel → ℕ → Type 0
+  LineGives k a = (family : List ℕ) → bit ((line k) .gives family) a ≡ true
+
+  -- the sets that a closure begins with
+  abbrev start : ℕ → List ℕ
+  start S = fromKernels b F (kernelsIn (b .kernels) S) (replicate 32 0)
+
+  -- an item of a kernel line, or a rule with the dot in front whose left side's set has the lookahead
+  abbrev pub Shape : ℕ → ℕ → ℕ → ℕ → Type 0
+  Shape S P D a =
+      KernelItem b S P D a ⊎ ((D ≡ 0) × (P < length (b .rules)) × (bit (setAt (closureSets b F S) (leftOf (b .rules) P)) a ≡ true))
+
+module _ {b : Book} {F : Sets} (H : SmallBook b) (R : SetsRight (b .rules) F) where
+  line-rest : (k : Kernel) → Low (after (b .rules) (k .rule) (k .dot))
+  line-rest k = low-after (b .rules) (H .small-rules) (k .rule) (k .dot)
+
+  line-low : (k : Kernel) → (line b F k) .target < 32
+  line-low k = into-target R (after (b .rules) (k .rule) (k .dot)) (λ _. setOf (k .lookaheads)) (line-rest k)
+
+  visit-line : (k : Kernel) {family : List ℕ} → Family 32 family → Family 32 (visit (line b F k) family)
+  visit-line k f = visit-family (line b F k) f (line-low k)
 
   -- what each line's visit keeps, all keep
-  by-lines : (Q : List ℕ → Type 0) (ks : List Kernel) → ((k : Kernel) → Mem k ks → (family : List ℕ) → Family 32 family → Q family → Q (visit (line k) family))
+  by-lines : (Q : List ℕ → Type 0) (ks : List Kernel)
+      → ((k : Kernel) → Mem k ks → (family : List ℕ) → Family 32 family → Q family → Q (visit (line b F k) family))
       → (family : List ℕ) → Family 32 family → Q family → Family 32 (fromKernels b F ks family) × Q (fromKernels b F ks family)
   unfolding fromKernels
   by-lines Q [] keeps family f q = (f, q)
   by-lines Q (k ∷ ks) keeps family f q =
-      by-lines Q ks (λ x m. keeps x (mem-tail m)) (visit (line k) family) (visit-family (line k) f (line-low k)) (keeps k (mem-head refl) family f q)
+      by-lines Q ks (λ x m. keeps x (mem-tail m)) (visit (line b F k) family) (visit-line k f) (keeps k (mem-head refl) family f q)
 
-  -- what one line gives to all families
-  abbrev Gives : Kernel → ℕ → Type 0
-  Gives k a = (family : List ℕ) → bit ((line k) .gives family) a ≡ true
-
-  first-gives : (k : Kernel) (ks : List Kernel) (family : List ℕ) → Family 32 family → (a : ℕ) → Gives k a
-      → bit (setAt (fromKernels b F (k ∷ ks) family) ((line k) .target)) a ≡ true
+  first-gives : (k : Kernel) (ks : List Kernel) (family : List ℕ) → Family 32 family → (a : ℕ) → LineGives b F k a
+      → bit (setAt (fromKernels b F (k ∷ ks) family) ((line b F k) .target)) a ≡ true
   unfolding fromKernels
   first-gives k ks family f a g =
-      by-lines (λ s. bit (setAt s ((line k) .target)) a ≡ true) ks (λ x m s h. visit-keeps (line x) h (line-low x) ((line k) .target) a)
-      (visit (line k) family) (visit-family (line k) f (line-low k)) (visit-adds (line k) f (line-low k) a (bit-lt _ a small (g family)) (g family)) .1
+      by-lines (λ s. bit (setAt s ((line b F k) .target)) a ≡ true) ks
+      (λ x m s h. visit-keeps (line b F x) h (line-low x) ((line b F k) .target) a) (visit (line b F k) family) (visit-line k f)
+      (visit-adds (line b F k) f (line-low k) a (bit-lt _ a small (g family)) (g family)) .1
     where
-      small : (line k) .gives family < 2 ^ 32
-      small = into-low R _ (λ _. setOf (k .lookaheads)) (low-after (b .rules) (H .small-rules) (k .rule) (k .dot)) family
+      small : (line b F k) .gives family < 2 ^ 32
+      small = into-low R _ (λ _. setOf (k .lookaheads)) (line-rest k) family
 
-  lines-give : {k : Kernel} {ks : List Kernel} → Mem k ks → (family : List ℕ) → Family 32 family → (a : ℕ) → Gives k a
-      → bit (setAt (fromKernels b F ks family) ((line k) .target)) a ≡ true
+  lines-give : {k : Kernel} {ks : List Kernel} → Mem k ks → (family : List ℕ) → Family 32 family → (a : ℕ) → LineGives b F k a
+      → bit (setAt (fromKernels b F ks family) ((line b F k) .target)) a ≡ true
   unfolding fromKernels
   lines-give (mem-head {x = x} {xs = ks} e) family f a =
-      subst (λ (y : Kernel). Gives y a → bit (setAt (fromKernels b F (x ∷ ks) family) ((line y) .target)) a ≡ true) (sym e) (first-gives x ks family f a)
-  lines-give (mem-tail {x = x} m) family f a = lines-give m (visit (line x) family) (visit-family (line x) f (line-low x)) a
+      subst (λ (y : Kernel). LineGives b F y a → bit (setAt (fromKernels b F (x ∷ ks) family) ((line b F y) .target)) a ≡ true) (sym e)
+      (first-gives x ks family f a)
+  lines-give (mem-tail {x = x} m) family f a = lines-give m (visit (line b F x) family) (visit-line x f) a
 
-  -- ---- the sets that a closure begins with
-
-  abbrev linesIn : ℕ → List Kernel
-  linesIn S = kernelsIn (b .kernels) S
-
-  abbrev start : ℕ → List ℕ
-  start S = fromKernels b F (linesIn S) (replicate 32 0)
-
-  line-item : {S : ℕ} {k : Kernel} → Mem k (linesIn S) → (a : ℕ) → bit (setOf (k .lookaheads)) a ≡ true → KernelItem b S (k .rule) (k .dot) a
+  line-item : {S : ℕ} {k : Kernel} → Mem k (kernelsIn (b .kernels) S) → (a : ℕ) → bit (setOf (k .lookaheads)) a ≡ true
+      → KernelItem b S (k .rule) (k .dot) a
   line-item {S} {k} m a e = let (n, s) = has-kernelsIn (b .kernels) S m in kernel-item n s refl refl (has-setOf (k .lookaheads) a e)
 
-  line-enters : {S : ℕ} (k : Kernel) → Mem k (linesIn S) → (family : List ℕ) (a : ℕ) → bit ((line k) .gives family) a ≡ true
-      → Enters S ((line k) .target) a
+  line-enters : {S : ℕ} (k : Kernel) → Mem k (kernelsIn (b .kernels) S) → (family : List ℕ) (a : ℕ) → bit ((line b F k) .gives family) a ≡ true
+      → Enters b S ((line b F k) .target) a
   line-enters k m family a e =
       let (γ, c, h, q, f) =
       into-from R (after (b .rules) (k .rule) (k .dot)) (λ _. setOf (k .lookaheads)) family a (setOf-low (k .lookaheads)) e in
       enters (kernel (line-item m c q)) h f
 
-  start-within : (S : ℕ) → Family 32 (start S) × Within (Enters S) (start S)
+  start-within : (S : ℕ) → Family 32 (start b F S) × Within (Enters b S) (start b F S)
   start-within S =
-      by-lines (Within (Enters S)) (linesIn S)
-      (λ k m family f w. visit-within (line k) f (line-low k) (Enters S) w (line-enters k m family))
-      (replicate 32 0) (none-family 32) (none-within (Enters S) 32)
+      by-lines (Within (Enters b S)) (kernelsIn (b .kernels) S)
+      (λ k m family f w. visit-within (line b F k) f (line-low k) (Enters b S) w (line-enters k m family))
+      (replicate 32 0) (none-family 32) (none-within (Enters b S) 32)
 
   -- ---- the closure's sets
 
-  closure-fits : (S : ℕ) → Fits (closureRule b F) (length (b .rules)) (start S)
+  closure-fits : (S : ℕ) → Fits (closureRule b F) (length (b .rules)) (start b F S)
   closure-fits S = record {
     few = omega (arith, start-within S .0 .long);
     low = start-within S .0 .low;
@@ -206,33 +227,33 @@ module _ {b : Book} {F : Sets} (H : SmallBook b) (R : SetsRight (b .rules) F) wh
   unfolding closureSets
   closure-family S = subst (λ (n : ℕ). Family n (closureSets b F S)) (start-within S .0 .long) (least-family (closure-fits S))
 
-  closure-enters : (S : ℕ) → Within (Enters S) (closureSets b F S)
+  closure-enters : (S : ℕ) → Within (Enters b S) (closureSets b F S)
   unfolding closureSets closureRule
   closure-enters S =
-      least-within (closure-fits S) (Enters S) (start-within S .1) rule-enters
+      least-within (closure-fits S) (Enters b S) (start-within S .1) rule-enters
     where
-      rule-enters : (p : ℕ) → p < length (b .rules) → (family : List ℕ) → Family (length (start S)) family → Within (Enters S) family
-          → (a : ℕ) → bit ((closureRule b F p) .gives family) a ≡ true → Enters S ((closureRule b F p) .target) a
+      rule-enters : (p : ℕ) → p < length (b .rules) → (family : List ℕ) → Family (length (start b F S)) family → Within (Enters b S) family
+          → (a : ℕ) → bit ((closureRule b F p) .gives family) a ≡ true → Enters b S ((closureRule b F p) .target) a
       rule-enters p l family f w a e =
           let (γ, c, h, q, g) =
           into-from R (rightOf (b .rules) p) (λ s. setAt s (leftOf (b .rules) p)) family a (f .low (leftOf (b .rules) p)) e in
-          enters (entered (w (leftOf (b .rules) p) c q) l refl) h g
+          enters (entered b (w (leftOf (b .rules) p) c q) l refl) h g
 
   kernel-gives : {S P D B a c : ℕ} {β : List Symbol} → KernelItem b S P D c → after (b .rules) P D ≡ nonterminal B ∷ β → First (b .rules) β c a
       → bit (setAt (closureSets b F S) B) a ≡ true
   unfolding closureSets
   kernel-gives {S} {P} {D} {B} {a} {c} {β} (kernel-item {k = k} m s r d l) h f =
       subst (λ (A : ℕ). bit (setAt (closureSets b F S) A) a ≡ true) (given (replicate 32 0) .0)
-      (least-holds (closure-fits S) ((line k) .target) a
+      (least-holds (closure-fits S) ((line b F k) .target) a
       (lines-give (kernelsIn-has S s m) (replicate 32 0) (none-family 32) a (λ family. given family .1)))
     where
       here : after (b .rules) (k .rule) (k .dot) ≡ nonterminal B ∷ β
       here = rw (r, d) h
 
-      given : (family : List ℕ) → ((line k) .target ≡ B) × (bit ((line k) .gives family) a ≡ true)
+      given : (family : List ℕ) → Gives (line b F k) family B a
       given family =
           into-gives R B β (after (b .rules) (k .rule) (k .dot)) (λ _. setOf (k .lookaheads)) family a c
-          (low-after (b .rules) (H .small-rules) (k .rule) (k .dot)) here (setOf-low (k .lookaheads)) (setOf-has (H .low-lookaheads k m c l) l) f
+          (line-rest k) here (setOf-low (k .lookaheads)) (setOf-has (H .low-lookaheads k m c l) l) f
 
   rule-gives : (S : ℕ) {P B a c : ℕ} {β : List Symbol} → P < length (b .rules) → bit (setAt (closureSets b F S) (leftOf (b .rules) P)) c ≡ true
       → rightOf (b .rules) P ≡ nonterminal B ∷ β → First (b .rules) β c a → bit (setAt (closureSets b F S) B) a ≡ true
@@ -240,25 +261,21 @@ module _ {b : Book} {F : Sets} (H : SmallBook b) (R : SetsRight (b .rules) F) wh
   rule-gives S {P} {B} {a} {c} {β} p e h f =
       subst (λ (A : ℕ). bit (setAt (closureSets b F S) A) a ≡ true) (given .0) (least-closed (closure-fits S) P a p (given .1))
     where
-      given : ((closureRule b F P) .target ≡ B) × (bit ((closureRule b F P) .gives (closureSets b F S)) a ≡ true)
+      given : Gives (closureRule b F P) (closureSets b F S) B a
       given =
           into-gives R B β (rightOf (b .rules) P) (λ s. setAt s (leftOf (b .rules) P)) (closureSets b F S) a c
           (H .small-rules .right-low P p) h (closure-family S .low (leftOf (b .rules) P)) e f
 
-  -- an item of the closure stands in a kernel line, or is a rule with the dot in front whose left side's set has its lookahead
-  abbrev pub Shape : ℕ → ℕ → ℕ → ℕ → Type 0
-  Shape S P D a = KernelItem b S P D a ⊎ ((D ≡ 0) × (P < length (b .rules)) × (bit (setAt (closureSets b F S) (leftOf (b .rules) P)) a ≡ true))
-
-  shape-derives : {S P D B a c : ℕ} {β : List Symbol} → Shape S P D c → after (b .rules) P D ≡ nonterminal B ∷ β → First (b .rules) β c a
+  shape-derives : {S P D B a c : ℕ} {β : List Symbol} → Shape b F S P D c → after (b .rules) P D ≡ nonterminal B ∷ β → First (b .rules) β c a
       → bit (setAt (closureSets b F S) B) a ≡ true
   shape-derives (inl k) h f = kernel-gives k h f
   shape-derives {S = S} {P = P} (inr (z, p, e)) h f = rule-gives S p e (sym (ap (after (b .rules) P) z) ∙ h) f
 
-  pub closure-shape : {S P D a : ℕ} → Closure b S P D a → Shape S P D a
+  pub closure-shape : {S P D a : ℕ} → Closure b S P D a → Shape b F S P D a
   closure-shape (kernel k) = inl k
   closure-shape {S} (close {a = a} k (derives h q e f)) =
       inr (refl, q, subst (λ (A : ℕ). bit (setAt (closureSets b F S) A) a ≡ true) (sym e) (shape-derives (closure-shape k) h f))
 
   -- and such rules stand in it
   pub set-closure : (S P a : ℕ) → P < length (b .rules) → bit (setAt (closureSets b F S) (leftOf (b .rules) P)) a ≡ true → Closure b S P 0 a
-  set-closure S P a p e = entered (closure-enters S (leftOf (b .rules) P) a e) p refl
+  set-closure S P a p e = entered b (closure-enters S (leftOf (b .rules) P) a e) p refl

@@ -4,7 +4,9 @@ use Prim.Native.Nat.{ℕ, zero, suc, _^_, _<_}
 use mathlib.Core.Path.{_≡_, refl, sym, ap, subst}
 use mathlib.Core.Bool.{true}
 use mathlib.Core.Logic.{_⊎_, inl, inr, ⊎-elim}
-use mathlib.Core.List.{List, [], _∷_, List·Memᴰ as Mem, List·Memᴰ·head as mem-head, List·Memᴰ·tail as mem-tail, List·Memᴰ·not-nil as not-nil, List·Memᴰ·cases-cons as cases-cons, Memᴰ·cast as cast, Memᴰ·append-left as append-left, Memᴰ·append-right as append-right, List·Memᴰ·append-cases as append-cases}
+use mathlib.Core.List.{List, [], _∷_, List·Memᴰ as Mem, List·Memᴰ·head as mem-head, List·Memᴰ·tail as mem-tail}
+use mathlib.Core.List.{List·Memᴰ·not-nil as not-nil, List·Memᴰ·cases-cons as cases-cons}
+use mathlib.Core.List.{Memᴰ·cast as cast, Memᴰ·append-left as append-left, Memᴰ·append-right as append-right, List·Memᴰ·append-cases as append-cases}
 use native.Mathlib.Omega.{arith}
 use lib.ListN.{length}
 use Rattle.sets.specs.Sets.{bit}
@@ -18,7 +20,8 @@ use Rattle.grammar.specs.FirstSets.{Sets}
 use Rattle.grammar.specs.FirstSetsLaws.{SetsRight}
 use Rattle.grammar.specs.Items.{kernel-item, Closure, kernel}
 use Rattle.grammar.specs.ClosureSets.{setOf, kernelsIn, closureSets}
-use Rattle.grammar.specs.ClosureLaws.{setOf-low, setOf-has, has-setOf, kernelsIn-has, has-kernelsIn, closure-family, Shape, closure-shape, set-closure}
+use Rattle.grammar.specs.ClosureLaws.{setOf-low, setOf-has, has-setOf, kernelsIn-has, has-kernelsIn}
+use Rattle.grammar.specs.ClosureLaws.{closure-family, Shape, closure-shape, set-closure}
 use Rattle.grammar.specs.CoreItems.{Core, core, ofKernels, entered, ofRules, coreItems}
 
 -- ---- the items of kernel lines
@@ -79,7 +82,8 @@ module _ (G : List Rule) (looks : List ℕ) where
   has-ofRules : (n P D M : ℕ) → Mem (core P D M) (ofRules G looks n) → OfRule G looks n P D M
   unfolding ofRules
   has-ofRules zero P D M m = absurd (not-nil m)
-  has-ofRules (suc n) P D M m = ⊎-elim own (λ o. further (has-ofRules n P D M o)) (has-entered n (setAt looks (leftOf G n)) (ofRules G looks n) P D M m)
+  has-ofRules (suc n) P D M m =
+      ⊎-elim own (λ o. further (has-ofRules n P D M o)) (has-entered n (setAt looks (leftOf G n)) (ofRules G looks n) P D M m)
     where
       own : (P ≡ n) × (D ≡ 0) × (setAt looks (leftOf G n) ≡ M) × (M ≡ 0 → ⊥) → OfRule G looks (suc n) P D M
       own (p, d, s, h) = record { below = omega arith; dot-is = d; set-is = rw p s; some = h }
@@ -96,7 +100,7 @@ module _ (G : List Rule) (looks : List ℕ) where
 
 -- ---- the items of a state
 
-module _ {b : Book} {F : Sets} (H : SmallBook b) (R : SetsRight (b .rules) F) where
+module _ (b : Book) (F : Sets) where
   -- a listed item is that of a kernel line of the state, or of a rule with the dot in front
   abbrev Source : ℕ → ℕ → ℕ → ℕ → Type 0
   Source S P D M = OfKernel (kernelsIn (b .kernels) S) P D M ⊎ OfRule (b .rules) (closureSets b F S) (length (b .rules)) P D M
@@ -107,17 +111,18 @@ module _ {b : Book} {F : Sets} (H : SmallBook b) (R : SetsRight (b .rules) F) wh
       ⊎-elim (λ k. inl (has-ofKernels (kernelsIn (b .kernels) S) P D M k))
       (λ r. inr (has-ofRules (b .rules) (closureSets b F S) (length (b .rules)) P D M r)) (append-cases (ofKernels (kernelsIn (b .kernels) S)) m)
 
+module _ {b : Book} {F : Sets} (H : SmallBook b) (R : SetsRight (b .rules) F) where
   pub core-low : (S P D M : ℕ) → Mem (core P D M) (coreItems b F S) → M < 2 ^ 32
-  core-low S P D M m = go (source S P D M m)
+  core-low S P D M m = go (source b F S P D M m)
     where
-      go : Source S P D M → M < 2 ^ 32
+      go : Source b F S P D M → M < 2 ^ 32
       go (inl o) = subst (λ (x : ℕ). x < 2 ^ 32) (o .set-is) (setOf-low (o .line .lookaheads))
       go (inr o) = subst (λ (x : ℕ). x < 2 ^ 32) (o .set-is) (closure-family H R S .low (leftOf (b .rules) P))
 
   pub core-some : (S P D M : ℕ) → Mem (core P D M) (coreItems b F S) → (a : ℕ) × (bit M a ≡ true)
-  core-some S P D M m = go (source S P D M m)
+  core-some S P D M m = go (source b F S P D M m)
     where
-      go : Source S P D M → (a : ℕ) × (bit M a ≡ true)
+      go : Source b F S P D M → (a : ℕ) × (bit M a ≡ true)
       go (inl o) =
           let here = has-kernelsIn (b .kernels) S (o .listed) .0 in
           let (a, l) = H .some-lookahead (o .line) here in
@@ -128,12 +133,13 @@ module _ {b : Book} {F : Sets} (H : SmallBook b) (R : SetsRight (b .rules) F) wh
   core-not-empty S P D M m = let (a, e) = core-some S P D M m in some-not-none M a e
 
   pub core-closure : (S P D M a : ℕ) → Mem (core P D M) (coreItems b F S) → bit M a ≡ true → Closure b S P D a
-  core-closure S P D M a m e = go (source S P D M m)
+  core-closure S P D M a m e = go (source b F S P D M m)
     where
-      go : Source S P D M → Closure b S P D a
+      go : Source b F S P D M → Closure b S P D a
       go (inl o) =
           let (here, s) = has-kernelsIn (b .kernels) S (o .listed) in
-          kernel (kernel-item here s (o .rule-is) (o .dot-is) (has-setOf (o .line .lookaheads) a (subst (λ (x : ℕ). bit x a ≡ true) (sym (o .set-is)) e)))
+          kernel
+          (kernel-item here s (o .rule-is) (o .dot-is) (has-setOf (o .line .lookaheads) a (subst (λ (x : ℕ). bit x a ≡ true) (sym (o .set-is)) e)))
       go (inr o) =
           subst (λ (x : ℕ). Closure b S P x a) (sym (o .dot-is))
           (set-closure H R S P a (o .below) (subst (λ (x : ℕ). bit x a ≡ true) (sym (o .set-is)) e))
@@ -142,7 +148,7 @@ module _ {b : Book} {F : Sets} (H : SmallBook b) (R : SetsRight (b .rules) F) wh
   unfolding coreItems
   closure-core S P D a c = go (closure-shape H R c)
     where
-      go : Shape H R S P D a → (M : ℕ) × Mem (core P D M) (coreItems b F S) × (bit M a ≡ true)
+      go : Shape b F S P D a → (M : ℕ) × Mem (core P D M) (coreItems b F S) × (bit M a ≡ true)
       go (inl (kernel-item {k = k} m s r d l)) =
           let same : core P D (setOf (k .lookaheads)) ≡ core (k .rule) (k .dot) (setOf (k .lookaheads)) = cc in (
             setOf (k .lookaheads),

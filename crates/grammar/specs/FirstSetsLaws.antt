@@ -91,8 +91,8 @@ module _ (G : List Rule) (H : Small G) where
 
 -- the parts of what begins a string
 module _ (nulls : ℕ) (firsts : List ℕ) (B : ℕ) (β : List Symbol) where
-  by-first : (Q : ℕ → Type 0) → (bit nulls B ≡ true → Q (union (setAt firsts B) (firstIn nulls firsts β))) → (bit nulls B ≡ false → Q (setAt firsts B))
-      → Q (firstIn nulls firsts (nonterminal B ∷ β))
+  by-first : (Q : ℕ → Type 0) → (bit nulls B ≡ true → Q (union (setAt firsts B) (firstIn nulls firsts β)))
+      → (bit nulls B ≡ false → Q (setAt firsts B)) → Q (firstIn nulls firsts (nonterminal B ∷ β))
   unfolding firstIn
   by-first Q = by-test (bit nulls B) (union (setAt firsts B) (firstIn nulls firsts β)) (setAt firsts B) Q
 
@@ -111,7 +111,7 @@ module _ (nulls : ℕ) {firsts : List ℕ} (f : Family 32 firsts) (B : ℕ) (β 
       by-first nulls firsts B β (λ x. bit x a ≡ true) (λ _. union-right (setAt firsts B) _ a (bit-lt _ a (first-lt nulls firsts f β l) e) e)
       (λ q. true-false v q)
 
-module _ (G : List Rule) (H : Small G) where
+module _ (G : List Rule) where
   -- the terminal can begin what the nonterminal derives
   abbrev Begins : ℕ → ℕ → Type 0
   Begins B a = Starts G (nonterminal B ∷ []) a
@@ -122,16 +122,16 @@ module _ (G : List Rule) (H : Small G) where
   vanish-starts : {B a : ℕ} {β : List Symbol} → Vanishes G B → Starts G β a → Starts G (nonterminal B ∷ β) a
   vanish-starts (null-rule p e n m) s = beyond p e n s
 
-  starts-in : (firsts : List ℕ) → Family 32 firsts → Within Begins firsts → (β : List Symbol) → (a : ℕ)
-      → bit (firstIn (nullable G) firsts β) a ≡ true → Starts G β a
+module _ (G : List Rule) (H : Small G) where
+  starts-in : (firsts : List ℕ) → Within (Begins G) firsts → (β : List Symbol) (a : ℕ) → bit (firstIn (nullable G) firsts β) a ≡ true → Starts G β a
   unfolding firstIn
-  starts-in firsts f w [] a e = none-in a e
-  starts-in firsts f w (terminal c ∷ β) a e = rw (single-is c a e) at-once
-  starts-in firsts f w (nonterminal B ∷ β) a e =
+  starts-in firsts w [] a e = none-in a e
+  starts-in firsts w (terminal c ∷ β) a e = rw (single-is c a e) at-once
+  starts-in firsts w (nonterminal B ∷ β) a e =
       by-first (nullable G) firsts B β (λ x. bit x a ≡ true → Starts G (nonterminal B ∷ β) a)
-      (λ v u. ⊎-elim (λ q. begins-cons (w B a q)) (λ q. vanish-starts (nullable-vanishes G H B v) (starts-in firsts f w β a q))
+      (λ v u. ⊎-elim (λ q. begins-cons G (w B a q)) (λ q. vanish-starts G (nullable-vanishes G H B v) (starts-in firsts w β a q))
       (union-either (setAt firsts B) (firstIn (nullable G) firsts β) a (bit-lt _ a (union-lt _ _) u) u))
-      (λ _ u. begins-cons (w B a u)) e
+      (λ _ u. begins-cons G (w B a u)) e
 
   first-fits : Fits (firstRule G (nullable G)) (length G) (replicate 32 0)
   unfolding firstRule
@@ -142,10 +142,10 @@ module _ (G : List Rule) (H : Small G) where
     gives-low = λ p l family f. first-lt (nullable G) family f (rightOf G p) (H .right-low p l);
   }
 
-  first-begins : Within Begins (firstSets G (nullable G))
+  first-begins : Within (Begins G) (firstSets G (nullable G))
   unfolding firstSets firstRule
   first-begins =
-      least-within first-fits Begins (none-within Begins 32) (λ p l family f w a e. inside l refl (starts-in family f w (rightOf G p) a e))
+      least-within first-fits (Begins G) (none-within (Begins G) 32) (λ p l family f w a e. inside l refl (starts-in family w (rightOf G p) a e))
 
   firsts-family : Family 32 (firstSets G (nullable G))
   unfolding firstSets
@@ -181,7 +181,7 @@ sets-right G H = record {
   told-null = null-in G (nullable G) (nullable-vanishes G H);
   first-low = first-lt (nullable G) (firstSets G (nullable G)) (firsts-family G H);
   starts-told = λ β a. starts-has G H;
-  told-starts = starts-in G H (firstSets G (nullable G)) (firsts-family G H) (first-begins G H);
+  told-starts = starts-in G H (firstSets G (nullable G)) (first-begins G H);
 }
 
 module _ {G : List Rule} {F : Sets} (R : SetsRight G F) where

@@ -214,7 +214,8 @@ module _ {constraint : ℕ → Constraint} {count : ℕ} {first : List ℕ} (F :
   unfolding visits
   no-visit-adds sets s zero h e p l = absurd (omega arith)
   no-visit-adds sets s (suc n) h e p l =
-      ⊎-elim (λ q. below-suc (λ m. visit (constraint m) sets ≡ sets) n p l (no-visit-adds sets s n (omega arith) q p) (ap (visit (constraint n)) (sym q) ∙ e))
+      ⊎-elim
+      (λ q. below-suc (λ m. visit (constraint m) sets ≡ sets) n p l (no-visit-adds sets s n (omega arith) q p) (ap (visit (constraint n)) (sym q) ∙ e))
       (λ m. absurd (shrinks m)) (before .1)
     where
       before : Family (length first) (visits constraint n sets) × Grown sets (visits constraint n sets)

@@ -24,6 +24,17 @@ use Rattle.grammar.specs.Items.{Reaches}
 use Rattle.grammar.specs.ReachesLaws.{Strict, strict-once, strict-inside, strict-beyond, reaches-shape, strict-reaches, null-reaches}
 use Rattle.grammar.specs.ReachSets.{dead, reachIn, reachRule, reachSets, reachWith}
 
+module _ (G : List Rule) where
+  -- what is reached through the nonterminal
+  abbrev Inside : ℕ → ℕ → Type 0
+  Inside B a = Strict G (nonterminal B ∷ []) a
+
+  inside-cons : {B a b c : ℕ} {β : List Symbol} → First G β b c → Inside B a → Strict G (nonterminal B ∷ β) a
+  inside-cons f (strict-inside g p e s) = strict-inside f p e s
+
+  vanish-strict : {B a : ℕ} {β : List Symbol} → Null G (nonterminal B ∷ []) → Starts G β a → Strict G (nonterminal B ∷ β) a
+  vanish-strict (null-rule p e n m) s = strict-beyond p e n s
+
 module _ {G : List Rule} {F : Sets} (R : SetsRight G F) where
   -- ---- what can follow
 
@@ -66,26 +77,16 @@ module _ {G : List Rule} {F : Sets} (R : SetsRight G F) where
   reach-lt reached f (nonterminal B ∷ β) l =
       by-reach reached B β (λ x. x < 2 ^ 32) (λ _. omega arith) (λ _ _. union-lt _ _) (λ _ _. f .low B)
 
-  -- what is reached through the nonterminal
-  abbrev Inside : ℕ → ℕ → Type 0
-  Inside B a = Strict G (nonterminal B ∷ []) a
-
-  inside-cons : {B a b c : ℕ} {β : List Symbol} → First G β b c → Inside B a → Strict G (nonterminal B ∷ β) a
-  inside-cons f (strict-inside g p e s) = strict-inside f p e s
-
-  vanish-strict : {B a : ℕ} {β : List Symbol} → Null G (nonterminal B ∷ []) → Starts G β a → Strict G (nonterminal B ∷ β) a
-  vanish-strict (null-rule p e n m) s = strict-beyond p e n s
-
-  strict-in : (reached : List ℕ) → Within Inside reached → (β : List Symbol) → Low β → (a : ℕ) → bit (reachIn F reached β) a ≡ true → Strict G β a
+  strict-in : (reached : List ℕ) → Within (Inside G) reached → (β : List Symbol) → Low β → (a : ℕ) → bit (reachIn F reached β) a ≡ true → Strict G β a
   unfolding reachIn
   strict-in reached w [] l a e = none-in a e
   strict-in reached w (terminal c ∷ β) l a e = rw (single-is c a e) strict-once
   strict-in reached w (nonterminal B ∷ β) l a e =
       by-reach reached B β (λ x. bit x a ≡ true → Strict G (nonterminal B ∷ β) a) (λ _. none-in a)
-      (λ d n u. ⊎-elim (λ q. inside-cons (live-first β (l .1) d .1) (w B a q))
-      (λ q. vanish-strict (R .told-null (nonterminal B ∷ []) n) (R .told-starts β a q))
+      (λ d n u. ⊎-elim (λ q. inside-cons G (live-first β (l .1) d .1) (w B a q))
+      (λ q. vanish-strict G (R .told-null (nonterminal B ∷ []) n) (R .told-starts β a q))
       (union-either (setAt reached B) (first F β) a (bit-lt _ a (union-lt _ _) u) u))
-      (λ d n u. inside-cons (live-first β (l .1) d .1) (w B a u)) e
+      (λ d n u. inside-cons G (live-first β (l .1) d .1) (w B a u)) e
 
   reach-own : {reached : List ℕ} → Family 32 reached → (B : ℕ) (β : List Symbol) (a : ℕ) → dead F β ≡ false → bit (setAt reached B) a ≡ true
       → bit (reachIn F reached (nonterminal B ∷ β)) a ≡ true
@@ -119,10 +120,10 @@ module _ {G : List Rule} {F : Sets} (H : Small G) (R : SetsRight G F) where
   unfolding reachSets
   reached-family = least-family reach-fits
 
-  reached-inside : Within (Inside R) (reachSets G F)
+  reached-inside : Within (Inside G) (reachSets G F)
   unfolding reachSets reachRule
   reached-inside =
-      least-within reach-fits (Inside R) (none-within (Inside R) 32)
+      least-within reach-fits (Inside G) (none-within (Inside G) 32)
       (λ p l family f w a e. strict-inside {b = 0} past l refl (strict-in R family w (rightOf G p) (H .right-low p l) a e))
 
   left-reached : (P a : ℕ) → P < length G → bit (reachIn F (reachSets G F) (rightOf G P)) a ≡ true → bit (setAt (reachSets G F) (leftOf G P)) a ≡ true

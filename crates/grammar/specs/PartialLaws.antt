@@ -5,6 +5,7 @@ use mathlib.Core.Path.{_≡_, refl}
 use mathlib.Core.Bool.{Bool, true, false}
 use mathlib.Core.List.{List, [], _∷_, List·Memᴰ as Mem, List·Memᴰ·head as in-head, List·Memᴰ·tail as in-tail}
 use Rattle.sets.specs.Sets.{bit}
+use Rattle.grammar.specs.TestLaws.{by-test}
 use Rattle.grammar.specs.Symbol.{Rule, after}
 use Rattle.grammar.specs.Book.{Book}
 use Rattle.grammar.specs.Items.{Chain}
@@ -31,12 +32,9 @@ module _ (G : List Rule) (F : Sets) (R : List ℕ) (a : ℕ) where
   partial-in P D M (core P′ D′ M′ ∷ items) (in-head e) t =
       let here : bit (reachWith F R (after G P′ D′) M′) a ≡ true = cc in
       rw (here, partialOf) (in-head e)
-  partial-in P D M (core P′ D′ M′ ∷ items) (in-tail m) t = by (bit (reachWith F R (after G P′ D′) M′) a) (partial-in P D M items m t)
-    where
-      by : (s : Bool) → Mem (core P D M) (partialOf G F R a items)
-          → Mem (core P D M) (elim s [ true ↦ core P′ D′ M′ ∷ partialOf G F R a items | false ↦ partialOf G F R a items ])
-      by true n = in-tail n
-      by false n = n
+  partial-in P D M (core P′ D′ M′ ∷ items) (in-tail m) t =
+      let below = partial-in P D M items m t in
+      by-test (bit (reachWith F R (after G P′ D′) M′) a) _ _ (Mem (core P D M)) (λ e. in-tail below) (λ e. below)
 
   partial-out : (P D M : ℕ) (items : List Core) → Mem (core P D M) (partialOf G F R a items)
       → Mem (core P D M) items × (bit (reachWith F R (after G P D) M) a ≡ true)

@@ -5,13 +5,14 @@ use native.Mathlib.Omega.{arith}
 use native.Mathlib.Decide.{ℕ-discrete}
 use mathlib.Core.Path.{_≡_, refl, ap, _∙_}
 use mathlib.Core.Logic.{_≢_, _⊎_, inl, inr}
-use mathlib.Core.Bool.{Bool, true, false}
+use mathlib.Core.Bool.{true}
 use mathlib.Core.Option.{Option, none, some}
 use mathlib.Core.List.{List, [], _∷_, List·Memᴰ as Mem, List·Memᴰ·head as in-head, List·Memᴰ·tail as in-tail}
 use lib.Dec.{eqb}
 use lib.ListN.{length, set, replicate, length-set, length-replicate}
 use lib.Seq.{getD-set-same}
 use borrow.Author.Tests.{eqb-true, eq-eqb, eqb-false}
+use Rattle.grammar.specs.TestLaws.{by-test}
 use Rattle.grammar.specs.Symbol.{Symbol, terminal, nonterminal, after}
 use Rattle.grammar.specs.Book.{Book, inheritedOwner}
 use Rattle.grammar.specs.Formula.{Formula, gives}
@@ -125,12 +126,7 @@ module _ (b : Book) where
       → (inheritedOwner b K ≡ B → Q (fill (fillFrom b old P D B K s) K (gives b P D (ownAt old D) K)))
       → (inheritedOwner b K ≢ B → Q (fillFrom b old P D B K s)) → Q (fillFrom b old P D B (suc K) s)
   unfolding fillFrom
-  fillFrom-turn Q old P D B K s owned other = by (eqb (inheritedOwner b K) B) refl
-    where
-      by : (t : Bool) → eqb (inheritedOwner b K) B ≡ t
-          → Q (elim t [ true ↦ fill (fillFrom b old P D B K s) K (gives b P D (ownAt old D) K) | false ↦ fillFrom b old P D B K s ])
-      by true e = owned (eqb-true _ _ e)
-      by false e = other (eqb-false _ _ e)
+  fillFrom-turn Q old P D B K s owned other = by-test (eqb (inheritedOwner b K) B) _ _ Q (λ e. owned (eqb-true _ _ e)) (λ e. other (eqb-false _ _ e))
 
   -- what filling a slot of B keeps holds after all of them
   fillFrom-by : (Q : Slots → Type 0) (old : Slots) (P D B n : ℕ) (s : Slots)
@@ -160,11 +156,8 @@ module _ (b : Book) where
   unfolding fillItem
   fillItem-by Q P D [] s step q = q
   fillItem-by Q P D (terminal a ∷ β) s step q = q
-  fillItem-by Q P D (nonterminal B ∷ β) s step q = by (ready b s P D) refl
-    where
-      by : (t : Bool) → ready b s P D ≡ t → Q (elim t [ true ↦ fillFrom b s P D B (attributes b) s | false ↦ s ])
-      by true e = fillFrom-by Q s P D B (attributes b) s (λ K t o h. step B K β t refl e o h) q
-      by false e = q
+  fillItem-by Q P D (nonterminal B ∷ β) s step q =
+      by-test (ready b s P D) _ _ Q (λ e. fillFrom-by Q s P D B (attributes b) s (λ K t o h. step B K β t refl e o h) q) (λ e. q)
 
   fillItem-fills : (P D B K : ℕ) (β : List Symbol) (s : Slots) → length s ≡ attributes b → ready b s P D ≡ true → K < attributes b → inheritedOwner b K ≡ B
       → Filled (slotAt (fillItem b P D (nonterminal B ∷ β) s) K)

@@ -17,6 +17,7 @@ pub mod ParseSections
 pub mod ParseWas
 pub mod Postfix
 pub mod Print
+pub mod PrintLaws
 pub mod Printer
 pub mod Reader
 pub mod ReaderLaws

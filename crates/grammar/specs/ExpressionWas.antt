@@ -1,6 +1,6 @@
 -- An expression that was read was printed: where the machine ends with something left, the text is an expression in front of it.
 -- Assumes nothing.
-use Prim.Native.Nat.{ℕ, zero, suc, _≤_, _<_}
+use Prim.Native.Nat.{ℕ, zero, suc, _<_}
 use mathlib.Core.Path.{_≡_, refl, sym, ap, _∙_}
 use mathlib.Core.Bool.{Bool, true, false}
 use mathlib.Core.List.{List, [], _∷_, _++_, append-assoc}
@@ -11,18 +11,18 @@ use borrow.Author.Tests.{eqb-true}
 use Rattle.text.specs.Class.{open-bracket, close-bracket, space}
 use Rattle.text.specs.Rest.{Rest, lost, left, found, mark, size}
 use Rattle.text.specs.RestLaws.{lost≢left, left-is, found-left}
-use Rattle.text.specs.Numeral.{decimal, letters, written, write, value, past, spelled, wordOf, keyword}
+use Rattle.text.specs.Numeral.{decimal, letters, write, value, past, wordOf, keyword}
 use Rattle.text.specs.NumeralLaws.{past-got}
 use Rattle.text.specs.Positional.{letters-positional}
-use Rattle.grammar.specs.Term.{Operator, add, sub, min, max, Term, number, leaf, both, pick}
+use Rattle.grammar.specs.Term.{Operator, add, sub, min, max, number, leaf, both, pick}
 use Rattle.grammar.specs.Book.{Place, own, at, val, Expr}
 use Rattle.grammar.specs.Postfix.{Step, push, load, operate, select, postfix, termOf, term-postfix}
-use Rattle.grammar.specs.Printer.{Printer, bytes, literal}
+use Rattle.grammar.specs.Printer.{bytes, literal}
 use Rattle.grammar.specs.Print.{printPlace, printOperator, printExpression}
 use Rattle.grammar.specs.Ordered.{Fits, PlaceFits, own-fits, at-fits, val-fits, ExpressionFits, number-fits, leaf-fits, both-fits, pick-fits}
-use Rattle.grammar.specs.Reader.{Parsed, parsed, item, after, Reader, naming}
+use Rattle.grammar.specs.Reader.{parsed, item, after, Reader, naming}
 use Rattle.grammar.specs.ReaderLaws.{open-got, close-got, space-got, number-got, keyword-got, naming-got, spelling}
-use Rattle.grammar.specs.Expression.{Waiting, waiting, Begun, opened, whole, either, ownPlace, atPlace, valPlace, wholeOf, bracket, begun, Machine, machine, goesOn, turn, work, outcome, expressionSteps, expression}
+use Rattle.grammar.specs.Expression.{Waiting, waiting, Begun, opened, whole, ownPlace, atPlace, valPlace, wholeOf, bracket, begun, Machine, machine, goesOn, work, outcome, expressionSteps, expression}
 use Rattle.grammar.specs.ExpressionReads.{either-cases, begun-bracket, begun-number, sizeBegun, begun-less, work-stop, turn-opened, turn-whole, turn-space, turn-close}
 
 -- How an expression begins

@@ -21,7 +21,8 @@ use Rattle.grammar.specs.Ordered.{Fits, PlaceFits, own-fits, at-fits, va
 use Rattle.grammar.specs.Reader.{parsed, item, after}
 use Rattle.grammar.specs.ReaderLaws.{shrinking, word-ends, number-reads, reading}
 use Rattle.grammar.specs.Repeat.{repeat, repeat-stop, repeat-more, repeat-size}
-use Rattle.grammar.specs.Expression.{Waiting, waiting, Begun, opened, whole, either, ownPlace, atPlace, valPlace, wholeOf, bracket, begun, Machine, machine, sizeLeft, goesOn, begin, turn, work, outcome, expressionSteps, expression}
+use Rattle.grammar.specs.Expression.{Waiting, waiting, Begun, opened, whole, either, ownPlace, atPlace, valPlace, wholeOf, bracket, begun, Machine}
+use Rattle.grammar.specs.Expression.{machine, sizeLeft, goesOn, begin, turn, work, outcome, expressionSteps, expression}
 
 -- How much is left
 
@@ -75,7 +76,13 @@ begun-less o alive = go (found (mark open-bracket o)) refl
     go true h =
         let p : Rest = mark open-bracket o in
         rw (begun-bracket o h)
-        (omega (arith, found-mark open-bracket o h, size-past letters p, size-mark space (past letters p), bracket-size (value letters p) (mark space (past letters p))))
+        (omega (
+          arith,
+          found-mark open-bracket o h,
+          size-past letters p,
+          size-mark space (past letters p),
+          bracket-size (value letters p) (mark space (past letters p)),
+        ))
     go false h = rw (begun-number o h) (less-past decimal o alive)
 
 begin-size : (b : Begun) (waits : List Waiting) (steps : List (Step Place)) → sizeLeft (begin b waits steps) ≡ sizeBegun b
@@ -196,7 +203,8 @@ steps-read (pick c x y) r waits steps (pick-fits h₁ h₂ h₃) k =
     ∙ (last-operand waits r select (((steps ++ postfix c) ++ postfix x) ++ postfix y)
     ∙ simp append-assoc))))))
 
-pub expression-steps : (e : Expr) (r : List ℕ) → ExpressionFits e → no-digit decimal r ≡ true → expressionSteps (left (printExpression e r)) ≡ parsed (postfix e) (left r)
+pub expression-steps : (e : Expr) (r : List ℕ) → ExpressionFits e → no-digit decimal r ≡ true
+    → expressionSteps (left (printExpression e r)) ≡ parsed (postfix e) (left r)
 unfolding expressionSteps outcome goesOn
 expression-steps e r h k = ap outcome (steps-read e r [] [] h k ∙ work-stop (machine false (left r) [] (postfix e)) refl)
 

@@ -22,8 +22,10 @@ use Rattle.grammar.specs.Print.{printPlace, printOperator, printExpressi
 use Rattle.grammar.specs.Ordered.{Fits, PlaceFits, own-fits, at-fits, val-fits, ExpressionFits, number-fits, leaf-fits, both-fits, pick-fits}
 use Rattle.grammar.specs.Reader.{parsed, item, after, Reader, naming}
 use Rattle.grammar.specs.ReaderLaws.{open-got, close-got, space-got, number-got, keyword-got, naming-got, spelling}
-use Rattle.grammar.specs.Expression.{Waiting, waiting, Begun, opened, whole, ownPlace, atPlace, valPlace, wholeOf, bracket, begun, Machine, machine, goesOn, work, outcome, expressionSteps, expression}
-use Rattle.grammar.specs.ExpressionReads.{either-cases, begun-bracket, begun-number, sizeBegun, begun-less, work-stop, turn-opened, turn-whole, turn-space, turn-close}
+use Rattle.grammar.specs.Expression.{Waiting, waiting, Begun, opened, whole, ownPlace, atPlace, valPlace, wholeOf, bracket, begun, Machine, machine}
+use Rattle.grammar.specs.Expression.{goesOn, work, outcome, expressionSteps, expression}
+use Rattle.grammar.specs.ExpressionReads.{either-cases, begun-bracket, begun-number, sizeBegun, begun-less, work-stop, turn-opened, turn-whole}
+use Rattle.grammar.specs.ExpressionReads.{turn-space, turn-close}
 
 -- How an expression begins
 
@@ -97,8 +99,10 @@ begun-begins bs = go (found (mark open-bracket (left bs))) refl
   where
     word : Rest
     word = mark open-bracket (left bs)
+
     text : (r : List ℕ) → mark space (past letters word) ≡ left r → bs ≡ 40 ∷ write letters (value letters word) (32 ∷ r)
     text r e = space-got (past letters word) e λ e₁. past-got letters letters-positional word e₁ λ cs e₂ e₃ h. open-got (left bs) (e₂ ∙ ap left e₃) λ e₄. left-is e₄
+
     go : (t : Bool) → found (mark open-bracket (left bs)) ≡ t → Begins bs (begun (left bs))
     go true h = rw (begun-bracket (left bs) h) (bracket-begins bs (value letters word) (mark space (past letters word)) text)
     go false h = rw (begun-number (left bs) h) (number-begins bs)
@@ -123,7 +127,8 @@ lost-run due waits steps h =
 
 module _ {C : Type 0} (r : List ℕ) (s : Step Place) (waits : List Waiting) (steps : List (Step Place)) where
   space-was : (n : ℕ) → alive (work (machine false (left r) (waiting s (suc n) ∷ waits) steps)) ≡ true
-      → ((r₁ : List ℕ) → r ≡ 32 ∷ r₁ → work (machine false (left r) (waiting s (suc n) ∷ waits) steps) ≡ work (machine true (left r₁) (waiting s n ∷ waits) steps) → C) → C
+      → ((r₁ : List ℕ) → r ≡ 32 ∷ r₁
+      → work (machine false (left r) (waiting s (suc n) ∷ waits) steps) ≡ work (machine true (left r₁) (waiting s n ∷ waits) steps) → C) → C
   space-was n h k = go (mark space (left r)) refl
     where
       go : (o : Rest) → mark space (left r) ≡ o → C
@@ -131,7 +136,8 @@ module _ {C : Type 0} (r : List ℕ) (s : Step Place) (waits : List Waiting) (st
       go (left r₁) e = space-got (left r) e λ p. k r₁ (left-is p) (turn-space waits steps r s n ∙ rw e)
 
   close-was : alive (work (machine false (left r) (waiting s zero ∷ waits) steps)) ≡ true
-      → ((r₁ : List ℕ) → r ≡ 41 ∷ r₁ → work (machine false (left r) (waiting s zero ∷ waits) steps) ≡ work (machine false (left r₁) waits (steps ++ (s ∷ []))) → C) → C
+      → ((r₁ : List ℕ) → r ≡ 41 ∷ r₁
+      → work (machine false (left r) (waiting s zero ∷ waits) steps) ≡ work (machine false (left r₁) waits (steps ++ (s ∷ []))) → C) → C
   close-was h k = go (mark close-bracket (left r)) refl
     where
       go : (o : Rest) → mark close-bracket (left r) ≡ o → C
@@ -187,7 +193,8 @@ both-was g ih o bs r₀ waits steps l p q h =
     operand-space g ih m (operate o) r₀ waits steps (omega arith) h 0 (turn-opened waits steps bs (left r₀) (waiting (operate o) 1) q) λ x r₁ p₁ f₁ l₁ m₁.
     operand-close g ih m (operate o) r₁ waits (steps ++ postfix x) (omega arith) h m₁ λ y r₂ p₂ f₂ l₂ m₂.
     record {
-      e = both o x y; r = r₂;
+      e = both o x y;
+      r = r₂;
       text = p ∙ rw (p₁, p₂);
       fits = both-fits f₁ f₂;
       shorter = omega arith;
@@ -204,7 +211,8 @@ pick-was g ih bs r₀ waits steps l p q h =
     operand-space g ih m select r₁ waits (steps ++ postfix c) (omega arith) h 0 m₁ λ x r₂ p₂ f₂ l₂ m₂.
     operand-close g ih m select r₂ waits ((steps ++ postfix c) ++ postfix x) (omega arith) h m₂ λ y r₃ p₃ f₃ l₃ m₃.
     record {
-      e = pick c x y; r = r₃;
+      e = pick c x y;
+      r = r₃;
       text = p ∙ rw (p₁, p₂, p₃);
       fits = pick-fits f₁ f₂ f₃;
       shorter = omega arith;
@@ -241,7 +249,7 @@ unfolding expressionSteps outcome goesOn after alive
 steps-were bs r h =
     let w : Was bs [] [] = was (suc (length bs)) bs [] [] (omega arith) (found-left (after (outcome (work (machine true (left bs) [] [])))) h) in
     let z : expressionSteps (left bs) ≡ parsed (postfix (w .e)) (left (w .r)) =
-        ap outcome (w .same ∙ work-stop (machine false (left (w .r)) [] (postfix (w .e))) refl) in
+    ap outcome (w .same ∙ work-stop (machine false (left (w .r)) [] (postfix (w .e))) refl) in
     let y : w .r ≡ r = left-is (sym (ap after z) ∙ h) in
     record { e = w .e; text = w .text ∙ ap (printExpression (w .e)) y; fits = w .fits; steps = z ∙ ap (λ x. parsed (postfix (w .e)) (left x)) y }
 

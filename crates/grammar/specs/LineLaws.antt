@@ -17,16 +17,20 @@ use Rattle.text.specs.Positional.{letters-positional, no-digit}
 use Rattle.grammar.specs.Symbol.{Symbol, terminal, nonterminal, Rule}
 use Rattle.grammar.specs.Book.{InheritedDefinition, SynthesizedDefinition, Kernel, Go}
 use Rattle.grammar.specs.Printer.{Printer, _·_, literal, numeral, each}
-use Rattle.grammar.specs.Print.{printSymbol, printInherited, printSynthesized, printRule, printInheritedDefinition, printSynthesizedDefinition, printKernel, printGo}
-use Rattle.grammar.specs.Ordered.{Ascends, inheritedKey, synthesizedKey, kernelKey, goKey, lookaheadKey, Every, Lookaheads, Fits, SymbolFits, terminal-fits, nonterminal-fits, RuleFits, InheritedFits, SynthesizedFits, KernelFits, GoFits}
+use Rattle.grammar.specs.Print.{printSymbol, printInherited, printSynthesized, printRule, printInheritedDefinition, printSynthesizedDefinition}
+use Rattle.grammar.specs.Print.{printKernel, printGo}
+use Rattle.grammar.specs.Ordered.{Ascends, inheritedKey, synthesizedKey, kernelKey, goKey, lookaheadKey, Every, Lookaheads, Fits, SymbolFits}
+use Rattle.grammar.specs.Ordered.{terminal-fits, nonterminal-fits, RuleFits, InheritedFits, SynthesizedFits, KernelFits, GoFits}
 use Rattle.grammar.specs.Reader.{parsed, item, after, opening, naming}
-use Rattle.grammar.specs.ReaderLaws.{space-got, number-got, due-got, keyword-got, closing-got, naming-got, opening-got, shrinking, opening-less, naming-less, word-ends, number-reads, reading, spelling}
+use Rattle.grammar.specs.ReaderLaws.{space-got, number-got, due-got, keyword-got, closing-got, naming-got, opening-got, shrinking, opening-less}
+use Rattle.grammar.specs.ReaderLaws.{naming-less, word-ends, number-reads, reading, spelling}
 use Rattle.grammar.specs.OrderLaws.{before-true, true-before, Numbering, Following, every-along, along-every, ascends-along, along-ascends, along-fits}
 use Rattle.grammar.specs.SectionLaws.{Stands, Inverse, Prints, section-reads, section-was, section-size}
 use Rattle.grammar.specs.Expression.{expression}
 use Rattle.grammar.specs.ExpressionReads.{expression-reads, expression-size}
 use Rattle.grammar.specs.ExpressionWas.{expression-was}
-use Rattle.grammar.specs.Parse.{symbolOf, symbol, ownerLine, symbols, ruleLine, inheritedDefinitionLine, synthesizedDefinitionLine, lookahead, lookaheads, kernelLine, goLine}
+use Rattle.grammar.specs.Parse.{symbolOf, symbol, ownerLine, symbols, ruleLine, inheritedDefinitionLine, synthesizedDefinitionLine, lookahead, lookaheads}
+use Rattle.grammar.specs.Parse.{kernelLine, goLine}
 
 -- What may stand after an item
 
@@ -37,6 +41,9 @@ abbrev pub NoDigit : List ℕ → Type 0
 NoDigit r = no-digit decimal r ≡ true
 
 -- Symbols
+
+abbrev pub printRight : Symbol → Printer
+printRight X = literal " " · printSymbol X
 
 letter-was : (w K : ℕ) (r : List ℕ) → (eqb w (wordOf "t") || eqb w (wordOf "n")) ≡ true → Fits K
     → Stands printSymbol SymbolFits (write letters w (write decimal K r)) (symbolOf (eqb w (wordOf "t")) K) r
@@ -62,7 +69,7 @@ unfolding reading symbol symbolOf printSymbol
 symbol-reads (terminal K) r (terminal-fits h) e = rw (word-ends _ _ _, number-reads _ _ h e)
 symbol-reads (nonterminal K) r (nonterminal-fits h) e = rw (word-ends _ _ _, number-reads _ _ h e)
 
-pub symbol-inverse : Inverse (mark space) (λ (s : Unit {0}). symbol) (λ s X. literal " " · printSymbol X) (λ s. SymbolFits) NoDigit
+pub symbol-inverse : Inverse (mark space) (λ (s : Unit {0}). symbol) (λ s. printRight) (λ s. SymbolFits) NoDigit
 unfolding reading
 symbol-inverse = record {
   head-less = found-mark space;
@@ -104,18 +111,18 @@ list-ends print h [] r e = e
 list-ends print h (x ∷ xs) r e = h x (each print xs r)
 
 pub symbols-read : (xs : List Symbol) (r : List ℕ) → Every SymbolFits xs → NoDigit r → found (mark space (left r)) ≡ false
-    → symbols (left (each (λ X. literal " " · printSymbol X) xs r)) ≡ parsed xs (left r)
+    → symbols (left (each printRight xs r)) ≡ parsed xs (left r)
 unfolding symbols
 symbols-read xs r h d e =
-    section-reads (mark space) (λ (s : Unit {0}). symbol) (λ s X. s) (λ s X. literal " " · printSymbol X) (λ s. SymbolFits) NoDigit
-    (λ s. each (λ X. literal " " · printSymbol X)) symbol-inverse (each-prints (λ s X. s) (λ X. literal " " · printSymbol X)) tt xs r (every-along h) d e
+    section-reads (mark space) (λ (s : Unit {0}). symbol) (λ s X. s) (λ s. printRight) (λ s. SymbolFits) NoDigit
+    (λ s. each printRight) symbol-inverse (each-prints (λ s X. s) printRight) tt xs r (every-along h) d e
 
 pub symbols-were : {C : Type 0} {r : List ℕ} (o : Rest) → after (symbols o) ≡ left r
-    → (o ≡ left (each (λ X. literal " " · printSymbol X) (item (symbols o)) r) → Every SymbolFits (item (symbols o)) → C) → C
+    → (o ≡ left (each printRight (item (symbols o)) r) → Every SymbolFits (item (symbols o)) → C) → C
 unfolding symbols
 symbols-were o e k =
-    section-was (mark space) (λ (s : Unit {0}). symbol) (λ s X. s) (λ s X. literal " " · printSymbol X) (λ s. SymbolFits) NoDigit
-    (λ s. each (λ X. literal " " · printSymbol X)) symbol-inverse (each-prints (λ s X. s) (λ X. literal " " · printSymbol X)) tt o e λ e₁ h. k e₁ (along-every h)
+    section-was (mark space) (λ (s : Unit {0}). symbol) (λ s X. s) (λ s. printRight) (λ s. SymbolFits) NoDigit
+    (λ s. each printRight) symbol-inverse (each-prints (λ s X. s) printRight) tt o e λ e₁ h. k e₁ (along-every h)
 
 most-symbols : (m : ℕ) (o : Rest) → size o ≤ m → size (after (symbols o)) ≤ m
 unfolding symbols
@@ -191,9 +198,9 @@ synthesized-inverse = record {
 
 -- Rules
 
-right-ends : (xs : List Symbol) (r : List ℕ) → NoDigit (each (λ X. literal " " · printSymbol X) xs (literal ")\n" r))
+right-ends : (xs : List Symbol) (r : List ℕ) → NoDigit (each printRight xs (literal ")\n" r))
 unfolding reading
-right-ends xs r = list-ends (λ X. literal " " · printSymbol X) (λ X r. refl) xs (literal ")\n" r) refl
+right-ends xs r = list-ends printRight (λ X r. refl) xs (literal ")\n" r) refl
 
 rule-was : (K : ℕ) (bs r : List ℕ) → after (ruleLine K (opening (wordOf "rule") (left bs))) ≡ left r
     → Stands (printRule K) (Numbering RuleFits K) bs (item (ruleLine K (opening (wordOf "rule") (left bs)))) r
@@ -206,7 +213,11 @@ rule-reads : (K : ℕ) (x : Rule) (r : List ℕ) → Numbering RuleFits K x → 
 unfolding reading printRule ruleLine
 rule-reads K x r h =
     rw (number-reads K _ (h .number) refl, eq-eqb K K refl)
-    (rw (word-ends _ (x .left) _, number-reads (x .left) _ (h .fits .left) (right-ends (x .right) r), symbols-read (x .right) (literal ")\n" r) (h .fits .right) refl refl))
+    (rw (
+      word-ends _ (x .left) _,
+      number-reads (x .left) _ (h .fits .left) (right-ends (x .right) r),
+      symbols-read (x .right) (literal ")\n" r) (h .fits .right) refl refl,
+    ))
 
 pub rule-inverse : Inverse (opening (wordOf "rule")) ruleLine printRule (Numbering RuleFits) Anything
 unfolding reading printRule ruleLine
@@ -234,12 +245,16 @@ inherited-definition-reads : (last : List ℕ) (d : InheritedDefinition) (r : Li
 unfolding reading printInheritedDefinition inheritedDefinitionLine inheritedKey
 inherited-definition-reads last d r h =
     rw (
-      number-reads (d .rule) _ (h .fits .rule) refl, number-reads (d .position) _ (h .fits .position) refl, word-ends _ (d .attribute) _,
-      number-reads (d .attribute) _ (h .fits .attribute) refl, expression-reads (d .expression) (literal ")\n" r) (h .fits .expression) refl,
+      number-reads (d .rule) _ (h .fits .rule) refl,
+      number-reads (d .position) _ (h .fits .position) refl,
+      word-ends _ (d .attribute) _,
+      number-reads (d .attribute) _ (h .fits .attribute) refl,
+      expression-reads (d .expression) (literal ")\n" r) (h .fits .expression) refl,
       true-before (h .above),
     )
 
-pub inherited-definition-inverse : Inverse (opening (wordOf "inhdef")) inheritedDefinitionLine (λ last. printInheritedDefinition) (Following inheritedKey InheritedFits) Anything
+pub inherited-definition-inverse
+    : Inverse (opening (wordOf "inhdef")) inheritedDefinitionLine (λ last. printInheritedDefinition) (Following inheritedKey InheritedFits) Anything
 unfolding reading printInheritedDefinition inheritedDefinitionLine
 inherited-definition-inverse = record {
   head-less = opening-less (wordOf "inhdef");
@@ -251,7 +266,8 @@ inherited-definition-inverse = record {
 }
 
 synthesized-definition-was : (last bs r : List ℕ) → after (synthesizedDefinitionLine last (opening (wordOf "syndef") (left bs))) ≡ left r
-    → Stands printSynthesizedDefinition (Following synthesizedKey SynthesizedFits last) bs (item (synthesizedDefinitionLine last (opening (wordOf "syndef") (left bs)))) r
+    → Stands printSynthesizedDefinition (Following synthesizedKey SynthesizedFits last) bs
+    (item (synthesizedDefinitionLine last (opening (wordOf "syndef") (left bs)))) r
 unfolding synthesizedDefinitionLine synthesizedKey item after printSynthesizedDefinition spelling
 synthesized-definition-was last bs r e =
     must-got _ _ e λ t e₁. closing-got _ e₁ λ e₂. expression-was _ e₂ λ e₃ h. space-got _ e₃ λ e₄. number-got _ e₄ λ e₅ k. naming-got _ _ e₅ λ e₆.
@@ -263,11 +279,15 @@ synthesized-definition-reads : (last : List ℕ) (d : SynthesizedDefinition) (r 
 unfolding reading printSynthesizedDefinition synthesizedDefinitionLine synthesizedKey
 synthesized-definition-reads last d r h =
     rw (
-      number-reads (d .rule) _ (h .fits .rule) refl, word-ends _ (d .attribute) _, number-reads (d .attribute) _ (h .fits .attribute) refl,
-      expression-reads (d .expression) (literal ")\n" r) (h .fits .expression) refl, true-before (h .above),
+      number-reads (d .rule) _ (h .fits .rule) refl,
+      word-ends _ (d .attribute) _,
+      number-reads (d .attribute) _ (h .fits .attribute) refl,
+      expression-reads (d .expression) (literal ")\n" r) (h .fits .expression) refl,
+      true-before (h .above),
     )
 
-pub synthesized-definition-inverse : Inverse (opening (wordOf "syndef")) synthesizedDefinitionLine (λ last. printSynthesizedDefinition) (Following synthesizedKey SynthesizedFits) Anything
+pub synthesized-definition-inverse
+    : Inverse (opening (wordOf "syndef")) synthesizedDefinitionLine (λ last. printSynthesizedDefinition) (Following synthesizedKey SynthesizedFits) Anything
 unfolding reading printSynthesizedDefinition synthesizedDefinitionLine
 synthesized-definition-inverse = record {
   head-less = opening-less (wordOf "syndef");
@@ -306,10 +326,12 @@ kernel-reads : (last : List ℕ) (k : Kernel) (r : List ℕ) → Following kerne
 unfolding reading printKernel kernelLine kernelKey
 kernel-reads last k r h =
     rw (
-      number-reads (k .state) _ (h .fits .1 .state) refl, number-reads (k .rule) _ (h .fits .1 .rule) refl,
+      number-reads (k .state) _ (h .fits .1 .state) refl,
+      number-reads (k .rule) _ (h .fits .1 .rule) refl,
       number-reads (k .dot) _ (h .fits .1 .dot) (lookaheads-end (k .lookaheads) r),
       lookaheads-read (k .lookaheads) (literal ")\n" r) (h .fits .0 .ascend) (h .fits .1 .lookaheads) refl refl,
-      lt-ltb 0 (length (k .lookaheads)) (h .fits .0 .some), true-before (h .above),
+      lt-ltb 0 (length (k .lookaheads)) (h .fits .0 .some),
+      true-before (h .above),
     )
 
 pub kernel-inverse : Inverse (opening (wordOf "kernel")) kernelLine (λ last. printKernel) (Following kernelKey KernelFine) Anything
@@ -335,7 +357,9 @@ go-reads : (last : List ℕ) (g : Go) (r : List ℕ) → Following goKey GoFits 
 unfolding reading printGo goLine goKey
 go-reads last g r h =
     rw (
-      number-reads (g .state) _ (h .fits .state) refl, symbol-reads (g .symbol) _ (h .fits .symbol) refl, number-reads (g .target) _ (h .fits .target) refl,
+      number-reads (g .state) _ (h .fits .state) refl,
+      symbol-reads (g .symbol) _ (h .fits .symbol) refl,
+      number-reads (g .target) _ (h .fits .target) refl,
       true-before (h .above),
     )
 

@@ -160,10 +160,16 @@ bookText = do
   goes ← goLines
   endLine
   pure (record {
-    terminals = T; nonterminals = N; states = Q;
-    inheritedOwners = inheritedOwners; synthesizedOwners = synthesizedOwners; rules = rules;
-    inheritedDefinitions = inheritedDefinitions; synthesizedDefinitions = synthesizedDefinitions;
-    kernels = kernels; goes = goes;
+    terminals = T;
+    nonterminals = N;
+    states = Q;
+    inheritedOwners = inheritedOwners;
+    synthesizedOwners = synthesizedOwners;
+    rules = rules;
+    inheritedDefinitions = inheritedDefinitions;
+    synthesizedDefinitions = synthesizedDefinitions;
+    kernels = kernels;
+    goes = goes;
   })
 
 -- nothing stands after the end line
@@ -177,5 +183,6 @@ parseBook text = ended (bookText (left text))
 
 -- opens every definition of this module
 unfoldable pub opens : Unit {0}
-unfolding before symbolOf symbol ownerLine symbols ruleLine inheritedDefinitionLine synthesizedDefinitionLine lookahead lookaheads kernelLine goLine ownerLines ruleLines inheritedDefinitionLines synthesizedDefinitionLines kernelLines goLines endLine bookText ended parseBook
+unfolding before symbolOf symbol ownerLine symbols ruleLine inheritedDefinitionLine synthesizedDefinitionLine lookahead lookaheads kernelLine goLine ownerLines
+    ruleLines inheritedDefinitionLines synthesizedDefinitionLines kernelLines goLines endLine bookText ended parseBook
 opens = tt

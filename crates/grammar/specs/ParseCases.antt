@@ -28,7 +28,8 @@ unlines (line ∷ lines) = bytes line ++ (10 ∷ unlines lines)
 
 -- opens all that reading and printing compute with
 unfoldable pub opens : Unit {0}
-unfolding unlines opens-class opens-rest opens-numeral opens-postfix opens-printer opens-print opens-ordered opens-reader opens-repeat opens-expression opens-parse
+unfolding unlines opens-class opens-rest opens-numeral opens-postfix opens-printer opens-print opens-ordered opens-reader opens-repeat opens-expression
+    opens-parse
 opens = tt
 
 -- 01's book S up to its grammar, its definitions, and its states
@@ -78,7 +79,9 @@ S-text = unlines (S-grammar ++ (S-definitions ++ (S-kernels ++ (S-goes ++ ("(end
 
 unfoldable pub S : Book
 S = record {
-  terminals = 2; nonterminals = 2; states = 6;
+  terminals = 2;
+  nonterminals = 2;
+  states = 6;
   inheritedOwners = 2 ∷ [];
   synthesizedOwners = 1 ∷ 2 ∷ [];
   rules =
@@ -130,15 +133,15 @@ S-but grammar kernels end = unlines (grammar ++ (S-definitions ++ (kernels ++ (S
 
 -- "(rule 01 n1 t1 n2)"
 leading-zero : parseBook (S-but (
-  "(book 2 2 6)" ∷ "(inh i0 n2)" ∷ "(syn s0 n1)" ∷ "(syn s1 n2)" ∷ "(rule 0 n0 n1)" ∷ "(rule 01 n1 t1 n2)" ∷ "(rule 2 n2)" ∷ "(rule 3 n2 t2 n2)" ∷ []
-) S-kernels ("(end)" ∷ [])) ≡ none
+    "(book 2 2 6)" ∷ "(inh i0 n2)" ∷ "(syn s0 n1)" ∷ "(syn s1 n2)" ∷ "(rule 0 n0 n1)" ∷ "(rule 01 n1 t1 n2)" ∷ "(rule 2 n2)" ∷ "(rule 3 n2 t2 n2)" ∷ []
+    ) S-kernels ("(end)" ∷ [])) ≡ none
 unfolding opens S-but S-definitions S-kernels S-goes
 leading-zero = refl
 
 -- the letter belongs to the form
 wrong-letter : parseBook (S-but (
-  "(book 2 2 6)" ∷ "(inh s0 n1)" ∷ "(syn s0 n1)" ∷ "(syn s1 n2)" ∷ "(rule 0 n0 n1)" ∷ "(rule 1 n1 t1 n2)" ∷ "(rule 2 n2)" ∷ "(rule 3 n2 t2 n2)" ∷ []
-) S-kernels ("(end)" ∷ [])) ≡ none
+    "(book 2 2 6)" ∷ "(inh s0 n1)" ∷ "(syn s0 n1)" ∷ "(syn s1 n2)" ∷ "(rule 0 n0 n1)" ∷ "(rule 1 n1 t1 n2)" ∷ "(rule 2 n2)" ∷ "(rule 3 n2 t2 n2)" ∷ []
+    ) S-kernels ("(end)" ∷ [])) ≡ none
 unfolding opens S-but S-definitions S-kernels S-goes
 wrong-letter = refl
 
@@ -182,8 +185,16 @@ empty-text = refl
 -- zero lines of every kind but book and end is no spelling fault
 no-lines : parseBook (unlines ("(book 0 0 4294967295)" ∷ "(end)" ∷ []))
     ≡ some (record {
-      terminals = 0; nonterminals = 0; states = 4294967295; inheritedOwners = []; synthesizedOwners = []; rules = [];
-      inheritedDefinitions = []; synthesizedDefinitions = []; kernels = []; goes = [];
+      terminals = 0;
+      nonterminals = 0;
+      states = 4294967295;
+      inheritedOwners = [];
+      synthesizedOwners = [];
+      rules = [];
+      inheritedDefinitions = [];
+      synthesizedDefinitions = [];
+      kernels = [];
+      goes = [];
     })
 unfolding opens
 no-lines = refl
@@ -195,15 +206,23 @@ too-large = refl
 -- every form of expression
 forms : parseBook (unlines ("(book 1 1 1)" ∷ "(syndef 0 s0 (pick (sub 1 (val 2)) (min (at 3 s4) (own i5)) (max 6 (add 7 8))))" ∷ "(end)" ∷ []))
     ≡ some (record {
-      terminals = 1; nonterminals = 1; states = 1; inheritedOwners = []; synthesizedOwners = []; rules = []; inheritedDefinitions = [];
+      terminals = 1;
+      nonterminals = 1;
+      states = 1;
+      inheritedOwners = [];
+      synthesizedOwners = [];
+      rules = [];
+      inheritedDefinitions = [];
       synthesizedDefinitions =
           record {
-            rule = 0; attribute = 0;
+            rule = 0;
+            attribute = 0;
             expression =
                 pick (both sub (number 1) (leaf (val 2))) (both min (leaf (at 3 4)) (leaf (own 5))) (both max (number 6) (both add (number 7) (number 8)));
           }
           ∷ [];
-      kernels = []; goes = [];
+      kernels = [];
+      goes = [];
     })
 unfolding opens
 forms = refl

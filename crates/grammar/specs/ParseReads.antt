@@ -7,14 +7,17 @@ use Rattle.text.specs.Rest.{left}
 use Rattle.text.specs.Numeral.{spelled, wordOf}
 use Rattle.grammar.specs.Book.{Book}
 use Rattle.grammar.specs.Printer.{literal, each, numbered}
-use Rattle.grammar.specs.Print.{printHeader, printInherited, printSynthesized, printRule, printInheritedDefinition, printSynthesizedDefinition, printKernel, printGo, printBook}
+use Rattle.grammar.specs.Print.{printHeader, printInherited, printSynthesized, printRule, printInheritedDefinition, printSynthesizedDefinition}
+use Rattle.grammar.specs.Print.{printKernel, printGo, printBook}
 use Rattle.grammar.specs.Ordered.{inheritedKey, synthesizedKey, kernelKey, goKey, Spelled}
 use Rattle.grammar.specs.Reader.{parsed}
 use Rattle.grammar.specs.ReaderLaws.{number-reads, reading}
 use Rattle.grammar.specs.OrderLaws.{every-both}
-use Rattle.grammar.specs.LineLaws.{inherited-inverse, synthesized-inverse, rule-inverse, inherited-definition-inverse, synthesized-definition-inverse, kernel-inverse, go-inverse}
+use Rattle.grammar.specs.LineLaws.{inherited-inverse, synthesized-inverse, rule-inverse, inherited-definition-inverse, synthesized-definition-inverse}
+use Rattle.grammar.specs.LineLaws.{kernel-inverse, go-inverse}
 use Rattle.grammar.specs.ParseSections.{lineWord, listed, Starts, numbered-starts, each-starts, numbered-reads, ordered-reads}
-use Rattle.grammar.specs.Parse.{ownerLine, ruleLine, inheritedDefinitionLine, synthesizedDefinitionLine, kernelLine, goLine, ownerLines, ruleLines, inheritedDefinitionLines, synthesizedDefinitionLines, kernelLines, goLines, endLine, bookText}
+use Rattle.grammar.specs.Parse.{ownerLine, ruleLine, inheritedDefinitionLine, synthesizedDefinitionLine, kernelLine, goLine, ownerLines, ruleLines}
+use Rattle.grammar.specs.Parse.{inheritedDefinitionLines, synthesizedDefinitionLines, kernelLines, goLines, endLine, bookText}
 
 -- What is printed is read
 
@@ -142,7 +145,14 @@ module _ (b : Book) where
     unfolding reading printBook printHeader bookText endLine
     book-reads =
         rw (
-          number-reads (b .terminals) _ (h .fits .terminals) refl, number-reads (b .nonterminals) _ (h .fits .nonterminals) refl,
-          number-reads (b .states) _ (h .fits .states) refl, inherited-read, synthesized-read, rules-read, inherited-definitions-read,
-          synthesized-definitions-read, kernels-read, goes-read,
+          number-reads (b .terminals) _ (h .fits .terminals) refl,
+          number-reads (b .nonterminals) _ (h .fits .nonterminals) refl,
+          number-reads (b .states) _ (h .fits .states) refl,
+          inherited-read,
+          synthesized-read,
+          rules-read,
+          inherited-definitions-read,
+          synthesized-definitions-read,
+          kernels-read,
+          goes-read,
         )

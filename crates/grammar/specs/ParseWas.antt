@@ -6,14 +6,17 @@ use mathlib.Core.List.{List, [], _∷_}
 use Rattle.text.specs.Rest.{Rest, left}
 use Rattle.text.specs.RestLaws.{left-is}
 use Rattle.text.specs.Numeral.{letters, write, wordOf}
-use Rattle.grammar.specs.Print.{printHeader, printInherited, printSynthesized, printRule, printInheritedDefinition, printSynthesizedDefinition, printKernel, printGo, printBook}
+use Rattle.grammar.specs.Print.{printHeader, printInherited, printSynthesized, printRule, printInheritedDefinition, printSynthesizedDefinition}
+use Rattle.grammar.specs.Print.{printKernel, printGo, printBook}
 use Rattle.grammar.specs.Ordered.{inheritedKey, synthesizedKey, kernelKey, goKey, Spelled}
 use Rattle.grammar.specs.Reader.{item, after}
 use Rattle.grammar.specs.ReaderLaws.{open-got, space-got, number-got, keyword-got, closing-got, opening-got, spelling}
 use Rattle.grammar.specs.OrderLaws.{every-first, every-second}
-use Rattle.grammar.specs.LineLaws.{inherited-inverse, synthesized-inverse, rule-inverse, inherited-definition-inverse, synthesized-definition-inverse, kernel-inverse, go-inverse}
+use Rattle.grammar.specs.LineLaws.{inherited-inverse, synthesized-inverse, rule-inverse, inherited-definition-inverse, synthesized-definition-inverse}
+use Rattle.grammar.specs.LineLaws.{kernel-inverse, go-inverse}
 use Rattle.grammar.specs.ParseSections.{numbered-was, ordered-was}
-use Rattle.grammar.specs.Parse.{ownerLine, ruleLine, inheritedDefinitionLine, synthesizedDefinitionLine, kernelLine, goLine, ownerLines, ruleLines, inheritedDefinitionLines, synthesizedDefinitionLines, kernelLines, goLines, endLine, bookText}
+use Rattle.grammar.specs.Parse.{ownerLine, ruleLine, inheritedDefinitionLine, synthesizedDefinitionLine, kernelLine, goLine, ownerLines, ruleLines}
+use Rattle.grammar.specs.Parse.{inheritedDefinitionLines, synthesizedDefinitionLines, kernelLines, goLines, endLine, bookText}
 
 end-got : {C : Type 0} {r : List ℕ} (o : Rest) → endLine o ≡ left r → (o ≡ left (40 ∷ write letters (wordOf "end") (41 ∷ 10 ∷ r)) → C) → C
 unfolding endLine
@@ -31,13 +34,21 @@ book-was text e =
     numbered-was (wordOf "syn") (ownerLine (wordOf "s")) printSynthesized synthesized-inverse _ e₆ λ e₇ syn-owners.
     numbered-was (wordOf "inh") (ownerLine (wordOf "i")) printInherited inherited-inverse _ e₇ λ e₈ inh-owners.
     closing-got _ e₈ λ e₉. number-got _ e₉ λ e₁₀ q. space-got _ e₁₀ λ e₁₁. number-got _ e₁₁ λ e₁₂ n. space-got _ e₁₂ λ e₁₃. number-got _ e₁₃ λ e₁₄ t.
-    opening-got _ _ e₁₄ λ e₁₅.
-    (left-is e₁₅, record {
-      ordered = record { inherited = inh-up; synthesized = syn-up; kernels = kernel-up; lookaheads = every-first kernel-fits; goes = go-up };
-      fits = record {
-        terminals = t; nonterminals = n; states = q;
-        inheritedOwners = inh-owners; synthesizedOwners = syn-owners; rules = rule-fits;
-        inheritedDefinitions = inh-fits; synthesizedDefinitions = syn-fits;
-        kernels = every-second kernel-fits; goes = go-fits;
-      };
-    })
+    opening-got _ _ e₁₄ λ e₁₅. (
+      left-is e₁₅,
+      record {
+        ordered = record { inherited = inh-up; synthesized = syn-up; kernels = kernel-up; lookaheads = every-first kernel-fits; goes = go-up };
+        fits = record {
+          terminals = t;
+          nonterminals = n;
+          states = q;
+          inheritedOwners = inh-owners;
+          synthesizedOwners = syn-owners;
+          rules = rule-fits;
+          inheritedDefinitions = inh-fits;
+          synthesizedDefinitions = syn-fits;
+          kernels = every-second kernel-fits;
+          goes = go-fits;
+        };
+      },
+    )

@@ -78,5 +78,6 @@ printBook b =
 
 -- opens every definition of this module
 unfoldable pub opens : Unit {0}
-unfolding printSymbol printPlace printOperator printExpression printHeader printInherited printSynthesized printRule printInheritedDefinition printSynthesizedDefinition printKernel printGo printBook
+unfolding printSymbol printPlace printOperator printExpression printHeader printInherited printSynthesized printRule printInheritedDefinition
+    printSynthesizedDefinition printKernel printGo printBook
 opens = tt

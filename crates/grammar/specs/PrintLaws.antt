@@ -14,7 +14,8 @@ use Rattle.grammar.specs.Symbol.{Symbol, terminal, nonterminal, Rule}
 use Rattle.grammar.specs.Term.{Operator, add, sub, min, max, number, leaf, both, pick}
 use Rattle.grammar.specs.Book.{Place, own, at, val, Expr, InheritedDefinition, SynthesizedDefinition, Kernel, Go, Book}
 use Rattle.grammar.specs.Printer.{Printer, bytes, literal, each, numbered}
-use Rattle.grammar.specs.Print.{printSymbol, printPlace, printOperator, printExpression, printHeader, printInherited, printSynthesized, printRule, printInheritedDefinition, printSynthesizedDefinition, printKernel, printGo, printBook}
+use Rattle.grammar.specs.Print.{printSymbol, printPlace, printOperator, printExpression, printHeader, printInherited, printSynthesized, printRule}
+use Rattle.grammar.specs.Print.{printInheritedDefinition, printSynthesizedDefinition, printKernel, printGo, printBook}
 
 pub data Printable : List ℕ → Type 0 where
   line-end : Printable (10 ∷ [])

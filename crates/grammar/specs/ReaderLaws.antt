@@ -124,7 +124,8 @@ number-reads n r h k = number-written n r (omega arith) k
 
 -- opens all that reading computes with, and nothing of writing
 unfoldable pub reading : Unit {0}
-unfolding classOf found must markIn mark digitOf digits numeral numberOf restOf read value past spelled keyword no-digit bytes literal item after opening closing naming
+unfolding classOf found must markIn mark digitOf digits numeral numberOf restOf read value past spelled keyword no-digit bytes literal item after opening
+    closing naming
 reading = tt
 
 -- opens all that writing a word computes with

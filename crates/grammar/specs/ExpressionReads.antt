@@ -1,28 +1,28 @@
 -- What is printed of an expression is read: the machine gives the expression's steps in postfix order.
 -- Assumes nothing.
 use Prim.Native.Nat.{ℕ, zero, suc, _≤_, _<_}
-use mathlib.Core.Path.{_≡_, refl, sym, ap, _∙_}
+use mathlib.Core.Path.{_≡_, refl, ap, _∙_}
 use mathlib.Core.Bool.{Bool, true, false}
 use mathlib.Core.List.{List, [], _∷_, _++_, append-assoc}
 use native.Mathlib.Omega.{arith}
 use lib.Dec.{eqb}
-use lib.ListN.{length}
 use Rattle.text.specs.Class.{open-bracket, close-bracket, space, classOf}
-use Rattle.text.specs.Rest.{Rest, lost, left, found, must, markIn, mark, size}
-use Rattle.text.specs.RestLaws.{found-left, size-mark, less-mark, found-mark}
-use Rattle.text.specs.Numeral.{System, decimal, letters, Read, got, digitOf, digits, numeral, write, numberOf, restOf, read, value, past, spelled, wordOf, keyword}
+use Rattle.text.specs.Rest.{Rest, left, found, must, markIn, mark, size}
+use Rattle.text.specs.RestLaws.{size-mark, less-mark, found-mark}
+use Rattle.text.specs.Numeral.{decimal, letters, digitOf, write, value, past, wordOf}
 use Rattle.text.specs.Positional.{no-digit}
 use Rattle.text.specs.NumeralLaws.{value-number, past-number, mark-number, size-past, less-past}
-use Rattle.grammar.specs.Term.{Operator, add, sub, min, max, Term, number, leaf, both, pick}
+use Rattle.grammar.specs.Term.{Operator, add, sub, min, max, number, leaf, both, pick}
 use Rattle.grammar.specs.Book.{Place, own, at, val, Expr}
 use Rattle.grammar.specs.Postfix.{Step, push, load, operate, select, postfix, term-postfix}
-use Rattle.grammar.specs.Printer.{Printer, bytes, literal}
+use Rattle.grammar.specs.Printer.{bytes, literal}
 use Rattle.grammar.specs.Print.{printPlace, printOperator, printExpression}
 use Rattle.grammar.specs.Ordered.{Fits, PlaceFits, own-fits, at-fits, val-fits, ExpressionFits, number-fits, leaf-fits, both-fits, pick-fits}
-use Rattle.grammar.specs.Reader.{Parsed, parsed, item, after, Reader, naming}
+use Rattle.grammar.specs.Reader.{parsed, item, after}
 use Rattle.grammar.specs.ReaderLaws.{shrinking, word-ends, number-reads, reading}
 use Rattle.grammar.specs.Repeat.{repeat, repeat-stop, repeat-more, repeat-size}
-use Rattle.grammar.specs.Expression.{Waiting, waiting, Begun, opened, whole, either, ownPlace, atPlace, valPlace, wholeOf, bracket, begun, Machine, machine, sizeLeft, goesOn, begin, turn, work, outcome, expressionSteps, expression}
+use Rattle.grammar.specs.Expression.{Waiting, waiting, Begun, opened, whole, either, ownPlace, atPlace, valPlace, wholeOf, bracket, begun, Machine}
+use Rattle.grammar.specs.Expression.{machine, sizeLeft, goesOn, begin, turn, work, outcome, expressionSteps, expression}
 
 -- How much is left
 
@@ -76,7 +76,13 @@ begun-less o alive = go (found (mark open-bracket o)) refl
     go true h =
         let p : Rest = mark open-bracket o in
         rw (begun-bracket o h)
-        (omega (arith, found-mark open-bracket o h, size-past letters p, size-mark space (past letters p), bracket-size (value letters p) (mark space (past letters p))))
+        (omega (
+          arith,
+          found-mark open-bracket o h,
+          size-past letters p,
+          size-mark space (past letters p),
+          bracket-size (value letters p) (mark space (past letters p)),
+        ))
     go false h = rw (begun-number o h) (less-past decimal o alive)
 
 begin-size : (b : Begun) (waits : List Waiting) (steps : List (Step Place)) → sizeLeft (begin b waits steps) ≡ sizeBegun b
@@ -197,7 +203,8 @@ steps-read (pick c x y) r waits steps (pick-fits h₁ h₂ h₃) k =
     ∙ (last-operand waits r select (((steps ++ postfix c) ++ postfix x) ++ postfix y)
     ∙ simp append-assoc))))))
 
-pub expression-steps : (e : Expr) (r : List ℕ) → ExpressionFits e → no-digit decimal r ≡ true → expressionSteps (left (printExpression e r)) ≡ parsed (postfix e) (left r)
+pub expression-steps : (e : Expr) (r : List ℕ) → ExpressionFits e → no-digit decimal r ≡ true
+    → expressionSteps (left (printExpression e r)) ≡ parsed (postfix e) (left r)
 unfolding expressionSteps outcome goesOn
 expression-steps e r h k = ap outcome (steps-read e r [] [] h k ∙ work-stop (machine false (left r) [] (postfix e)) refl)
 

@@ -1,6 +1,6 @@
 -- An expression that was read was printed: where the machine ends with something left, the text is an expression in front of it.
 -- Assumes nothing.
-use Prim.Native.Nat.{ℕ, zero, suc, _≤_, _<_}
+use Prim.Native.Nat.{ℕ, zero, suc, _<_}
 use mathlib.Core.Path.{_≡_, refl, sym, ap, _∙_}
 use mathlib.Core.Bool.{Bool, true, false}
 use mathlib.Core.List.{List, [], _∷_, _++_, append-assoc}
@@ -11,19 +11,21 @@ use borrow.Author.Tests.{eqb-true}
 use Rattle.text.specs.Class.{open-bracket, close-bracket, space}
 use Rattle.text.specs.Rest.{Rest, lost, left, found, mark, size}
 use Rattle.text.specs.RestLaws.{lost≢left, left-is, found-left}
-use Rattle.text.specs.Numeral.{decimal, letters, written, write, value, past, spelled, wordOf, keyword}
+use Rattle.text.specs.Numeral.{decimal, letters, write, value, past, wordOf, keyword}
 use Rattle.text.specs.NumeralLaws.{past-got}
 use Rattle.text.specs.Positional.{letters-positional}
-use Rattle.grammar.specs.Term.{Operator, add, sub, min, max, Term, number, leaf, both, pick}
+use Rattle.grammar.specs.Term.{Operator, add, sub, min, max, number, leaf, both, pick}
 use Rattle.grammar.specs.Book.{Place, own, at, val, Expr}
 use Rattle.grammar.specs.Postfix.{Step, push, load, operate, select, postfix, termOf, term-postfix}
-use Rattle.grammar.specs.Printer.{Printer, bytes, literal}
+use Rattle.grammar.specs.Printer.{bytes, literal}
 use Rattle.grammar.specs.Print.{printPlace, printOperator, printExpression}
 use Rattle.grammar.specs.Ordered.{Fits, PlaceFits, own-fits, at-fits, val-fits, ExpressionFits, number-fits, leaf-fits, both-fits, pick-fits}
-use Rattle.grammar.specs.Reader.{Parsed, parsed, item, after, Reader, naming}
+use Rattle.grammar.specs.Reader.{parsed, item, after, Reader, naming}
 use Rattle.grammar.specs.ReaderLaws.{open-got, close-got, space-got, number-got, keyword-got, naming-got, spelling}
-use Rattle.grammar.specs.Expression.{Waiting, waiting, Begun, opened, whole, either, ownPlace, atPlace, valPlace, wholeOf, bracket, begun, Machine, machine, goesOn, turn, work, outcome, expressionSteps, expression}
-use Rattle.grammar.specs.ExpressionReads.{either-cases, begun-bracket, begun-number, sizeBegun, begun-less, work-stop, turn-opened, turn-whole, turn-space, turn-close}
+use Rattle.grammar.specs.Expression.{Waiting, waiting, Begun, opened, whole, ownPlace, atPlace, valPlace, wholeOf, bracket, begun, Machine, machine}
+use Rattle.grammar.specs.Expression.{goesOn, work, outcome, expressionSteps, expression}
+use Rattle.grammar.specs.ExpressionReads.{either-cases, begun-bracket, begun-number, sizeBegun, begun-less, work-stop, turn-opened, turn-whole}
+use Rattle.grammar.specs.ExpressionReads.{turn-space, turn-close}
 
 -- How an expression begins
 
@@ -125,7 +127,8 @@ lost-run due waits steps h =
 
 module _ {C : Type 0} (r : List ℕ) (s : Step Place) (waits : List Waiting) (steps : List (Step Place)) where
   space-was : (n : ℕ) → alive (work (machine false (left r) (waiting s (suc n) ∷ waits) steps)) ≡ true
-      → ((r₁ : List ℕ) → r ≡ 32 ∷ r₁ → work (machine false (left r) (waiting s (suc n) ∷ waits) steps) ≡ work (machine true (left r₁) (waiting s n ∷ waits) steps) → C) → C
+      → ((r₁ : List ℕ) → r ≡ 32 ∷ r₁
+      → work (machine false (left r) (waiting s (suc n) ∷ waits) steps) ≡ work (machine true (left r₁) (waiting s n ∷ waits) steps) → C) → C
   space-was n h k = go (mark space (left r)) refl
     where
       go : (o : Rest) → mark space (left r) ≡ o → C
@@ -133,7 +136,8 @@ module _ {C : Type 0} (r : List ℕ) (s : Step Place) (waits : List Waiting) (st
       go (left r₁) e = space-got (left r) e λ p. k r₁ (left-is p) (turn-space waits steps r s n ∙ rw e)
 
   close-was : alive (work (machine false (left r) (waiting s zero ∷ waits) steps)) ≡ true
-      → ((r₁ : List ℕ) → r ≡ 41 ∷ r₁ → work (machine false (left r) (waiting s zero ∷ waits) steps) ≡ work (machine false (left r₁) waits (steps ++ (s ∷ []))) → C) → C
+      → ((r₁ : List ℕ) → r ≡ 41 ∷ r₁
+      → work (machine false (left r) (waiting s zero ∷ waits) steps) ≡ work (machine false (left r₁) waits (steps ++ (s ∷ []))) → C) → C
   close-was h k = go (mark close-bracket (left r)) refl
     where
       go : (o : Rest) → mark close-bracket (left r) ≡ o → C

@@ -75,6 +75,7 @@ pub mod Postfix
 pub mod Premises
 pub mod PremisesLaws
 pub mod Print
+pub mod PrintLaws
 pub mod Printer
 pub mod ReachLaws
 pub mod ReachSets

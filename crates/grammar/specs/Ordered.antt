@@ -1,11 +1,11 @@
 -- Which books have a text (01, "Spelling of a book"): lines that ascend strictly, and numbers of 32 bits. Condition 2 of a text is that it is
 -- the text of such a book. Assumes nothing.
-use Prim.Native.Nat.{ℕ, _+_, _<_, _≤_}
+use Prim.Native.Nat.{ℕ, _<_, _≤_}
 use mathlib.Core.Path.{_≡_}
 use mathlib.Core.List.{List, [], _∷_}
 use lib.ListN.{length}
 use Rattle.grammar.specs.Symbol.{Symbol, terminal, nonterminal, Rule}
-use Rattle.grammar.specs.Term.{Operator, Term, number, leaf, both, pick}
+use Rattle.grammar.specs.Term.{Operator, number, leaf, both, pick}
 use Rattle.grammar.specs.Book.{Place, own, at, val, Expr, InheritedDefinition, SynthesizedDefinition, Kernel, Go, Book}
 use Rattle.grammar.specs.Limits.{NUMBERS}
 use Rattle.grammar.specs.Print.{printBook}

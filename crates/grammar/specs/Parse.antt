@@ -1,18 +1,18 @@
--- Reading a book's text: the inverse of printing, in the shape of the code. What is not spelled right is lost.
--- Assumes nothing.
-use Prim.Native.Nat.{ℕ, zero, suc}
+-- Reading a book's text (01, "Spelling of a book"): what is not spelled right, or not in order, is lost. One reader for each kind of line, one for each
+-- section, in the shape of the code; ParseLaws has the theorem that this is the inverse of printing. Assumes nothing.
+use Prim.Native.Nat.{ℕ, suc}
 use mathlib.Core.Bool.{Bool, true, false, _||_}
 use mathlib.Core.List.{List, [], _∷_}
 use mathlib.Core.Option.{Option, none, some}
 use lib.Dec.{eqb, ltb}
 use lib.ListN.{length}
-use Rattle.text.specs.Class.{open-bracket, space, line-feed}
+use Rattle.text.specs.Class.{open-bracket, space}
 use Rattle.text.specs.Rest.{Rest, lost, left, must, mark}
 use Rattle.text.specs.Numeral.{letters, value, past, wordOf, keyword}
 use Rattle.grammar.specs.Symbol.{Symbol, terminal, nonterminal, Rule}
 use Rattle.grammar.specs.Book.{InheritedDefinition, SynthesizedDefinition, Kernel, Go, Book}
 use Rattle.grammar.specs.Ordered.{inheritedKey, synthesizedKey, kernelKey, symbolKey, goKey, lookaheadKey}
-use Rattle.grammar.specs.Reader.{Parsed, parsed, item, after, Reader, pure, _>>=_, _>>_, decimalNumber, opening, closing, naming, section}
+use Rattle.grammar.specs.Reader.{Parsed, parsed, Reader, pure, _>>=_, _>>_, decimalNumber, opening, closing, naming, section}
 use Rattle.grammar.specs.Expression.{expression}
 
 -- whether a key stands strictly before another
@@ -39,8 +39,8 @@ symbol = do
 
 -- The lines, after their heads; K is the number due, `last` the key of the line before
 
-unfoldable pub owner : ℕ → ℕ → Reader ℕ
-owner kind K = do
+unfoldable pub ownerLine : ℕ → ℕ → Reader ℕ
+ownerLine kind K = do
   keyword kind
   k ← decimalNumber
   must (eqb k K)
@@ -52,8 +52,8 @@ owner kind K = do
 unfoldable pub symbols : Reader (List Symbol)
 symbols = section (mark space) (λ (s : Unit {0}). symbol) (λ s X. s) tt
 
-unfoldable pub rule : ℕ → Reader Rule
-rule K = do
+unfoldable pub ruleLine : ℕ → Reader Rule
+ruleLine K = do
   k ← decimalNumber
   must (eqb k K)
   naming (wordOf "n")
@@ -62,8 +62,8 @@ rule K = do
   closing
   pure (record { left = A; right = right })
 
-unfoldable pub inheritedDefinition : List ℕ → Reader InheritedDefinition
-inheritedDefinition last = do
+unfoldable pub inheritedDefinitionLine : List ℕ → Reader InheritedDefinition
+inheritedDefinitionLine last = do
   P ← decimalNumber
   mark space
   J ← decimalNumber
@@ -75,8 +75,8 @@ inheritedDefinition last = do
   must (before last (P ∷ J ∷ K ∷ []))
   pure (record { rule = P; position = J; attribute = K; expression = e })
 
-unfoldable pub synthesizedDefinition : List ℕ → Reader SynthesizedDefinition
-synthesizedDefinition last = do
+unfoldable pub synthesizedDefinitionLine : List ℕ → Reader SynthesizedDefinition
+synthesizedDefinitionLine last = do
   P ← decimalNumber
   naming (wordOf "s")
   K ← decimalNumber
@@ -95,21 +95,21 @@ lookahead last = do
 unfoldable pub lookaheads : Reader (List ℕ)
 lookaheads = section (naming (wordOf "t")) lookahead (λ last. lookaheadKey) []
 
-unfoldable pub kernel : List ℕ → Reader Kernel
-kernel last = do
+unfoldable pub kernelLine : List ℕ → Reader Kernel
+kernelLine last = do
   S ← decimalNumber
   mark space
   P ← decimalNumber
   mark space
   D ← decimalNumber
-  marks ← lookaheads
-  must (ltb 0 (length marks))
+  terminals ← lookaheads
+  must (ltb 0 (length terminals))
   closing
   must (before last (S ∷ P ∷ D ∷ []))
-  pure (record { state = S; rule = P; dot = D; lookaheads = marks })
+  pure (record { state = S; rule = P; dot = D; lookaheads = terminals })
 
-unfoldable pub go : List ℕ → Reader Go
-go last = do
+unfoldable pub goLine : List ℕ → Reader Go
+goLine last = do
   S ← decimalNumber
   mark space
   X ← symbol
@@ -121,29 +121,29 @@ go last = do
 
 -- The sections
 
-unfoldable pub owners : ℕ → ℕ → Reader (List ℕ)
-owners word kind = section (opening word) (owner kind) (λ K A. suc K) 0
+unfoldable pub ownerLines : ℕ → ℕ → Reader (List ℕ)
+ownerLines word kind = section (opening word) (ownerLine kind) (λ K A. suc K) 0
 
-unfoldable pub rules : Reader (List Rule)
-rules = section (opening (wordOf "rule")) rule (λ K r. suc K) 0
+unfoldable pub ruleLines : Reader (List Rule)
+ruleLines = section (opening (wordOf "rule")) ruleLine (λ K r. suc K) 0
 
-unfoldable pub inheritedDefinitions : Reader (List InheritedDefinition)
-inheritedDefinitions = section (opening (wordOf "inhdef")) inheritedDefinition (λ last. inheritedKey) []
+unfoldable pub inheritedDefinitionLines : Reader (List InheritedDefinition)
+inheritedDefinitionLines = section (opening (wordOf "inhdef")) inheritedDefinitionLine (λ last. inheritedKey) []
 
-unfoldable pub synthesizedDefinitions : Reader (List SynthesizedDefinition)
-synthesizedDefinitions = section (opening (wordOf "syndef")) synthesizedDefinition (λ last. synthesizedKey) []
+unfoldable pub synthesizedDefinitionLines : Reader (List SynthesizedDefinition)
+synthesizedDefinitionLines = section (opening (wordOf "syndef")) synthesizedDefinitionLine (λ last. synthesizedKey) []
 
-unfoldable pub kernels : Reader (List Kernel)
-kernels = section (opening (wordOf "kernel")) kernel (λ last. kernelKey) []
+unfoldable pub kernelLines : Reader (List Kernel)
+kernelLines = section (opening (wordOf "kernel")) kernelLine (λ last. kernelKey) []
 
-unfoldable pub goes : Reader (List Go)
-goes = section (opening (wordOf "go")) go (λ last. goKey) []
+unfoldable pub goLines : Reader (List Go)
+goLines = section (opening (wordOf "go")) goLine (λ last. goKey) []
 
 unfoldable pub endLine : Rest → Rest
 endLine o = closing (keyword (wordOf "end") (mark open-bracket o))
 
-unfoldable pub book : Reader Book
-book = do
+unfoldable pub bookText : Reader Book
+bookText = do
   opening (wordOf "book")
   T ← decimalNumber
   mark space
@@ -151,25 +151,25 @@ book = do
   mark space
   Q ← decimalNumber
   closing
-  inherited ← owners (wordOf "inh") (wordOf "i")
-  synthesized ← owners (wordOf "syn") (wordOf "s")
-  grammar ← rules
-  inheritedRules ← inheritedDefinitions
-  synthesizedRules ← synthesizedDefinitions
-  items ← kernels
-  moves ← goes
+  inheritedOwners ← ownerLines (wordOf "inh") (wordOf "i")
+  synthesizedOwners ← ownerLines (wordOf "syn") (wordOf "s")
+  rules ← ruleLines
+  inheritedDefinitions ← inheritedDefinitionLines
+  synthesizedDefinitions ← synthesizedDefinitionLines
+  kernels ← kernelLines
+  goes ← goLines
   endLine
   pure (record {
     terminals = T;
     nonterminals = N;
     states = Q;
-    inheritedOwners = inherited;
-    synthesizedOwners = synthesized;
-    rules = grammar;
-    inheritedDefinitions = inheritedRules;
-    synthesizedDefinitions = synthesizedRules;
-    kernels = items;
-    goes = moves;
+    inheritedOwners = inheritedOwners;
+    synthesizedOwners = synthesizedOwners;
+    rules = rules;
+    inheritedDefinitions = inheritedDefinitions;
+    synthesizedDefinitions = synthesizedDefinitions;
+    kernels = kernels;
+    goes = goes;
   })
 
 -- nothing stands after the end line
@@ -179,9 +179,10 @@ ended (parsed b (left [])) = some b
 ended (parsed b (left (c ∷ cs))) = none
 
 unfoldable pub parseBook : List ℕ → Option Book
-parseBook text = ended (book (left text))
+parseBook text = ended (bookText (left text))
 
 -- opens every definition of this module
 unfoldable pub opens : Unit {0}
-unfolding before symbolOf symbol owner symbols rule inheritedDefinition synthesizedDefinition lookahead lookaheads kernel go owners rules inheritedDefinitions synthesizedDefinitions kernels goes endLine book ended parseBook
+unfolding before symbolOf symbol ownerLine symbols ruleLine inheritedDefinitionLine synthesizedDefinitionLine lookahead lookaheads kernelLine goLine ownerLines
+    ruleLines inheritedDefinitionLines synthesizedDefinitionLines kernelLines goLines endLine bookText ended parseBook
 opens = tt

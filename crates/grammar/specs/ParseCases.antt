@@ -4,14 +4,14 @@ use Prim.Native.Nat.{ℕ}
 use Prim.Native.String.{String}
 use mathlib.Core.Path.{_≡_, refl}
 use mathlib.Core.List.{List, [], _∷_, _++_}
-use mathlib.Core.Option.{Option, none, some}
+use mathlib.Core.Option.{none, some}
 use native.Mathlib.Omega.{arith}
 use Rattle.text.specs.Class.{opens as opens-class}
 use Rattle.text.specs.Rest.{opens as opens-rest}
 use Rattle.text.specs.Numeral.{opens as opens-numeral}
-use Rattle.grammar.specs.Symbol.{terminal, nonterminal, Rule}
-use Rattle.grammar.specs.Term.{add, sub, min, max, Term, number, leaf, both, pick}
-use Rattle.grammar.specs.Book.{own, at, val, InheritedDefinition, SynthesizedDefinition, Kernel, Go, Book}
+use Rattle.grammar.specs.Symbol.{terminal, nonterminal}
+use Rattle.grammar.specs.Term.{add, sub, min, max, number, leaf, both, pick}
+use Rattle.grammar.specs.Book.{own, at, val, Book}
 use Rattle.grammar.specs.Postfix.{opens as opens-postfix}
 use Rattle.grammar.specs.Printer.{bytes, opens as opens-printer}
 use Rattle.grammar.specs.Print.{printBook, opens as opens-print}
@@ -28,7 +28,8 @@ unlines (line ∷ lines) = bytes line ++ (10 ∷ unlines lines)
 
 -- opens all that reading and printing compute with
 unfoldable pub opens : Unit {0}
-unfolding unlines opens-class opens-rest opens-numeral opens-postfix opens-printer opens-print opens-ordered opens-reader opens-repeat opens-expression opens-parse
+unfolding unlines opens-class opens-rest opens-numeral opens-postfix opens-printer opens-print opens-ordered opens-reader opens-repeat opens-expression
+    opens-parse
 opens = tt
 
 -- 01's book S up to its grammar, its definitions, and its states

@@ -1,16 +1,16 @@
 -- Reading a book's text is the inverse of printing it, both ways: `parseBook` finds the one book whose text it is, or there is none.
 -- Assumes nothing.
 use Prim.Native.Nat.{ℕ}
-use mathlib.Core.Path.{_≡_, refl, sym, ap, _∙_, subst}
+use mathlib.Core.Path.{_≡_, refl, sym, ap, _∙_}
 use mathlib.Core.List.{List, [], _∷_}
-use mathlib.Core.Option.{Option, none, some}
+use mathlib.Core.Option.{none, some}
 use native.Mathlib.Omega.{arith}
-use Rattle.text.specs.Rest.{Rest, lost, left}
+use Rattle.text.specs.Rest.{lost, left}
 use Rattle.grammar.specs.Book.{Book}
 use Rattle.grammar.specs.Print.{printBook}
 use Rattle.grammar.specs.Ordered.{Spelled, SpelledText}
 use Rattle.grammar.specs.Reader.{Parsed, parsed, item, after}
-use Rattle.grammar.specs.Parse.{book, ended, parseBook}
+use Rattle.grammar.specs.Parse.{bookText, ended, parseBook}
 use Rattle.grammar.specs.ParseReads.{book-reads}
 use Rattle.grammar.specs.ParseWas.{book-was}
 
@@ -29,7 +29,7 @@ ended-got (parsed c (left (x ∷ xs))) e k = absurd (none≢some e)
 
 pub print-parse : (text : List ℕ) (b : Book) → parseBook text ≡ some b → (text ≡ printBook b) × Spelled b
 unfolding parseBook
-print-parse text b e = ended-got (book (left text)) e λ same none-left. rw same at (book-was text none-left)
+print-parse text b e = ended-got (bookText (left text)) e λ same none-left. rw same at (book-was text none-left)
 
 -- a text is the text of one book alone
 pub printBook-injective : (a b : Book) → Spelled a → Spelled b → printBook a ≡ printBook b → a ≡ b

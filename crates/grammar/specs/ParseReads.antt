@@ -1,24 +1,23 @@
 -- What is printed of a book is read as the book.
 -- Assumes nothing.
-use Prim.Native.Nat.{ℕ, zero, suc}
-use mathlib.Core.Path.{_≡_, refl, sym, ap, _∙_, subst}
+use Prim.Native.Nat.{ℕ}
+use mathlib.Core.Path.{_≡_, refl}
 use mathlib.Core.List.{List, [], _∷_}
-use mathlib.Core.Option.{Option, none, some}
-use native.Mathlib.Omega.{arith}
-use Rattle.text.specs.Class.{open-bracket, space}
-use Rattle.text.specs.Rest.{Rest, lost, left, found, mark}
-use Rattle.text.specs.RestLaws.{left-is}
-use Rattle.text.specs.Numeral.{decimal, letters, value, write, spelled, wordOf, keyword}
+use Rattle.text.specs.Rest.{left}
+use Rattle.text.specs.Numeral.{spelled, wordOf}
 use Rattle.grammar.specs.Book.{Book}
 use Rattle.grammar.specs.Printer.{literal, each, numbered}
-use Rattle.grammar.specs.Print.{printHeader, printInherited, printSynthesized, printRule, printInheritedDefinition, printSynthesizedDefinition, printKernel, printGo, printBook}
-use Rattle.grammar.specs.Ordered.{inheritedKey, synthesizedKey, kernelKey, goKey, Ordered, BookFits, Spelled, SpelledText}
-use Rattle.grammar.specs.Reader.{Parsed, parsed, item, after, opening, closing}
-use Rattle.grammar.specs.ReaderLaws.{open-got, space-got, number-got, keyword-got, closing-got, opening-got, number-reads, reading, spelling}
-use Rattle.grammar.specs.OrderLaws.{every-both, every-first, every-second}
-use Rattle.grammar.specs.LineLaws.{each-prints, inherited-inverse, synthesized-inverse, rule-inverse, inherited-definition-inverse, synthesized-definition-inverse, kernel-inverse, go-inverse}
-use Rattle.grammar.specs.ParseSections.{lineWord, listed, Starts, numbered-starts, each-starts, numbered-reads, numbered-was, ordered-reads, ordered-was}
-use Rattle.grammar.specs.Parse.{owner, rule, inheritedDefinition, synthesizedDefinition, kernel, go, owners, rules, inheritedDefinitions, synthesizedDefinitions, kernels, goes, endLine, book, ended, parseBook}
+use Rattle.grammar.specs.Print.{printHeader, printInherited, printSynthesized, printRule, printInheritedDefinition, printSynthesizedDefinition}
+use Rattle.grammar.specs.Print.{printKernel, printGo, printBook}
+use Rattle.grammar.specs.Ordered.{inheritedKey, synthesizedKey, kernelKey, goKey, Spelled}
+use Rattle.grammar.specs.Reader.{parsed}
+use Rattle.grammar.specs.ReaderLaws.{number-reads, reading}
+use Rattle.grammar.specs.OrderLaws.{every-both}
+use Rattle.grammar.specs.LineLaws.{inherited-inverse, synthesized-inverse, rule-inverse, inherited-definition-inverse, synthesized-definition-inverse}
+use Rattle.grammar.specs.LineLaws.{kernel-inverse, go-inverse}
+use Rattle.grammar.specs.ParseSections.{lineWord, listed, Starts, numbered-starts, each-starts, numbered-reads, ordered-reads}
+use Rattle.grammar.specs.Parse.{ownerLine, ruleLine, inheritedDefinitionLine, synthesizedDefinitionLine, kernelLine, goLine, ownerLines, ruleLines}
+use Rattle.grammar.specs.Parse.{inheritedDefinitionLines, synthesizedDefinitionLines, kernelLines, goLines, endLine, bookText}
 
 -- What is printed is read
 
@@ -102,51 +101,58 @@ module _ (b : Book) where
   synthesized-start = numbered-starts (wordOf "syn") from-rules (b .synthesizedOwners) rules-text rules-start printSynthesized λ K A r. refl
 
   module _ (h : Spelled b) where
-    inherited-read : owners (wordOf "inh") (wordOf "i") (left inherited-text) ≡ parsed (b .inheritedOwners) (left synthesized-text)
-    unfolding owners listed spelled
+    inherited-read : ownerLines (wordOf "inh") (wordOf "i") (left inherited-text) ≡ parsed (b .inheritedOwners) (left synthesized-text)
+    unfolding ownerLines listed spelled
     inherited-read =
-        numbered-reads (wordOf "inh") (owner (wordOf "i")) printInherited inherited-inverse from-synthesized (b .inheritedOwners) synthesized-text
+        numbered-reads (wordOf "inh") (ownerLine (wordOf "i")) printInherited inherited-inverse from-synthesized (b .inheritedOwners) synthesized-text
         (h .fits .inheritedOwners) refl synthesized-start
 
-    synthesized-read : owners (wordOf "syn") (wordOf "s") (left synthesized-text) ≡ parsed (b .synthesizedOwners) (left rules-text)
-    unfolding owners listed spelled
+    synthesized-read : ownerLines (wordOf "syn") (wordOf "s") (left synthesized-text) ≡ parsed (b .synthesizedOwners) (left rules-text)
+    unfolding ownerLines listed spelled
     synthesized-read =
-        numbered-reads (wordOf "syn") (owner (wordOf "s")) printSynthesized synthesized-inverse from-rules (b .synthesizedOwners) rules-text
+        numbered-reads (wordOf "syn") (ownerLine (wordOf "s")) printSynthesized synthesized-inverse from-rules (b .synthesizedOwners) rules-text
         (h .fits .synthesizedOwners) refl rules-start
 
-    rules-read : rules (left rules-text) ≡ parsed (b .rules) (left inherited-definitions-text)
-    unfolding rules listed spelled
+    rules-read : ruleLines (left rules-text) ≡ parsed (b .rules) (left inherited-definitions-text)
+    unfolding ruleLines listed spelled
     rules-read =
-        numbered-reads (wordOf "rule") rule printRule rule-inverse from-inherited-definitions (b .rules) inherited-definitions-text
+        numbered-reads (wordOf "rule") ruleLine printRule rule-inverse from-inherited-definitions (b .rules) inherited-definitions-text
         (h .fits .rules) refl inherited-definitions-start
 
-    inherited-definitions-read : inheritedDefinitions (left inherited-definitions-text) ≡ parsed (b .inheritedDefinitions) (left synthesized-definitions-text)
-    unfolding inheritedDefinitions listed spelled
+    inherited-definitions-read : inheritedDefinitionLines (left inherited-definitions-text) ≡ parsed (b .inheritedDefinitions) (left synthesized-definitions-text)
+    unfolding inheritedDefinitionLines listed spelled
     inherited-definitions-read =
-        ordered-reads (wordOf "inhdef") inheritedDefinition inheritedKey printInheritedDefinition inherited-definition-inverse from-synthesized-definitions
+        ordered-reads (wordOf "inhdef") inheritedDefinitionLine inheritedKey printInheritedDefinition inherited-definition-inverse from-synthesized-definitions
         (b .inheritedDefinitions) synthesized-definitions-text (h .ordered .inherited) (h .fits .inheritedDefinitions) refl synthesized-definitions-start
 
-    synthesized-definitions-read : synthesizedDefinitions (left synthesized-definitions-text) ≡ parsed (b .synthesizedDefinitions) (left kernels-text)
-    unfolding synthesizedDefinitions listed spelled
+    synthesized-definitions-read : synthesizedDefinitionLines (left synthesized-definitions-text) ≡ parsed (b .synthesizedDefinitions) (left kernels-text)
+    unfolding synthesizedDefinitionLines listed spelled
     synthesized-definitions-read =
-        ordered-reads (wordOf "syndef") synthesizedDefinition synthesizedKey printSynthesizedDefinition synthesized-definition-inverse from-kernels
+        ordered-reads (wordOf "syndef") synthesizedDefinitionLine synthesizedKey printSynthesizedDefinition synthesized-definition-inverse from-kernels
         (b .synthesizedDefinitions) kernels-text (h .ordered .synthesized) (h .fits .synthesizedDefinitions) refl kernels-start
 
-    kernels-read : kernels (left kernels-text) ≡ parsed (b .kernels) (left goes-text)
-    unfolding kernels listed spelled
+    kernels-read : kernelLines (left kernels-text) ≡ parsed (b .kernels) (left goes-text)
+    unfolding kernelLines listed spelled
     kernels-read =
-        ordered-reads (wordOf "kernel") kernel kernelKey printKernel kernel-inverse from-goes (b .kernels) goes-text
+        ordered-reads (wordOf "kernel") kernelLine kernelKey printKernel kernel-inverse from-goes (b .kernels) goes-text
         (h .ordered .kernels) (every-both (h .ordered .lookaheads) (h .fits .kernels)) refl goes-start
 
-    goes-read : goes (left goes-text) ≡ parsed (b .goes) (left end-text)
-    unfolding goes listed spelled
-    goes-read = ordered-reads (wordOf "go") go goKey printGo go-inverse from-end (b .goes) end-text (h .ordered .goes) (h .fits .goes) refl end-starts
+    goes-read : goLines (left goes-text) ≡ parsed (b .goes) (left end-text)
+    unfolding goLines listed spelled
+    goes-read = ordered-reads (wordOf "go") goLine goKey printGo go-inverse from-end (b .goes) end-text (h .ordered .goes) (h .fits .goes) refl end-starts
 
-    pub book-reads : book (left (printBook b)) ≡ parsed b (left [])
-    unfolding reading printBook printHeader book endLine
+    pub book-reads : bookText (left (printBook b)) ≡ parsed b (left [])
+    unfolding reading printBook printHeader bookText endLine
     book-reads =
         rw (
-          number-reads (b .terminals) _ (h .fits .terminals) refl, number-reads (b .nonterminals) _ (h .fits .nonterminals) refl,
-          number-reads (b .states) _ (h .fits .states) refl, inherited-read, synthesized-read, rules-read, inherited-definitions-read,
-          synthesized-definitions-read, kernels-read, goes-read,
+          number-reads (b .terminals) _ (h .fits .terminals) refl,
+          number-reads (b .nonterminals) _ (h .fits .nonterminals) refl,
+          number-reads (b .states) _ (h .fits .states) refl,
+          inherited-read,
+          synthesized-read,
+          rules-read,
+          inherited-definitions-read,
+          synthesized-definitions-read,
+          kernels-read,
+          goes-read,
         )

@@ -1,26 +1,20 @@
 -- Each section of a book: reading it is the inverse of printing it, where no line of its kind follows.
 -- Assumes nothing.
-use Prim.Native.Nat.{ℕ, zero, suc}
+use Prim.Native.Nat.{ℕ, suc}
 use mathlib.Core.Path.{_≡_, refl, sym, ap, _∙_}
 use mathlib.Core.Bool.{Bool, true, false, false≢true}
 use mathlib.Core.List.{List, [], _∷_}
-use native.Mathlib.Omega.{arith}
 use lib.Dec.{eqb}
 use borrow.Author.Tests.{eqb-true, eq-eqb}
 use Rattle.text.specs.Class.{open-bracket}
-use Rattle.text.specs.Rest.{Rest, lost, left, found, must, mark}
-use Rattle.text.specs.Numeral.{letters, value, wordOf, keyword}
-use Rattle.grammar.specs.Symbol.{Rule}
-use Rattle.grammar.specs.Book.{InheritedDefinition, SynthesizedDefinition, Kernel, Go}
+use Rattle.text.specs.Rest.{Rest, left, found, must, mark}
+use Rattle.text.specs.Numeral.{letters, value, keyword}
 use Rattle.grammar.specs.Printer.{Printer, each, numbered}
-use Rattle.grammar.specs.Print.{printInherited, printSynthesized, printRule, printInheritedDefinition, printSynthesizedDefinition, printKernel, printGo}
-use Rattle.grammar.specs.Ordered.{Ascending, inheritedKey, synthesizedKey, kernelKey, goKey, Every, Lookaheads, Fits, Numbered, RuleFits, InheritedFits, SynthesizedFits, KernelFits, GoFits}
-use Rattle.grammar.specs.Reader.{Parsed, parsed, item, after, Reader, opening, section}
-use Rattle.grammar.specs.ReaderLaws.{reading}
-use Rattle.grammar.specs.OrderLaws.{Numbering, Following, numbers-along, along-numbers, ascends-along, along-ascends, along-fits, every-both, every-first, every-second}
-use Rattle.grammar.specs.SectionLaws.{Along, Inverse, Prints, section-reads, section-was}
-use Rattle.grammar.specs.LineLaws.{Anything, each-prints, inherited-inverse, synthesized-inverse, rule-inverse, inherited-definition-inverse, synthesized-definition-inverse, KernelFine, kernel-inverse, go-inverse}
-use Rattle.grammar.specs.Parse.{owner, rule, inheritedDefinition, synthesizedDefinition, kernel, go, owners, rules, inheritedDefinitions, synthesizedDefinitions, kernels, goes}
+use Rattle.grammar.specs.Ordered.{Ascending, Every, Numbered}
+use Rattle.grammar.specs.Reader.{parsed, item, after, Reader, opening, section}
+use Rattle.grammar.specs.OrderLaws.{Numbering, Following, numbers-along, along-numbers, ascends-along, along-ascends, along-fits}
+use Rattle.grammar.specs.SectionLaws.{Inverse, Prints, section-reads, section-was}
+use Rattle.grammar.specs.LineLaws.{Anything, each-prints}
 
 -- What follows a section: a text whose first line has one of the given words
 

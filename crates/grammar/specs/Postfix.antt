@@ -1,6 +1,6 @@
 -- Terms in postfix order: the steps of a stack machine, operands first, in the order in which the closing brackets of a term's text are met.
 -- Evaluating a term, building it anew and interning it are one run over its steps, told apart by what the steps mean. Assumes nothing.
-use Prim.Native.Nat.{ℕ, zero, suc, _+_}
+use Prim.Native.Nat.{ℕ}
 use mathlib.Core.Path.{_≡_, refl, sym, ap, _∙_}
 use mathlib.Core.List.{List, [], _∷_, _++_, append-assoc, append-nil}
 use native.Mathlib.Omega.{arith}

@@ -3,7 +3,7 @@
 use Prim.Native.Nat.{ℕ}
 use mathlib.Core.List.{List, []}
 use Rattle.grammar.specs.Symbol.{Symbol, terminal, nonterminal, Rule}
-use Rattle.grammar.specs.Term.{Operator, add, sub, min, max, Term, number, leaf, both, pick}
+use Rattle.grammar.specs.Term.{Operator, add, sub, min, max, number, leaf, both, pick}
 use Rattle.grammar.specs.Book.{Place, own, at, val, Expr, InheritedDefinition, SynthesizedDefinition, Kernel, Go, Book}
 use Rattle.grammar.specs.Printer.{Printer, _·_, literal, numeral, each, numbered}
 
@@ -78,5 +78,6 @@ printBook b =
 
 -- opens every definition of this module
 unfoldable pub opens : Unit {0}
-unfolding printSymbol printPlace printOperator printExpression printHeader printInherited printSynthesized printRule printInheritedDefinition printSynthesizedDefinition printKernel printGo printBook
+unfolding printSymbol printPlace printOperator printExpression printHeader printInherited printSynthesized printRule printInheritedDefinition
+    printSynthesizedDefinition printKernel printGo printBook
 opens = tt

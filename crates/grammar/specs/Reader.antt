@@ -1,7 +1,7 @@
 -- Readers of a book's text: what was read, and what is left. A text that is misspelt is lost and stays lost, so that a reader has no error branch;
 -- each line of a `do` below is one call of the code. Assumes nothing.
 use Prim.Native.Nat.{ℕ, zero, suc}
-use mathlib.Core.Bool.{Bool, true, false}
+use mathlib.Core.Bool.{true, false}
 use mathlib.Core.List.{List, [], _∷_}
 use Rattle.text.specs.Class.{open-bracket, close-bracket, space, line-feed}
 use Rattle.text.specs.Rest.{Rest, found, mark, size}

@@ -1,24 +1,24 @@
 -- Laws of the readers: what a reader that went on was given, how much it leaves, and that a section reads just the items that were printed.
 -- Assumes nothing.
-use Prim.Native.Nat.{ℕ, zero, suc, _≤_, _<_}
-use mathlib.Core.Path.{_≡_, refl, sym, ap, _∙_}
-use mathlib.Core.Bool.{Bool, true, false}
-use mathlib.Core.List.{List, [], _∷_}
+use Prim.Native.Nat.{ℕ, _≤_, _<_}
+use mathlib.Core.Path.{_≡_, ap, _∙_}
+use mathlib.Core.Bool.{Bool, true}
+use mathlib.Core.List.{List, _∷_}
 use native.Mathlib.Omega.{arith}
 use lib.Dec.{eqb}
 use borrow.Author.Tests.{eqb-true}
 use Rattle.text.specs.Class.{digit, open-bracket, close-bracket, space, line-feed, classOf}
 use Rattle.text.specs.ClassLaws.{byteOf}
-use Rattle.text.specs.Rest.{Rest, lost, left, found, must, markIn, mark, size}
+use Rattle.text.specs.Rest.{Rest, left, found, must, markIn, mark, size}
 use Rattle.text.specs.RestLaws.{must-got, found-got, found-left, size-must, size-mark, found-mark}
 use Rattle.text.specs.RestLaws.{mark-got as mark-text}
 use Rattle.text.specs.Numeral.{decimal, letters, got, digitOf, digits, numeral, numberOf, restOf, read, value, past, spelled, written, write, keyword}
 use Rattle.text.specs.Positional.{no-digit, digits-stop}
 use Rattle.text.specs.NumeralLaws.{number-written, written-head, size-past, size-keyword}
 use Rattle.text.specs.NumeralLaws.{number-got as number-text, keyword-got as keyword-text}
-use Rattle.grammar.specs.Printer.{Printer, bytes, literal}
+use Rattle.grammar.specs.Printer.{bytes, literal}
 use Rattle.grammar.specs.Ordered.{Fits}
-use Rattle.grammar.specs.Reader.{Parsed, parsed, item, after, Reader, opening, closing, naming, many, section}
+use Rattle.grammar.specs.Reader.{item, after, opening, closing, naming}
 
 -- From a reader that left r to what it was given
 
@@ -124,7 +124,8 @@ number-reads n r h k = number-written n r (omega arith) k
 
 -- opens all that reading computes with, and nothing of writing
 unfoldable pub reading : Unit {0}
-unfolding classOf found must markIn mark digitOf digits numeral numberOf restOf read value past spelled keyword no-digit bytes literal item after opening closing naming
+unfolding classOf found must markIn mark digitOf digits numeral numberOf restOf read value past spelled keyword no-digit bytes literal item after opening
+    closing naming
 reading = tt
 
 -- opens all that writing a word computes with

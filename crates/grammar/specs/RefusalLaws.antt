@@ -43,19 +43,65 @@ by-test {t = true} d f g = f refl (d .sound refl)
 by-test {t = false} d f g = g refl (refutes d)
 
 module _ (b : Book) (spelled : Spelled b) where
+  -- of a book within its limits, with its names declared: 7 to 10
+  states-judged : WithinLimits b → Declared b → Owned b → Defined b → Judged b (statesRefusal b)
+  unfolding statesRefusal
+  states-judged limits names attributes definitions =
+      let w = well-named (spelled .ordered) limits names in
+      let right = book-items-right b (small-book (spelled .ordered) limits names) in
+      by-test (kernelRules-decides w)
+      (λ e₇ kernels. by-test (goTable-decides w right)
+      (λ e₈ goes. by-test (noConflict-decides w right)
+      (λ e₉ conflicts. by-test (oneFormula-decides right (formula-premises limits names attributes kernels))
+      (λ e formulas. rw (e₇, statesRefusal) (rw (e₈, e₉, e) (sound (record {
+        limits = limits;
+        names = names;
+        attributes = attributes;
+        definitions = definitions;
+        kernel-rules = kernels;
+        go-rules = goes;
+        no-conflict = conflicts;
+        one-formula = formulas;
+      }))))
+      (λ e h. rw (e₇, statesRefusal) (rw (e₈, e₉, e) (breaks (breaks-one-formula limits names attributes definitions kernels goes conflicts h)))))
+      (λ e₉ h. rw (e₇, statesRefusal) (rw (e₈, e₉) (breaks (breaks-no-conflict limits names attributes definitions kernels goes h)))))
+      (λ e₈ h. rw (e₇, statesRefusal) (rw e₈ (breaks (breaks-go-rules limits names attributes definitions kernels h)))))
+      (λ e₇ h. rw (e₇, statesRefusal) (breaks (breaks-kernel-rules limits names attributes definitions h)))
+
   judged : Judged b (bookRefusal b)
-  unfolding bookRefusal statesRefusal
+  unfolding bookRefusal
   judged =
       by-test (withinLimits-decides b)
       (λ e₃ limits. by-test (declared-decides b)
       (λ e₄ names. by-test (owned-decides b)
       (λ e₅ attributes. by-test (defined-decides b)
-      (λ e₆ definitions. states e₃ limits e₄ names e₅ attributes e₆ definitions)
+      (λ e₆ definitions. rw (e₃, bookRefusal) (rw (e₄, e₅, e₆) (states-judged limits names attributes definitions)))
       (λ e₆ h. rw (e₃, bookRefusal) (rw (e₄, e₅, e₆) (breaks (breaks-definitions limits names attributes h)))))
       (λ e₅ h. rw (e₃, bookRefusal) (rw (e₄, e₅) (breaks (breaks-attributes limits names h)))))
       (λ e₄ h. rw (e₃, bookRefusal) (rw e₄ (breaks (breaks-names limits h)))))
       (λ e₃ h. rw (e₃, bookRefusal) (breaks (breaks-limits h)))
-    where
-      states : withinLimits b ≡ true → WithinLimits b → declared b ≡ true → Declared b → owned b ≡ true → Owned b → defined b ≡ true → Defined b
-          → Judged b (bookRefusal b)
-      states e₃ limits e₄ names e₅ attributes e₆ definitions = rw (e₃, bookRefusal) (rw (e₄, e₅, e₆) ?)
+
+-- a book has one judgment
+
+unsound : {b : Book} {n : ℕ} → Sound b → Breaks b n → ⊥
+unsound s (breaks-limits h) = h (s .limits)
+unsound s (breaks-names l h) = h (s .names)
+unsound s (breaks-attributes l n h) = h (s .attributes)
+unsound s (breaks-definitions l n a h) = h (s .definitions)
+unsound s (breaks-kernel-rules l n a d h) = h (s .kernel-rules)
+unsound s (breaks-go-rules l n a d k h) = h (s .go-rules)
+unsound s (breaks-no-conflict l n a d k g h) = h (s .no-conflict)
+unsound s (breaks-one-formula l n a d k g c h) = h (s .one-formula)
+
+-- what the function answers is what 01 says
+pub refusal-verdict : (text : List ℕ) → Verdict text (refusal text)
+unfolding refusal
+refusal-verdict text = go (parseBook text) refl
+  where
+    verdict : (b : Book) → Spelled b → text ≡ printBook b → {n : ℕ} → Judged b n → Verdict text n
+    verdict b spelled e (sound s) = taken (record { book = b; spelled = spelled; its-text = e; sound = s })
+    verdict b spelled e (breaks h) = broken b spelled e h
+
+    go : (o : Option Book) → parseBook text ≡ o → Verdict text (refusal text)
+    go none q = rw (q, refusal) (misspelt (none-misspelt text q))
+    go (some b) q = let (e, spelled) = print-parse text b q in rw (q, refusal) (verdict b spelled e (judged b spelled))

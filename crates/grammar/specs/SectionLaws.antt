@@ -5,9 +5,8 @@ use mathlib.Core.Path.{_≡_, refl, sym, ap, _∙_}
 use mathlib.Core.Bool.{Bool, true, false}
 use mathlib.Core.List.{List, [], _∷_}
 use native.Mathlib.Omega.{arith}
-use lib.ListN.{length}
 use Rattle.text.specs.Rest.{Rest, lost, left, found, size}
-use Rattle.text.specs.RestLaws.{lost≢left, left-is, found-got}
+use Rattle.text.specs.RestLaws.{lost≢left, left-is}
 use Rattle.grammar.specs.Printer.{Printer}
 use Rattle.grammar.specs.Reader.{Parsed, parsed, item, after, Reader, many, section}
 
@@ -29,7 +28,8 @@ pub record Stands {A : Type 0} (print : A → Printer) (Fine : A → Type 0) (bs
 pub record Inverse {A S : Type 0} (head : Rest → Rest) (one : S → Reader A) (print : S → A → Printer) (Fine : S → A → Type 0) (Ends : List ℕ → Type 0) : Type 0 where
   pub head-less : (o : Rest) → found (head o) ≡ true → size (head o) < size o
   pub one-less : (s : S) (o : Rest) → size (after (one s o)) ≤ size o
-  pub reads : (s : S) (x : A) (r : List ℕ) → Fine s x → Ends r → (found (head (left (print s x r))) ≡ true) × (one s (head (left (print s x r))) ≡ parsed x (left r))
+  pub begins : (s : S) (x : A) (r : List ℕ) → found (head (left (print s x r))) ≡ true
+  pub reads : (s : S) (x : A) (r : List ℕ) → Fine s x → Ends r → one s (head (left (print s x r))) ≡ parsed x (left r)
   pub ends : (s : S) (x : A) (r : List ℕ) → Ends (print s x r)
   pub was : (s : S) (bs r : List ℕ) → after (one s (head (left bs))) ≡ left r
       → Stands (print s) (Fine s) bs (item (one s (head (left bs)))) r
@@ -126,7 +126,7 @@ module _ {A S : Type 0} (head : Rest → Rest) (one : S → Reader A) (next : S 
       let rest : List ℕ = prints (next s x) xs r in
       let read = I .reads s x rest fine (prints-end (next s x) xs r h) in
       rw (L .prints-∷ s x xs r)
-      (section-more head one next (I .head-less) (I .one-less) s (left (print s x rest)) (read .0) (read .1)
+      (section-more head one next (I .head-less) (I .one-less) s (left (print s x rest)) (I .begins s x rest) read
       ∙ ap (λ p. parsed (x ∷ item p) (after p)) (section-reads (next s x) xs r more h e))
 
   stood : (s : S) (bs r : List ℕ) (xs : List A) (p : Parsed (List A)) → p ≡ parsed xs (left r) → bs ≡ prints s xs r → Along Fine next s xs

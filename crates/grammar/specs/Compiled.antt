@@ -25,6 +25,13 @@ tabulate f i (suc count) = f i ∷ tabulate f (suc i) count
 pub data Partials : Type 0 where
   partials : List Core → Slots → Partials
 
+unfoldable pub slotsIn : Partials → Slots
+slotsIn (partials items slots) = slots
+
+-- the formula of attribute K in the partial state (S, a); none past the states and terminals
+unfoldable pub formulaAt : List (List Partials) → ℕ → ℕ → ℕ → Option Formula
+formulaAt parts S a K = slotAt (slotsIn (getD (getD parts S []) a (partials [] []))) K
+
 -- what is worked out of a book
 pub record Compiled : Type 0 where
   pub items : List (List Core)
@@ -92,5 +99,5 @@ module _ (b : Book) where
 
 -- opens every definition of this module
 unfoldable pub opens : Unit {0}
-unfolding tabulate itemsTable cellsTable partialsAt partsTable compiled itemsAt noConflict agreesPart oneFormulaIn oneFormula statesRefusal
+unfolding tabulate slotsIn formulaAt itemsTable cellsTable partialsAt partsTable compiled itemsAt noConflict agreesPart oneFormulaIn oneFormula statesRefusal
 opens = tt

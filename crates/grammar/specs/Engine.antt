@@ -14,8 +14,7 @@ use Rattle.grammar.specs.Rows.{Row, page}
 use Rattle.grammar.specs.Machine.{Tables, Answer, refused, accepted, evaluate}
 use Rattle.grammar.specs.Fixpoint.{sameSets}
 use Rattle.grammar.specs.Actions.{free, actionOf}
-use Rattle.grammar.specs.Slots.{Slots, slotAt}
-use Rattle.grammar.specs.Compiled.{Compiled, compiled, Partials, partials}
+use Rattle.grammar.specs.Compiled.{Compiled, compiled, formulaAt}
 use Rattle.grammar.specs.Decides.{oneTo}
 use Rattle.grammar.specs.Packing.{pack, unpack}
 use Rattle.grammar.specs.Parse.{parseBook}
@@ -40,15 +39,12 @@ readBook text lent =
 
 -- evaluating
 
-unfoldable pub slotsIn : Partials → Slots
-slotsIn (partials items slots) = slots
-
 -- the tables that the stack evaluator runs on
 unfoldable pub tablesFrom : Book → Compiled → Tables
 tablesFrom b c = record {
   act = λ S a. actionOf (getD (getD (c .cells) S []) a free);
   go = λ S X. goIn (b .goes) S X;
-  formulaAt = λ S a K. slotAt (slotsIn (getD (getD (c .parts) S []) a (partials [] []))) K;
+  formulaAt = formulaAt (c .parts);
 }
 
 unfoldable pub tablesOf : Book → Tables
@@ -109,5 +105,5 @@ evaluateWords words tokens lent = elim (storedBook words) [ none ↦ turnedBack 
 
 -- opens every definition of this module
 unfoldable pub opens : Unit {0}
-unfolding readingOf readBook slotsIn tablesFrom tablesOf storedBook tokensOf kindsIn turnedBack evaluationOf evaluateTokens evaluateBook evaluateWords
+unfolding readingOf readBook tablesFrom tablesOf storedBook tokensOf kindsIn turnedBack evaluationOf evaluateTokens evaluateBook evaluateWords
 opens = tt

@@ -18,18 +18,11 @@ use Rattle.grammar.specs.FirstSets.{Sets}
 use Rattle.grammar.specs.CoreItems.{coreItems}
 use Rattle.grammar.specs.ItemsRight.{ItemsRight}
 use Rattle.grammar.specs.Slots.{Slots, slotAt, slotsOf}
-use Rattle.grammar.specs.Compiled.{tabulate, Partials, partials, itemsTable, partialsAt, partsTable}
+use Rattle.grammar.specs.Compiled.{tabulate, Partials, partials, itemsTable, partialsAt, partsTable, slotsIn, formulaAt}
 use Rattle.grammar.specs.CompiledTables.{tabulate-at, tabulate-past}
 use Rattle.grammar.specs.PartialLaws.{partialAt, partial-items}
 use Rattle.grammar.specs.FormulaPremises.{FormulaPremises}
 use Rattle.grammar.specs.SlotsLaws.{slots-some, slots-none, slots-formula}
-
-unfoldable pub slotsIn : Partials → Slots
-slotsIn (partials items slots) = slots
-
--- the formula of attribute K in the partial state (S, a); none past the states and terminals
-unfoldable pub formulaAt : List (List Partials) → ℕ → ℕ → ℕ → Option Formula
-formulaAt parts S a K = slotAt (slotsIn (getD (getD parts S []) a (partials [] []))) K
 
 module _ (b : Book) (F : Sets) (R : List ℕ) where
   abbrev pub formulaTable : List (List Partials)
@@ -92,8 +85,3 @@ module _ {b : Book} {F : Sets} {R : List ℕ} (right : ItemsRight b F R) (H : Fo
         → formulaAt (formulaTable b F R) S a K ≡ some (formula b chain K)
     formula-there S a P D c K β chain h =
         chain-at chain K ∙ slots-formula b H S a (partialAt b F R S a) (partial-items right S a) (attributed S a) chain K h refl
-
--- opens every definition of this module
-unfoldable pub opens : Unit {0}
-unfolding slotsIn formulaAt
-opens = tt

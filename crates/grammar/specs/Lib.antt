@@ -104,6 +104,7 @@ pub mod StateCases
 pub mod States
 pub mod StatesCheck
 pub mod Symbol
+pub mod TakenPremises
 pub mod Term
 pub mod TermLaws
 pub mod TestLaws

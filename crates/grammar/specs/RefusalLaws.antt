@@ -10,7 +10,7 @@ use Rattle.grammar.specs.Book.{Book}
 use Rattle.grammar.specs.Print.{printBook}
 use Rattle.grammar.specs.Ordered.{Spelled, SpelledText}
 use Rattle.grammar.specs.Parse.{parseBook}
-use Rattle.grammar.specs.ParseLaws.{parse-print, print-parse, none-misspelt}
+use Rattle.grammar.specs.ParseLaws.{parse-print, print-parse, parsed-spelled, none-misspelt}
 use Rattle.grammar.specs.Decides.{Decides, refutes}
 use Rattle.grammar.specs.Conditions.{WithinLimits, Declared, Owned, Defined}
 use Rattle.grammar.specs.ConditionTests.{withinLimits, declared, owned, defined}
@@ -21,6 +21,8 @@ use Rattle.grammar.specs.StatesCheck.{kernelRules, goRules}
 use Rattle.grammar.specs.FirstSets.{setsOf}
 use Rattle.grammar.specs.ReachSets.{reachSets}
 use Rattle.grammar.specs.Compiled.{itemsTable, itemsAt, cellsTable, partsTable, noConflict, oneFormula, statesRefusal}
+use Rattle.grammar.specs.WellNamed.{WellNamed}
+use Rattle.grammar.specs.ItemsRight.{ItemsRight}
 use Rattle.grammar.specs.BookFacts.{well-named, small-book}
 use Rattle.grammar.specs.ItemsRightLaws.{book-items-right}
 use Rattle.grammar.specs.KernelRulesLaws.{kernelRules-decides}
@@ -37,22 +39,43 @@ data Judged (b : Book) : ℕ → Type 0 where
   sound : Sound b → Judged b 0
   breaks : {n : ℕ} → Breaks b n → Judged b n
 
--- a test and its meaning go one way
+-- a test by what it decides
 by-test : {A C : Type 0} {t : Bool} → Decides t A → (t ≡ true → A → C) → (t ≡ false → (A → ⊥) → C) → C
 by-test {t = true} d f g = f refl (d .sound refl)
 by-test {t = false} d f g = g refl (refutes d)
 
+false-of : {A : Type 0} {t : Bool} → Decides t A → (A → ⊥) → t ≡ false
+false-of d h = by-test d (λ e a. absurd (h a)) (λ e n. e)
+
+-- the tests of 7 to 10 as the function asks them, of a book within its limits whose names are declared
+module _ {b : Book} (spelled : Spelled b) (limits : WithinLimits b) (names : Declared b) where
+  named : WellNamed b
+  named = well-named (spelled .ordered) limits names
+
+  right : ItemsRight b (setsOf (b .rules)) (reachSets (b .rules) (setsOf (b .rules)))
+  right = book-items-right b (small-book (spelled .ordered) limits names)
+
+  kernels-decides : Decides (kernelRules b) (KernelRules b)
+  kernels-decides = kernelRules-decides named
+
+  goes-decides : Decides (goRules b (itemsAt b (itemsTable b (setsOf (b .rules))))) (GoRules b)
+  goes-decides = goTable-decides named right
+
+  conflicts-decides : Decides (noConflict b (cellsTable b (itemsTable b (setsOf (b .rules))))) (NoConflict b)
+  conflicts-decides = noConflict-decides named right
+
+  formulas-decides : Owned b → KernelRules b
+      → Decides (oneFormula b (partsTable b (setsOf (b .rules)) (reachSets (b .rules) (setsOf (b .rules))) (itemsTable b (setsOf (b .rules))))) (LR-attributed b)
+  formulas-decides attributes kernels = oneFormula-decides right (formula-premises limits names attributes kernels)
+
 module _ (b : Book) (spelled : Spelled b) where
-  -- of a book within its limits, with its names declared: 7 to 10
   states-judged : WithinLimits b → Declared b → Owned b → Defined b → Judged b (statesRefusal b)
   unfolding statesRefusal
   states-judged limits names attributes definitions =
-      let w = well-named (spelled .ordered) limits names in
-      let right = book-items-right b (small-book (spelled .ordered) limits names) in
-      by-test (kernelRules-decides w)
-      (λ e₇ kernels. by-test (goTable-decides w right)
-      (λ e₈ goes. by-test (noConflict-decides w right)
-      (λ e₉ conflicts. by-test (oneFormula-decides right (formula-premises limits names attributes kernels))
+      by-test (kernels-decides spelled limits names)
+      (λ e₇ kernels. by-test (goes-decides spelled limits names)
+      (λ e₈ goes. by-test (conflicts-decides spelled limits names)
+      (λ e₉ conflicts. by-test (formulas-decides spelled limits names attributes kernels)
       (λ e formulas. rw (e₇, statesRefusal) (rw (e₈, e₉, e) (sound (record {
         limits = limits;
         names = names;
@@ -81,17 +104,44 @@ module _ (b : Book) (spelled : Spelled b) where
       (λ e₄ h. rw (e₃, bookRefusal) (rw e₄ (breaks (breaks-names limits h)))))
       (λ e₃ h. rw (e₃, bookRefusal) (breaks (breaks-limits h)))
 
--- a book has one judgment
+  -- a judgment gives the function's answer
 
-unsound : {b : Book} {n : ℕ} → Sound b → Breaks b n → ⊥
-unsound s (breaks-limits h) = h (s .limits)
-unsound s (breaks-names l h) = h (s .names)
-unsound s (breaks-attributes l n h) = h (s .attributes)
-unsound s (breaks-definitions l n a h) = h (s .definitions)
-unsound s (breaks-kernel-rules l n a d h) = h (s .kernel-rules)
-unsound s (breaks-go-rules l n a d k h) = h (s .go-rules)
-unsound s (breaks-no-conflict l n a d k g h) = h (s .no-conflict)
-unsound s (breaks-one-formula l n a d k g c h) = h (s .one-formula)
+  to-states : WithinLimits b → Declared b → Owned b → Defined b → bookRefusal b ≡ statesRefusal b
+  unfolding bookRefusal
+  to-states limits names attributes definitions =
+      rw (withinLimits-decides b .complete limits, bookRefusal)
+      (rw (declared-decides b .complete names, owned-decides b .complete attributes, defined-decides b .complete definitions))
+
+  answers-sound : Sound b → bookRefusal b ≡ 0
+  unfolding statesRefusal
+  answers-sound s =
+      to-states (s .limits) (s .names) (s .attributes) (s .definitions)
+      ∙ rw (kernels-decides spelled (s .limits) (s .names) .complete (s .kernel-rules), statesRefusal)
+      (rw (
+        goes-decides spelled (s .limits) (s .names) .complete (s .go-rules),
+        conflicts-decides spelled (s .limits) (s .names) .complete (s .no-conflict),
+        formulas-decides spelled (s .limits) (s .names) (s .attributes) (s .kernel-rules) .complete (s .one-formula),
+      ))
+
+  answers-breaks : {n : ℕ} → Breaks b n → bookRefusal b ≡ n
+  unfolding bookRefusal statesRefusal
+  answers-breaks (breaks-limits h) = rw (false-of (withinLimits-decides b) h, bookRefusal)
+  answers-breaks (breaks-names l h) = rw (withinLimits-decides b .complete l, bookRefusal) (rw (false-of (declared-decides b) h))
+  answers-breaks (breaks-attributes l n h) =
+      rw (withinLimits-decides b .complete l, bookRefusal) (rw (declared-decides b .complete n, false-of (owned-decides b) h))
+  answers-breaks (breaks-definitions l n a h) =
+      rw (withinLimits-decides b .complete l, bookRefusal)
+      (rw (declared-decides b .complete n, owned-decides b .complete a, false-of (defined-decides b) h))
+  answers-breaks (breaks-kernel-rules l n a d h) =
+      to-states l n a d ∙ rw (false-of (kernels-decides spelled l n) h, statesRefusal)
+  answers-breaks (breaks-go-rules l n a d k h) =
+      to-states l n a d ∙ rw (kernels-decides spelled l n .complete k, statesRefusal) (rw (false-of (goes-decides spelled l n) h))
+  answers-breaks (breaks-no-conflict l n a d k g h) =
+      to-states l n a d ∙ rw (kernels-decides spelled l n .complete k, statesRefusal)
+      (rw (goes-decides spelled l n .complete g, false-of (conflicts-decides spelled l n) h))
+  answers-breaks (breaks-one-formula l n a d k g c h) =
+      to-states l n a d ∙ rw (kernels-decides spelled l n .complete k, statesRefusal)
+      (rw (goes-decides spelled l n .complete g, conflicts-decides spelled l n .complete c, false-of (formulas-decides spelled l n a k) h))
 
 -- what the function answers is what 01 says
 pub refusal-verdict : (text : List ℕ) → Verdict text (refusal text)
@@ -105,3 +155,14 @@ refusal-verdict text = go (parseBook text) refl
     go : (o : Option Book) → parseBook text ≡ o → Verdict text (refusal text)
     go none q = rw (q, refusal) (misspelt (none-misspelt text q))
     go (some b) q = let (e, spelled) = print-parse text b q in rw (q, refusal) (verdict b spelled e (judged b spelled))
+
+-- and nothing else is
+pub verdict-refusal : (text : List ℕ) {n : ℕ} → Verdict text n → refusal text ≡ n
+unfolding refusal
+verdict-refusal text (taken t) = rw (t .its-text, parse-print (t .book) (t .spelled), refusal) (answers-sound (t .book) (t .spelled) (t .sound))
+verdict-refusal text (misspelt h) = go (parseBook text) refl
+  where
+    go : (o : Option Book) → parseBook text ≡ o → refusal text ≡ 2
+    go none q = rw (q, refusal)
+    go (some b) q = absurd (h (parsed-spelled text b q))
+verdict-refusal text (broken b spelled e h) = rw (e, parse-print b spelled, refusal) (answers-breaks b spelled h)

@@ -1,11 +1,8 @@
 -- The class of a byte (01, "Spelling of a book": digit, small letter, open, close, space, line feed, other), by ranges.
 -- Assumes nothing.
-use Prim.Native.Nat.{ℕ, _≤_, _<_}
-use mathlib.Core.Path.{_≡_, refl, sym, _∙_}
+use Prim.Native.Nat.{ℕ}
 use mathlib.Core.Bool.{Bool, true, false}
-use native.Mathlib.Omega.{arith}
 use lib.Dec.{leb}
-use borrow.Author.Tests.{leb-true, le-leb, lt-leb, leb-false}
 
 -- the classes' numbers, as the table has them
 abbrev pub other : ℕ

@@ -1,7 +1,7 @@
 -- Numbers written in digits, read and written: decimal numbers (01: 1 to 10 digits, at most 4,294,967,295, no leading zero) and words of
 -- small letters, which are read as numbers too, to be told apart by one comparison. Assumes nothing.
 use Prim.Native.Nat.{ℕ, zero, suc, _+_, _*_, _-_, _/_, _%_}
-use mathlib.Core.Bool.{Bool, true, false}
+use mathlib.Core.Bool.{true, false}
 use mathlib.Core.List.{List, [], _∷_}
 use Prim.Native.Char.{code}
 use Prim.Native.String.{String, [] as []ˢ, _∷_ as _∷ˢ_}

@@ -1,21 +1,19 @@
 -- Laws of the readers of numbers and words: what they read was written, what is written they read, and how much they leave.
 -- Assumes nothing.
 use Prim.Native.Nat.{ℕ, suc, _+_, _*_, _≤_, _<_}
-use Prim.Native.String.{String, [] as []ˢ, _∷_ as _∷ˢ_}
-use Prim.Native.Char.{code}
 use mathlib.Core.Path.{_≡_, refl, sym, ap, _∙_}
-use mathlib.Core.Bool.{Bool, true, false}
+use mathlib.Core.Bool.{Bool, true, false, false≢true}
 use mathlib.Core.List.{List, [], _∷_}
 use native.Mathlib.Omega.{arith}
 use lib.Dec.{ltb, eqb}
 use lib.ListN.{length}
 use borrow.Author.Tests.{eqb-true, eq-eqb, ne-eqb}
-use Rattle.text.specs.Class.{classOf, digit, open-bracket}
+use Rattle.text.specs.Class.{classOf, digit}
 use Rattle.text.specs.ClassLaws.{range-digit}
-use Rattle.text.specs.Rest.{Rest, lost, left, found, must, mark, size}
-use Rattle.text.specs.RestLaws.{lost≢left, left-is, found-got, must-got, mark-other, size-must, size-found}
-use Rattle.text.specs.Numeral.{System, decimal, letters, Read, bad, got, digitOf, digits, numeral, write, numberOf, restOf, read, value, past, wordOf, keyword, opens}
-use Rattle.text.specs.Positional.{Positional, decimal-positional, letters-positional, Was, no-digit, written-number, read-written, written-begins}
+use Rattle.text.specs.Rest.{Rest, lost, left, found, mark, size}
+use Rattle.text.specs.RestLaws.{lost≢left, left-is, found-got, found-left, must-got, mark-other, size-must}
+use Rattle.text.specs.Numeral.{System, decimal, letters, Read, bad, got, digitOf, digits, numeral, write, numberOf, restOf, read, value, past, keyword}
+use Rattle.text.specs.Positional.{Positional, decimal-positional, letters-positional, no-digit, written-number, read-written, written-begins}
 
 -- From a reader that left something to what it was given
 
@@ -126,7 +124,7 @@ module _ (S : System) where
   -- a number that was found was passed
   pub found-past : (o : Rest) → found (past S o) ≡ true → size (past S o) < size o
   unfolding past read restOf found
-  found-past lost h = absurd (let z : _≡_ {A = Bool} false true = h in let y : _≡_ {A = ℕ} 0 1 = cc in let x : ⊥ = omega arith in x)
+  found-past lost h = absurd (false≢true h)
   found-past (left bs) h = less-past (left bs) refl
 
 pub size-keyword : (w : ℕ) (o : Rest) → size (keyword w o) ≤ size o
@@ -137,37 +135,5 @@ pub less-keyword : (w : ℕ) (o : Rest) → found o ≡ true → size (keyword w
 unfolding keyword
 less-keyword w o h = omega (arith, size-must (eqb (value letters o) w) (past letters o), less-past letters o h)
 
--- Examples, computed
-
-bytes : String → List ℕ
-bytes []ˢ = []
-bytes (c ∷ˢ s) = code c ∷ bytes s
-
--- a word is written as its letters, in front of any rest
-word-written : (r : List ℕ) → write letters (wordOf "inhdef") r ≡ 105 ∷ 110 ∷ 104 ∷ 100 ∷ 101 ∷ 102 ∷ r
-unfolding opens
-word-written r = refl
-
-word-read : numeral letters (bytes "inh i0") ≡ got (wordOf "inh") (bytes " i0")
-unfolding opens bytes classOf
-word-read = refl
-
-largest : numeral decimal (bytes "4294967295)") ≡ got 4294967295 (bytes ")")
-unfolding opens bytes classOf
-largest = refl
-
-too-large : numeral decimal (bytes "4294967296)") ≡ bad
-unfolding opens bytes classOf
-too-large = refl
-
-leading-zero : numeral decimal (bytes "01") ≡ got 0 (bytes "1")
-unfolding opens bytes classOf
-leading-zero = refl
-
-no-number : numeral decimal (bytes "x") ≡ bad
-unfolding opens bytes classOf
-no-number = refl
-
-ended : (r : List ℕ) → no-digit decimal (32 ∷ r) ≡ true
-unfolding no-digit digitOf classOf
-ended r = refl
+pub found-keyword : (w : ℕ) (o : Rest) → found (keyword w o) ≡ true → size (keyword w o) < size o
+found-keyword w o h = found-got (keyword w o) h λ r e. keyword-got w o e λ bs p q. less-keyword w o (found-left o p)

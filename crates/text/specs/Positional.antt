@@ -5,12 +5,13 @@ use mathlib.Core.Path.{_≡_, refl, sym, ap, _∙_}
 use mathlib.Core.Bool.{Bool, true, false}
 use mathlib.Core.List.{List, [], _∷_}
 use native.Mathlib.Omega.{arith}
-use native.Mathlib.Nat.{div-lt-self, div-eq-sub-div, mod-lt, div-add-mod', mul-add-div-right, mul-add-mod-self-right, div-eq-of-lt, mod-eq-of-lt, mul-le-mul-right, zero-mul, one-mul}
+use native.Mathlib.Nat.{div-lt-self, div-eq-sub-div, div-eq-of-lt, div-add-mod', mod-lt, mod-eq-of-lt}
+use native.Mathlib.Nat.{mul-add-div-right, mul-add-mod-self-right, mul-le-mul-right, zero-mul, one-mul}
 use lib.Dec.{ltb, eqb}
 use borrow.Author.Tests.{ltb-true, ltb-false, eqb-true, eqb-false, lt-ltb, le-ltb, eq-eqb, ne-eqb}
-use Rattle.text.specs.Class.{classOf, digit, letter}
-use Rattle.text.specs.ClassLaws.{digit-range, letter-range, range-digit}
-use Rattle.text.specs.Numeral.{System, decimal, letters, Read, bad, got, digitOf, digits, numeral, written, write}
+use Rattle.text.specs.Class.{classOf}
+use Rattle.text.specs.ClassLaws.{digit-range, letter-range}
+use Rattle.text.specs.Numeral.{System, decimal, letters, bad, got, digitOf, digits, numeral, written, write}
 
 pub bad≢got : {n : ℕ} {r : List ℕ} → bad ≡ got n r → ⊥
 bad≢got e = let z : _≡_ {A = ℕ} 0 1 = cc in omega arith
@@ -53,6 +54,14 @@ pub record Was (S : System) (n : ℕ) (bs r : List ℕ) : Type 0 where
 module _ (S : System) where
   -- The clauses, as laws
 
+  pub digit-is : (b : ℕ) → classOf b ≡ S .class → digitOf S b ≡ b - S .zero-byte
+  unfolding digitOf
+  digit-is b h = rw (eq-eqb (classOf b) (S .class) h)
+
+  pub digit-none : (b : ℕ) → (classOf b ≡ S .class → ⊥) → digitOf S b ≡ S .base
+  unfolding digitOf
+  digit-none b h = rw (ne-eqb (classOf b) (S .class) h)
+
   pub written-small : (f n : ℕ) (r : List ℕ) → n < S .base → written S (suc f) n r ≡ (S .zero-byte + n) ∷ r
   unfolding written
   written-small f n r h = rw (lt-ltb n (S .base), written)
@@ -88,6 +97,13 @@ module _ (S : System) where
   unfolding numeral
   numeral-some b r h k = rw (ne-eqb (digitOf S b) 0 h, numeral) (rw (ne-eqb (digitOf S b) (S .base) k))
 
+  -- the first digit is the number so far
+  pub numeral-first : (b : ℕ) (r : List ℕ) → (digitOf S b ≡ 0 → ⊥) → (digitOf S b ≡ S .base → ⊥) → digitOf S b ≤ S .limit
+      → numeral S (b ∷ r) ≡ digits S (digitOf S b) r
+  numeral-first b r h k l =
+      let s : 0 * S .base + digitOf S b ≡ digitOf S b = omega (arith, zero-mul (S .base)) in
+      numeral-some b r h k ∙ (digits-more 0 b r k (rw s l) ∙ rw s)
+
 module _ (S : System) (P : Positional S) where
   -- a byte that is a digit is the digit's byte, and the digit is below the base
   pub digit-byte : (b : ℕ) → (digitOf S b ≡ S .base → ⊥) → S .zero-byte + digitOf S b ≡ b
@@ -107,6 +123,13 @@ module _ (S : System) (P : Positional S) where
           let e = eqb-true (classOf b) (S .class) q in
           rw q (omega (arith, P .from-zero b e, P .to-base b e))
       go false q = absurd (h (rw q))
+
+  pub digit-most : (b : ℕ) → digitOf S b ≤ S .base
+  digit-most b = go (eqb (digitOf S b) (S .base)) refl
+    where
+      go : (t : Bool) → eqb (digitOf S b) (S .base) ≡ t → digitOf S b ≤ S .base
+      go true q = omega (arith, eqb-true (digitOf S b) (S .base) q)
+      go false q = omega (arith, digit-below b (eqb-false (digitOf S b) (S .base) q))
 
   fewer : (n : ℕ) → S .base ≤ n → n / S .base < n
   fewer n h = div-lt-self (omega (arith, P .base-is)) (P .base-is)

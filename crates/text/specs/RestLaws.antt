@@ -1,12 +1,14 @@
 -- Laws on what is left of a text: at a position, after a byte of a class, after a test; and how much is left.
 -- Assumes nothing.
-use Prim.Native.Nat.{ℕ, suc, _+_, _≤_, _<_}
-use mathlib.Core.Path.{_≡_, refl, ap}
-use mathlib.Core.Bool.{Bool, true, false}
+use Prim.Native.Nat.{ℕ, _+_, _≤_, _<_}
+use mathlib.Core.Path.{_≡_, refl, ap, _∙_}
+use mathlib.Core.Bool.{Bool, true, false, false≢true}
 use mathlib.Core.List.{List, [], _∷_}
 use native.Mathlib.Omega.{arith}
+use native.Mathlib.Numerals.{add-one}
 use lib.Dec.{leb, eqb}
-use lib.ListN.{length, drop, length-drop}
+use lib.ListN.{length, getD, drop, length-drop, drop-of-length-le}
+use lib.Seq.{drop-cons}
 use borrow.Author.Tests.{le-leb, lt-leb, eqb-true, eq-eqb, ne-eqb}
 use Rattle.text.specs.Class.{classOf}
 use Rattle.text.specs.ClassLaws.{byteOf, marked}
@@ -28,6 +30,31 @@ pub rest-out : (text : List ℕ) (at : ℕ) → length text < at → rest text a
 unfolding rest
 rest-out text at h = rw (lt-leb at (length text), rest)
 
+-- the rest at i is the element there and the rest at i + 1
+pub drop-more : (l : List ℕ) (i : ℕ) → i < length l → drop i l ≡ getD l i 0 ∷ drop (i + 1) l
+drop-more l i h = rw (add-one) (drop-cons l i 0 h)
+
+pub rest-at : (text : List ℕ) (at : ℕ) → at < length text → rest text at ≡ left (getD text at 0 ∷ drop (at + 1) text)
+rest-at text at h = rest-in text at (omega arith) ∙ rw (drop-more text at h)
+
+-- at the end or past it
+pub rest-end : {C : Type 0} (text : List ℕ) (at : ℕ) → length text ≤ at → (rest text at ≡ lost → C) → (rest text at ≡ left [] → C) → C
+unfolding rest
+rest-end {C} text at h out end = go (leb at (length text)) refl
+  where
+    go : (t : Bool) → leb at (length text) ≡ t → C
+    go true q = end (rw (q, rest, drop-of-length-le text h))
+    go false q = out (rw (q, rest))
+
+-- reading goes on at every position but those past the end
+pub found-at : (text : List ℕ) (at : ℕ) → found (rest text at) ≡ leb at (length text)
+unfolding rest found
+found-at text at = go (leb at (length text)) refl
+  where
+    go : (t : Bool) → leb at (length text) ≡ t → found (rest text at) ≡ leb at (length text)
+    go true q = rw (q, rest)
+    go false q = rw (q, rest)
+
 pub found-in : (text : List ℕ) (at : ℕ) → at ≤ length text → found (rest text at) ≡ true
 unfolding found
 found-in text at h = ap found (rest-in text at h)
@@ -45,7 +72,7 @@ found-left o e = ap found e
 module _ {C : Type 0} where
   pub found-got : (o : Rest) → found o ≡ true → ((bs : List ℕ) → o ≡ left bs → C) → C
   unfolding found
-  found-got lost h k = absurd (let z : _≡_ {A = Bool} false true = h in let y : _≡_ {A = ℕ} 0 1 = cc in let x : ⊥ = omega arith in x)
+  found-got lost h k = absurd (false≢true h)
   found-got (left bs) h k = k bs refl
 
   pub must-got : {r : List ℕ} (t : Bool) (o : Rest) → must t o ≡ left r → (t ≡ true → o ≡ left r → C) → C

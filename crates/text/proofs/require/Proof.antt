@@ -1,0 +1,20 @@
+-- `require` meets its contract.
+-- Assumes nothing.
+use native.Mathlib.Omega.{arith}
+use mathlib.Core.Path.{sym, _∙_}
+use Rattle.text.specs.RestLaws.{rest-out, must-true, must-false}
+use borrow.Author.Needs.{needs}
+use Rattle.text.proofs.require.Statement.{statement}
+use Rattle.text.proofs.require.Tie as tie
+
+returns : tie.Need-returns
+returns c = sym (must-true _ _ (c .if1 .taken))
+
+add-result : tie.Need-add-result
+add-result c = search needs
+
+returns-2 : tie.Need-returns-2
+returns-2 c = rest-out _ _ (omega arith) ∙ sym (must-false _ _ (c .if1 .left))
+
+pub require-spec : {M : Type 1} → statement M
+require-spec = tie.close (tie.spec returns add-result returns-2)

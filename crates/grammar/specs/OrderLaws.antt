@@ -1,9 +1,9 @@
 -- Laws of order: keys compared by the reader, and what the lines of a section meet one after another.
 -- Assumes nothing.
-use Prim.Native.Nat.{ℕ, suc, _+_, _≤_}
-use mathlib.Core.Path.{_≡_, refl}
+use Prim.Native.Nat.{ℕ, suc, _+_, _≤_, _<_}
+use mathlib.Core.Path.{_≡_, refl, sym, ap, _∙_}
 use mathlib.Core.Bool.{Bool, true, false, false≢true}
-use mathlib.Core.List.{List, [], _∷_}
+use mathlib.Core.List.{List, [], _∷_, List·Memᴰ as Mem, List·Memᴰ·head as in-head, List·Memᴰ·tail as in-tail}
 use native.Mathlib.Omega.{arith}
 use lib.Dec.{eqb, ltb}
 use lib.ListN.{length}
@@ -36,6 +36,37 @@ unfolding before
 true-before empty = refl
 true-before (less {x = x} {y = y} h) = rw (lt-ltb x y h, before)
 true-before (same {x = x} h) = rw (le-ltb x x (omega arith), before) (rw (eq-eqb x x refl) (true-before h))
+
+-- Keys that ascend are all different
+
+before-trans : {xs ys zs : List ℕ} → Before xs ys → Before ys zs → Before xs zs
+before-trans empty (less k) = empty
+before-trans empty (same k) = empty
+before-trans (less {x = x} {y = y} h) (less {y = z} k) =
+    let l : x < z = omega arith in
+    less l
+before-trans (less h) (same k) = less h
+before-trans (same h) (less k) = less k
+before-trans (same h) (same k) = same (before-trans h k)
+
+before-differs : {xs ys : List ℕ} → Before xs ys → xs ≡ ys → ⊥
+before-differs empty e = let z : _≡_ {A = ℕ} 0 1 = cc in omega arith
+before-differs (less {x = x} {y = y} h) e =
+    let z : x ≡ y = cc in
+    omega arith
+before-differs (same {xs = xs} {ys = ys} h) e = before-differs h (let z : xs ≡ ys = cc in z)
+
+module _ {A : Type 0} {key : A → List ℕ} where
+  ascends-above : {last : List ℕ} {xs : List A} {x : A} → Ascends key last xs → Mem x xs → Before last (key x)
+  ascends-above (ascends-∷ b bs) (in-head e) = rw e b
+  ascends-above (ascends-∷ b bs) (in-tail m) = before-trans b (ascends-above bs m)
+
+  -- one line for each key
+  pub ascends-unique : {last : List ℕ} {xs : List A} {x y : A} → Ascends key last xs → Mem x xs → Mem y xs → key x ≡ key y → x ≡ y
+  ascends-unique (ascends-∷ b bs) (in-head p) (in-head q) e = p ∙ sym q
+  ascends-unique (ascends-∷ b bs) (in-head p) (in-tail n) e = absurd (before-differs (ascends-above bs n) (ap key (sym p) ∙ e))
+  ascends-unique (ascends-∷ b bs) (in-tail m) (in-head q) e = absurd (before-differs (ascends-above bs m) (ap key (sym q) ∙ sym e))
+  ascends-unique (ascends-∷ b bs) (in-tail m) (in-tail n) e = ascends-unique bs m n e
 
 -- What a line meets: a number K that fits, or a key above the last
 

@@ -47,6 +47,11 @@ module _ {A S : Type 0} (head : Rest → Rest) (one : S → Reader A) (next : S 
   many-stop zero s o h = refl
   many-stop (suc f) s o h = rw (h, many)
 
+  -- the two laws of the loop: it ends where no head is found, and otherwise reads one item
+  pub section-stop : (s : S) (o : Rest) → found (head o) ≡ false → section head one next s o ≡ parsed [] o
+  unfolding section
+  section-stop s o h = many-stop (size o) s o h
+
   many-more : (f : ℕ) (s : S) (o : Rest) {x : A} {o₁ : Rest} → found (head o) ≡ true → one s (head o) ≡ parsed x o₁
       → many head one next (suc f) s o ≡ parsed (x ∷ item (many head one next f (next s x) o₁)) (after (many head one next f (next s x) o₁))
   unfolding many item after
@@ -78,11 +83,6 @@ module _ {A S : Type 0} (head : Rest → Rest) (one : S → Reader A) (next : S 
             many-more f s o e q
             ∙ (ap (λ p. parsed (x ∷ item p) (after p)) (ih (next s x) o₁ (omega (arith, turn-less s o e q)) (omega (arith, turn-less s o e q)))
             ∙ sym (many-more g s o e q))
-
-    -- the two laws of the loop: it ends where no head is found, and otherwise reads one item
-    pub section-stop : (s : S) (o : Rest) → found (head o) ≡ false → section head one next s o ≡ parsed [] o
-    unfolding section
-    section-stop s o h = many-stop (size o) s o h
 
     first : (f : ℕ) (s : S) (o : Rest) {x : A} {o₁ : Rest} → size o ≡ f → found (head o) ≡ true → one s (head o) ≡ parsed x o₁
         → many head one next f s o ≡ parsed (x ∷ item (many head one next (size o₁) (next s x) o₁)) (after (many head one next (size o₁) (next s x) o₁))
@@ -121,7 +121,7 @@ module _ {A S : Type 0} (head : Rest → Rest) (one : S → Reader A) (next : S 
   pub section-reads : (s : S) (xs : List A) (r : List ℕ) → Along Fine next s xs → Ends r → found (head (left r)) ≡ false
       → section head one next s (left (prints s xs r)) ≡ parsed xs (left r)
   unfolding item after
-  section-reads s [] r along-[] h e = rw (L .prints-[] s r) (section-stop head one next (I .head-less) (I .one-less) s (left r) e)
+  section-reads s [] r along-[] h e = rw (L .prints-[] s r) (section-stop head one next s (left r) e)
   section-reads s (x ∷ xs) r (along-∷ fine more) h e =
       let rest : List ℕ = prints (next s x) xs r in
       let read = I .reads s x rest fine (prints-end (next s x) xs r h) in
@@ -140,7 +140,7 @@ module _ {A S : Type 0} (head : Rest → Rest) (one : S → Reader A) (next : S 
     where
       go : (t : Bool) → found (head lost) ≡ t → after (section head one next s lost) ≡ lost
       go true e = absurd (let z : ⊥ = omega (arith, I .head-less lost e) in z)
-      go false e = ap after (section-stop head one next (I .head-less) (I .one-less) s lost e)
+      go false e = ap after (section-stop head one next s lost e)
 
   was-by : (f : ℕ) (s : S) (bs r : List ℕ) → size (left bs) ≤ f → after (section head one next s (left bs)) ≡ left r
       → Stands (prints s) (Along Fine next s) bs (item (section head one next s (left bs))) r
@@ -153,7 +153,7 @@ module _ {A S : Type 0} (head : Rest → Rest) (one : S → Reader A) (next : S 
           → Stands (prints s) (Along Fine next s) bs (item (section head one next s (left bs))) r)
           → Stands (prints s) (Along Fine next s) bs (item (section head one next s (left bs))) r
       go false p h q ih =
-          let z = section-stop head one next (I .head-less) (I .one-less) s (left bs) h in
+          let z = section-stop head one next s (left bs) h in
           let y : left bs ≡ left r = sym (ap after z) ∙ e in
           stood s bs r [] _ (z ∙ ap (parsed []) y) (left-is y ∙ sym (L .prints-[] s r)) along-[]
       go true (parsed x lost) h q ih =

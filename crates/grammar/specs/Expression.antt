@@ -1,4 +1,4 @@
--- Reading expressions of any depth (01, "Spelling of a book"), by a machine that keeps the operators that wait for operands and gives the
+-- Reading expressions of any depth (01, "Spelling of a book"), by a loop that keeps the operators that wait for operands and gives the
 -- expression's steps in postfix order, one at each closing bracket. Assumes nothing.
 use Prim.Native.Nat.{ℕ, zero, suc}
 use mathlib.Core.Bool.{Bool, true, false}
@@ -10,7 +10,7 @@ use Rattle.text.specs.Numeral.{decimal, letters, value, past, wordOf, keyword}
 use Rattle.grammar.specs.Term.{add, sub, min, max}
 use Rattle.grammar.specs.Book.{Place, own, at, val, Expr}
 use Rattle.grammar.specs.Postfix.{Step, push, load, operate, select, termOf}
-use Rattle.grammar.specs.Reader.{Parsed, parsed, item, after, Reader, pure, _>>=_, _>>_, decimalNumber, naming}
+use Rattle.grammar.specs.Reader.{Parsed, parsed, result, remaining, Reader, pure, _>>=_, _>>_, decimalNumber, naming}
 use Rattle.grammar.specs.Repeat.{repeat}
 
 -- an operator whose bracket is open: the step that closes it, and how many operands follow the one being read
@@ -49,7 +49,7 @@ valPlace = do
   pure (load (val J))
 
 unfoldable pub wholeOf : Parsed (Step Place) → Begun
-wholeOf p = whole (item p) (after p)
+wholeOf p = whole (result p) (remaining p)
 
 -- a bracket, by its word
 unfoldable pub bracket : ℕ → Rest → Begun
@@ -72,36 +72,36 @@ begun o =
     ]
 
 -- whether an expression is due, what is left, the operators that wait, the steps so far
-pub data Machine : Type 0 where
-  machine : Bool → Rest → List Waiting → List (Step Place) → Machine
+pub data Scan : Type 0 where
+  scan : Bool → Rest → List Waiting → List (Step Place) → Scan
 
-unfoldable pub sizeLeft : Machine → ℕ
-sizeLeft (machine due o waits steps) = size o
+unfoldable pub sizeScan : Scan → ℕ
+sizeScan (scan due o waits steps) = size o
 
--- the machine stops where the text is lost and where nothing is due and nothing waits
-unfoldable pub goesOn : Machine → Bool
-goesOn (machine true o waits steps) = found o
-goesOn (machine false o [] steps) = false
-goesOn (machine false o (w ∷ waits) steps) = found o
+-- the loop stops where the text is lost and where nothing is due and nothing waits
+unfoldable pub scanMore : Scan → Bool
+scanMore (scan true o waits steps) = found o
+scanMore (scan false o [] steps) = false
+scanMore (scan false o (w ∷ waits) steps) = found o
 
-unfoldable pub begin : Begun → List Waiting → List (Step Place) → Machine
-begin (opened w o) waits steps = machine true o (w ∷ waits) steps
-begin (whole s o) waits steps = machine false o waits (steps ++ (s ∷ []))
+unfoldable pub begin : Begun → List Waiting → List (Step Place) → Scan
+begin (opened w o) waits steps = scan true o (w ∷ waits) steps
+begin (whole s o) waits steps = scan false o waits (steps ++ (s ∷ []))
 
-unfoldable pub turn : Machine → Machine
-turn (machine true o waits steps) = begin (begun o) waits steps
-turn (machine false o [] steps) = machine false o [] steps
-turn (machine false o (waiting s zero ∷ waits) steps) = machine false (mark close-bracket o) waits (steps ++ (s ∷ []))
-turn (machine false o (waiting s (suc n) ∷ waits) steps) = machine true (mark space o) (waiting s n ∷ waits) steps
+unfoldable pub scanTurn : Scan → Scan
+scanTurn (scan true o waits steps) = begin (begun o) waits steps
+scanTurn (scan false o [] steps) = scan false o [] steps
+scanTurn (scan false o (waiting s zero ∷ waits) steps) = scan false (mark close-bracket o) waits (steps ++ (s ∷ []))
+scanTurn (scan false o (waiting s (suc n) ∷ waits) steps) = scan true (mark space o) (waiting s n ∷ waits) steps
 
-unfoldable pub work : Machine → Machine
-work m = repeat goesOn turn sizeLeft m
+unfoldable pub scanAll : Scan → Scan
+scanAll m = repeat scanMore scanTurn sizeScan m
 
-unfoldable pub outcome : Machine → Parsed (List (Step Place))
-outcome (machine due o waits steps) = parsed steps o
+unfoldable pub outcome : Scan → Parsed (List (Step Place))
+outcome (scan due o waits steps) = parsed steps o
 
 unfoldable pub expressionSteps : Reader (List (Step Place))
-expressionSteps o = outcome (work (machine true o [] []))
+expressionSteps o = outcome (scanAll (scan true o [] []))
 
 unfoldable pub expression : Reader Expr
 expression = do
@@ -110,5 +110,5 @@ expression = do
 
 -- opens every definition of this module
 unfoldable pub opens : Unit {0}
-unfolding ownPlace atPlace valPlace wholeOf bracket begun sizeLeft goesOn begin turn work outcome expressionSteps expression
+unfolding ownPlace atPlace valPlace wholeOf bracket begun sizeScan scanMore begin scanTurn scanAll outcome expressionSteps expression
 opens = tt

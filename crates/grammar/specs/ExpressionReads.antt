@@ -1,4 +1,4 @@
--- What is printed of an expression is read: the machine gives the expression's steps in postfix order.
+-- What is printed of an expression is read: the loop gives the expression's steps in postfix order.
 -- Assumes nothing.
 use Prim.Native.Nat.{ℕ, zero, suc, _≤_, _<_}
 use mathlib.Core.Path.{_≡_, refl, ap, _∙_}
@@ -18,11 +18,11 @@ use Rattle.grammar.specs.Postfix.{Step, push, load, operate, select, pos
 use Rattle.grammar.specs.Printer.{bytes, literal}
 use Rattle.grammar.specs.Print.{printPlace, printOperator, printExpression}
 use Rattle.grammar.specs.Ordered.{Fits, PlaceFits, own-fits, at-fits, val-fits, ExpressionFits, number-fits, leaf-fits, both-fits, pick-fits}
-use Rattle.grammar.specs.Reader.{parsed, item, after}
+use Rattle.grammar.specs.Reader.{parsed, result, remaining}
 use Rattle.grammar.specs.ReaderLaws.{shrinking, word-ends, number-reads, reading}
 use Rattle.grammar.specs.Repeat.{repeat, repeat-stop, repeat-more, repeat-size}
-use Rattle.grammar.specs.Expression.{Waiting, waiting, Begun, opened, whole, either, ownPlace, atPlace, valPlace, wholeOf, bracket, begun, Machine}
-use Rattle.grammar.specs.Expression.{machine, sizeLeft, goesOn, begin, turn, work, outcome, expressionSteps, expression}
+use Rattle.grammar.specs.Expression.{Waiting, waiting, Begun, opened, whole, either, ownPlace, atPlace, valPlace, wholeOf, bracket, begun, Scan}
+use Rattle.grammar.specs.Expression.{scan, sizeScan, scanMore, begin, scanTurn, scanAll, outcome, expressionSteps, expression}
 
 -- How much is left
 
@@ -34,16 +34,16 @@ pub either-cases : {A : Type 0} {x y : A} (P : A → Type 0) (b : Bool) → (b �
 either-cases P true f g = f refl
 either-cases P false f g = g refl
 
-own-size : (o : Rest) → size (after (ownPlace o)) ≤ size o
-unfolding ownPlace item after
+own-size : (o : Rest) → size (remaining (ownPlace o)) ≤ size o
+unfolding ownPlace result remaining
 own-size o = search shrinking depth 12
 
-at-size : (o : Rest) → size (after (atPlace o)) ≤ size o
-unfolding atPlace item after
+at-size : (o : Rest) → size (remaining (atPlace o)) ≤ size o
+unfolding atPlace result remaining
 at-size o = search shrinking depth 12
 
-val-size : (o : Rest) → size (after (valPlace o)) ≤ size o
-unfolding valPlace item after
+val-size : (o : Rest) → size (remaining (valPlace o)) ≤ size o
+unfolding valPlace result remaining
 val-size o = search shrinking depth 12
 
 bracket-size : (word : ℕ) (o : Rest) → sizeBegun (bracket word o) ≤ size o
@@ -85,58 +85,58 @@ begun-less o alive = go (found (mark open-bracket o)) refl
         ))
     go false h = rw (begun-number o h) (less-past decimal o alive)
 
-begin-size : (b : Begun) (waits : List Waiting) (steps : List (Step Place)) → sizeLeft (begin b waits steps) ≡ sizeBegun b
-unfolding begin sizeLeft sizeBegun
+begin-size : (b : Begun) (waits : List Waiting) (steps : List (Step Place)) → sizeScan (begin b waits steps) ≡ sizeBegun b
+unfolding begin sizeScan sizeBegun
 begin-size (opened w o) waits steps = refl
 begin-size (whole s o) waits steps = refl
 
-falls : (m : Machine) → goesOn m ≡ true → sizeLeft (turn m) < sizeLeft m
-unfolding goesOn turn sizeLeft
-falls (machine true o waits steps) h = omega (arith, begin-size (begun o) waits steps, begun-less o h)
-falls (machine false o [] steps) h = absurd (let z : _≡_ {A = Bool} false true = h in let y : _≡_ {A = ℕ} 0 1 = cc in let x : ⊥ = omega arith in x)
-falls (machine false o (waiting s zero ∷ waits) steps) h = less-mark close-bracket o h
-falls (machine false o (waiting s (suc n) ∷ waits) steps) h = less-mark space o h
+falls : (m : Scan) → scanMore m ≡ true → sizeScan (scanTurn m) < sizeScan m
+unfolding scanMore scanTurn sizeScan
+falls (scan true o waits steps) h = omega (arith, begin-size (begun o) waits steps, begun-less o h)
+falls (scan false o [] steps) h = absurd (let z : _≡_ {A = Bool} false true = h in let y : _≡_ {A = ℕ} 0 1 = cc in let x : ⊥ = omega arith in x)
+falls (scan false o (waiting s zero ∷ waits) steps) h = less-mark close-bracket o h
+falls (scan false o (waiting s (suc n) ∷ waits) steps) h = less-mark space o h
 
 -- the two laws of the loop
-pub work-more : (m : Machine) → goesOn m ≡ true → work m ≡ work (turn m)
-unfolding work
-work-more m h = repeat-more goesOn turn sizeLeft falls m h
+pub scan-more : (m : Scan) → scanMore m ≡ true → scanAll m ≡ scanAll (scanTurn m)
+unfolding scanAll
+scan-more m h = repeat-more scanMore scanTurn sizeScan falls m h
 
-pub work-stop : (m : Machine) → goesOn m ≡ false → work m ≡ m
-unfolding work
-work-stop m h = repeat-stop goesOn turn sizeLeft m h
+pub scan-stop : (m : Scan) → scanMore m ≡ false → scanAll m ≡ m
+unfolding scanAll
+scan-stop m h = repeat-stop scanMore scanTurn sizeScan m h
 
-outcome-size : (m : Machine) → size (after (outcome m)) ≡ sizeLeft m
-unfolding outcome after sizeLeft
-outcome-size (machine due o waits steps) = refl
+outcome-size : (m : Scan) → size (remaining (outcome m)) ≡ sizeScan m
+unfolding outcome remaining sizeScan
+outcome-size (scan due o waits steps) = refl
 
-pub steps-size : (o : Rest) → size (after (expressionSteps o)) ≤ size o
-unfolding expressionSteps work sizeLeft
+pub steps-size : (o : Rest) → size (remaining (expressionSteps o)) ≤ size o
+unfolding expressionSteps scanAll sizeScan
 steps-size o =
-    omega (arith, outcome-size (repeat goesOn turn sizeLeft (machine true o [] [])), repeat-size goesOn turn sizeLeft falls (machine true o [] []))
+    omega (arith, outcome-size (repeat scanMore scanTurn sizeScan (scan true o [] [])), repeat-size scanMore scanTurn sizeScan falls (scan true o [] []))
 
 -- One turn at a time
 
 module _ (waits : List Waiting) (steps : List (Step Place)) where
   pub turn-opened : (bs : List ℕ) (o : Rest) (w : Waiting) → begun (left bs) ≡ opened w o
-      → work (machine true (left bs) waits steps) ≡ work (machine true o (w ∷ waits) steps)
-  unfolding turn begin goesOn found
-  turn-opened bs o w e = work-more (machine true (left bs) waits steps) refl ∙ rw e
+      → scanAll (scan true (left bs) waits steps) ≡ scanAll (scan true o (w ∷ waits) steps)
+  unfolding scanTurn begin scanMore found
+  turn-opened bs o w e = scan-more (scan true (left bs) waits steps) refl ∙ rw e
 
   pub turn-whole : (bs : List ℕ) (o : Rest) (s : Step Place) → begun (left bs) ≡ whole s o
-      → work (machine true (left bs) waits steps) ≡ work (machine false o waits (steps ++ (s ∷ [])))
-  unfolding turn begin goesOn found
-  turn-whole bs o s e = work-more (machine true (left bs) waits steps) refl ∙ rw e
+      → scanAll (scan true (left bs) waits steps) ≡ scanAll (scan false o waits (steps ++ (s ∷ [])))
+  unfolding scanTurn begin scanMore found
+  turn-whole bs o s e = scan-more (scan true (left bs) waits steps) refl ∙ rw e
 
   pub turn-space : (r : List ℕ) (s : Step Place) (n : ℕ)
-      → work (machine false (left r) (waiting s (suc n) ∷ waits) steps) ≡ work (machine true (mark space (left r)) (waiting s n ∷ waits) steps)
-  unfolding turn goesOn found
-  turn-space r s n = work-more (machine false (left r) (waiting s (suc n) ∷ waits) steps) refl
+      → scanAll (scan false (left r) (waiting s (suc n) ∷ waits) steps) ≡ scanAll (scan true (mark space (left r)) (waiting s n ∷ waits) steps)
+  unfolding scanTurn scanMore found
+  turn-space r s n = scan-more (scan false (left r) (waiting s (suc n) ∷ waits) steps) refl
 
   pub turn-close : (r : List ℕ) (s : Step Place)
-      → work (machine false (left r) (waiting s zero ∷ waits) steps) ≡ work (machine false (mark close-bracket (left r)) waits (steps ++ (s ∷ [])))
-  unfolding turn goesOn found
-  turn-close r s = work-more (machine false (left r) (waiting s zero ∷ waits) steps) refl
+      → scanAll (scan false (left r) (waiting s zero ∷ waits) steps) ≡ scanAll (scan false (mark close-bracket (left r)) waits (steps ++ (s ∷ [])))
+  unfolding scanTurn scanMore found
+  turn-close r s = scan-more (scan false (left r) (waiting s zero ∷ waits) steps) refl
 
 -- How a printed expression begins
 
@@ -167,17 +167,17 @@ begun-pick r = refl
 
 module _ (waits : List Waiting) where
   next-operand : (r : List ℕ) (s : Step Place) (n : ℕ) (steps : List (Step Place))
-      → work (machine false (left (32 ∷ r)) (waiting s (suc n) ∷ waits) steps) ≡ work (machine true (left r) (waiting s n ∷ waits) steps)
+      → scanAll (scan false (left (32 ∷ r)) (waiting s (suc n) ∷ waits) steps) ≡ scanAll (scan true (left r) (waiting s n ∷ waits) steps)
   unfolding mark markIn must classOf
   next-operand r s n steps = turn-space waits steps (32 ∷ r) s n
 
   last-operand : (r : List ℕ) (s : Step Place) (steps : List (Step Place))
-      → work (machine false (left (41 ∷ r)) (waiting s zero ∷ waits) steps) ≡ work (machine false (left r) waits (steps ++ (s ∷ [])))
+      → scanAll (scan false (left (41 ∷ r)) (waiting s zero ∷ waits) steps) ≡ scanAll (scan false (left r) waits (steps ++ (s ∷ [])))
   unfolding mark markIn must classOf
   last-operand r s steps = turn-close waits steps (41 ∷ r) s
 
 pub steps-read : (e : Expr) (r : List ℕ) (waits : List Waiting) (steps : List (Step Place)) → ExpressionFits e → no-digit decimal r ≡ true
-    → work (machine true (left (printExpression e r)) waits steps) ≡ work (machine false (left r) waits (steps ++ postfix e))
+    → scanAll (scan true (left (printExpression e r)) waits steps) ≡ scanAll (scan false (left r) waits (steps ++ postfix e))
 unfolding printExpression postfix literal bytes no-digit digitOf classOf
 steps-read (number n) r waits steps (number-fits h) k = turn-whole waits steps (write decimal n r) (left r) (push n) (begun-written n r h k)
 steps-read (leaf p) r waits steps (leaf-fits h) k = turn-whole waits steps (printPlace p r) (left r) (load p) (begun-place p r h)
@@ -205,13 +205,13 @@ steps-read (pick c x y) r waits steps (pick-fits h₁ h₂ h₃) k =
 
 pub expression-steps : (e : Expr) (r : List ℕ) → ExpressionFits e → no-digit decimal r ≡ true
     → expressionSteps (left (printExpression e r)) ≡ parsed (postfix e) (left r)
-unfolding expressionSteps outcome goesOn
-expression-steps e r h k = ap outcome (steps-read e r [] [] h k ∙ work-stop (machine false (left r) [] (postfix e)) refl)
+unfolding expressionSteps outcome scanMore
+expression-steps e r h k = ap outcome (steps-read e r [] [] h k ∙ scan-stop (scan false (left r) [] (postfix e)) refl)
 
 pub expression-reads : (e : Expr) (r : List ℕ) → ExpressionFits e → no-digit decimal r ≡ true → expression (left (printExpression e r)) ≡ parsed e (left r)
-unfolding expression item after
+unfolding expression result remaining
 expression-reads e r h k = rw (expression-steps e r h k, term-postfix e)
 
-pub expression-size : (o : Rest) → size (after (expression o)) ≤ size o
-unfolding expression after
+pub expression-size : (o : Rest) → size (remaining (expression o)) ≤ size o
+unfolding expression remaining
 expression-size o = steps-size o

@@ -1,6 +1,6 @@
--- An expression that was read was printed: where the machine ends with something left, the text is an expression in front of it.
+-- An expression that was read was printed: where the loop ends with something left, the text is an expression in front of it.
 -- Assumes nothing.
-use Prim.Native.Nat.{ℕ, zero, suc, _<_}
+use Prim.Native.Nat.{ℕ, zero, suc, _+_, _≤_, _<_}
 use mathlib.Core.Path.{_≡_, refl, sym, ap, _∙_}
 use mathlib.Core.Bool.{Bool, true, false}
 use mathlib.Core.List.{List, [], _∷_, _++_, append-assoc}
@@ -20,11 +20,11 @@ use Rattle.grammar.specs.Postfix.{Step, push, load, operate, select, pos
 use Rattle.grammar.specs.Printer.{bytes, literal}
 use Rattle.grammar.specs.Print.{printPlace, printOperator, printExpression}
 use Rattle.grammar.specs.Ordered.{Fits, PlaceFits, own-fits, at-fits, val-fits, ExpressionFits, number-fits, leaf-fits, both-fits, pick-fits}
-use Rattle.grammar.specs.Reader.{parsed, item, after, Reader, naming}
+use Rattle.grammar.specs.Reader.{parsed, result, remaining, Reader, naming}
 use Rattle.grammar.specs.ReaderLaws.{open-got, close-got, space-got, number-got, keyword-got, naming-got, spelling}
-use Rattle.grammar.specs.Expression.{Waiting, waiting, Begun, opened, whole, ownPlace, atPlace, valPlace, wholeOf, bracket, begun, Machine, machine}
-use Rattle.grammar.specs.Expression.{goesOn, work, outcome, expressionSteps, expression}
-use Rattle.grammar.specs.ExpressionReads.{either-cases, begun-bracket, begun-number, sizeBegun, begun-less, work-stop, turn-opened, turn-whole}
+use Rattle.grammar.specs.Expression.{Waiting, waiting, Begun, opened, whole, ownPlace, atPlace, valPlace, wholeOf, bracket, begun, Scan, scan}
+use Rattle.grammar.specs.Expression.{scanMore, scanAll, outcome, expressionSteps, expression}
+use Rattle.grammar.specs.ExpressionReads.{either-cases, begun-bracket, begun-number, sizeBegun, begun-less, scan-stop, turn-opened, turn-whole}
 use Rattle.grammar.specs.ExpressionReads.{turn-space, turn-close}
 
 -- How an expression begins
@@ -49,28 +49,28 @@ module _ (bs : List ℕ) (word : ℕ) (o : Rest) (text : (r : List ℕ) → o �
   operator-case : (f : Operator) → ((r : List ℕ) → 40 ∷ write letters word (32 ∷ r) ≡ printOperator f r) → Begins bs (opened (waiting (operate f) 1) o)
   operator-case f spells = opened-case (waiting (operate f) 1) λ r e. by-operator f r (text r e ∙ spells r)
 
-  place-case : (one : Reader (Step Place)) → ((r : List ℕ) → after (one o) ≡ left r → Begins bs (whole (item (one o)) (left r))) → Begins bs (wholeOf (one o))
+  place-case : (one : Reader (Step Place)) → ((r : List ℕ) → remaining (one o) ≡ left r → Begins bs (whole (result (one o)) (left r))) → Begins bs (wholeOf (one o))
   unfolding wholeOf
-  place-case one k = go (after (one o)) refl
+  place-case one k = go (remaining (one o)) refl
     where
-      go : (o₁ : Rest) → after (one o) ≡ o₁ → Begins bs (whole (item (one o)) o₁)
-      go lost e = by-fault (item (one o))
+      go : (o₁ : Rest) → remaining (one o) ≡ o₁ → Begins bs (whole (result (one o)) o₁)
+      go lost e = by-fault (result (one o))
       go (left r) e = k r e
 
   own-case : word ≡ wordOf "own" → Begins bs (wholeOf (ownPlace o))
-  unfolding ownPlace item after printPlace spelling
+  unfolding ownPlace result remaining printPlace spelling
   own-case w =
       place-case ownPlace λ r e. close-got _ e λ e₁. number-got _ e₁ λ e₂ h. keyword-got _ _ e₂ λ e₃.
       by-place (own (value decimal (keyword (wordOf "i") o))) r (text _ e₃ ∙ rw w) (own-fits h)
 
   at-case : word ≡ wordOf "at" → Begins bs (wholeOf (atPlace o))
-  unfolding atPlace item after printPlace spelling
+  unfolding atPlace result remaining printPlace spelling
   at-case w =
       place-case atPlace λ r e. close-got _ e λ e₁. number-got _ e₁ λ e₂ h. naming-got _ _ e₂ λ e₃. number-got _ e₃ λ e₄ k.
       by-place (at (value decimal o) (value decimal (naming (wordOf "s") (past decimal o)))) r (text _ e₄ ∙ rw w) (at-fits k h)
 
   val-case : word ≡ wordOf "val" → Begins bs (wholeOf (valPlace o))
-  unfolding valPlace item after printPlace spelling
+  unfolding valPlace result remaining printPlace spelling
   val-case w =
       place-case valPlace λ r e. close-got _ e λ e₁. number-got _ e₁ λ e₂ h. by-place (val (value decimal o)) r (text _ e₂ ∙ rw w) (val-fits h)
 
@@ -107,70 +107,93 @@ begun-begins bs = go (found (mark open-bracket (left bs))) refl
     go true h = rw (begun-bracket (left bs) h) (bracket-begins bs (value letters word) (mark space (past letters word)) text)
     go false h = rw (begun-number (left bs) h) (number-begins bs)
 
+-- an operator's bracket takes five bytes or more, which bounds how deep a text can nest
+pub opened-cost : (bs r : List ℕ) (w : Waiting) → begun (left bs) ≡ opened w (left r) → 5 + length r ≤ length bs
+unfolding printOperator literal bytes
+opened-cost bs r w e = go (begun (left bs)) (begun-begins bs) e
+  where
+    operator-length : (o : Operator) (r₁ : List ℕ) → length (printOperator o r₁) ≡ 5 + length r₁
+    operator-length add r₁ = omega arith
+    operator-length sub r₁ = omega arith
+    operator-length min r₁ = omega arith
+    operator-length max r₁ = omega arith
+
+    go : (b : Begun) → Begins bs b → b ≡ opened w (left r) → 5 + length r ≤ length bs
+    go b (by-operator o r₁ p) q =
+        let z : r₁ ≡ r = cc in
+        omega (arith, ap length p, operator-length o r₁, ap length z)
+    go b (by-pick r₁ p) q =
+        let z : r₁ ≡ r = cc in
+        omega (arith, ap length p, ap length z)
+    go b (by-number n r₁ p h) q = absurd (let z : _≡_ {A = ℕ} 0 1 = cc in let y : ⊥ = omega arith in y)
+    go b (by-place c r₁ p h) q = absurd (let z : _≡_ {A = ℕ} 0 1 = cc in let y : ⊥ = omega arith in y)
+    go b (by-fault-opened v) q = absurd (let z : _≡_ {A = ℕ} 0 1 = cc in let y : ⊥ = omega arith in y)
+    go b (by-fault s) q = absurd (let z : _≡_ {A = ℕ} 0 1 = cc in let y : ⊥ = omega arith in y)
+
 -- From the end of a run back to its beginning
 
 -- whether the run read an expression
-unfoldable pub alive : Machine → Bool
-alive m = found (after (outcome m))
+unfoldable pub alive : Scan → Bool
+alive m = found (remaining (outcome m))
 
-lost-stops : (due : Bool) (waits : List Waiting) (steps : List (Step Place)) → goesOn (machine due lost waits steps) ≡ false
-unfolding goesOn found
+lost-stops : (due : Bool) (waits : List Waiting) (steps : List (Step Place)) → scanMore (scan due lost waits steps) ≡ false
+unfolding scanMore found
 lost-stops true waits steps = refl
 lost-stops false [] steps = refl
 lost-stops false (w ∷ waits) steps = refl
 
-lost-run : (due : Bool) (waits : List Waiting) (steps : List (Step Place)) → alive (work (machine due lost waits steps)) ≡ true → ⊥
-unfolding alive outcome after found
+lost-run : (due : Bool) (waits : List Waiting) (steps : List (Step Place)) → alive (scanAll (scan due lost waits steps)) ≡ true → ⊥
+unfolding alive outcome remaining found
 lost-run due waits steps h =
-    let z : _≡_ {A = Bool} false true = sym (ap alive (work-stop (machine due lost waits steps) (lost-stops due waits steps))) ∙ h in
+    let z : _≡_ {A = Bool} false true = sym (ap alive (scan-stop (scan due lost waits steps) (lost-stops due waits steps))) ∙ h in
     let y : _≡_ {A = ℕ} 0 1 = cc in omega arith
 
 module _ {C : Type 0} (r : List ℕ) (s : Step Place) (waits : List Waiting) (steps : List (Step Place)) where
-  space-was : (n : ℕ) → alive (work (machine false (left r) (waiting s (suc n) ∷ waits) steps)) ≡ true
+  space-was : (n : ℕ) → alive (scanAll (scan false (left r) (waiting s (suc n) ∷ waits) steps)) ≡ true
       → ((r₁ : List ℕ) → r ≡ 32 ∷ r₁
-      → work (machine false (left r) (waiting s (suc n) ∷ waits) steps) ≡ work (machine true (left r₁) (waiting s n ∷ waits) steps) → C) → C
+      → scanAll (scan false (left r) (waiting s (suc n) ∷ waits) steps) ≡ scanAll (scan true (left r₁) (waiting s n ∷ waits) steps) → C) → C
   space-was n h k = go (mark space (left r)) refl
     where
       go : (o : Rest) → mark space (left r) ≡ o → C
       go lost e = absurd (lost-run true (waiting s n ∷ waits) steps (rw (turn-space waits steps r s n, e) at h))
       go (left r₁) e = space-got (left r) e λ p. k r₁ (left-is p) (turn-space waits steps r s n ∙ rw e)
 
-  close-was : alive (work (machine false (left r) (waiting s zero ∷ waits) steps)) ≡ true
+  close-was : alive (scanAll (scan false (left r) (waiting s zero ∷ waits) steps)) ≡ true
       → ((r₁ : List ℕ) → r ≡ 41 ∷ r₁
-      → work (machine false (left r) (waiting s zero ∷ waits) steps) ≡ work (machine false (left r₁) waits (steps ++ (s ∷ []))) → C) → C
+      → scanAll (scan false (left r) (waiting s zero ∷ waits) steps) ≡ scanAll (scan false (left r₁) waits (steps ++ (s ∷ []))) → C) → C
   close-was h k = go (mark close-bracket (left r)) refl
     where
       go : (o : Rest) → mark close-bracket (left r) ≡ o → C
       go lost e = absurd (lost-run false waits (steps ++ (s ∷ [])) (rw (turn-close waits steps r s, e) at h))
       go (left r₁) e = close-got (left r) e λ p. k r₁ (left-is p) (turn-close waits steps r s ∙ rw e)
 
--- the text was an expression e in front of r, and the machine has read it
+-- the text was an expression e in front of r, and the loop has read it
 record Was (bs : List ℕ) (waits : List Waiting) (steps : List (Step Place)) : Type 0 where
   e : Expr
   r : List ℕ
   text : bs ≡ printExpression e r
   fits : ExpressionFits e
   shorter : length r < length bs
-  same : work (machine true (left bs) waits steps) ≡ work (machine false (left r) waits (steps ++ postfix e))
+  same : scanAll (scan true (left bs) waits steps) ≡ scanAll (scan false (left r) waits (steps ++ postfix e))
 
 abbrev Shorter : ℕ → Type 0
 Shorter g = (bs : List ℕ) (waits : List Waiting) (steps : List (Step Place)) → length bs < g
-    → alive (work (machine true (left bs) waits steps)) ≡ true → Was bs waits steps
+    → alive (scanAll (scan true (left bs) waits steps)) ≡ true → Was bs waits steps
 
 -- an operand and what stands after it, in a run m
-module _ {C : Type 0} (g : ℕ) (ih : Shorter g) (m : Machine) (s : Step Place) (r : List ℕ) (waits : List Waiting) (steps : List (Step Place))
+module _ {C : Type 0} (g : ℕ) (ih : Shorter g) (m : Scan) (s : Step Place) (r : List ℕ) (waits : List Waiting) (steps : List (Step Place))
     (l : length r < g) (h : alive m ≡ true) where
-  operand-space : (n : ℕ) → m ≡ work (machine true (left r) (waiting s (suc n) ∷ waits) steps)
+  operand-space : (n : ℕ) → m ≡ scanAll (scan true (left r) (waiting s (suc n) ∷ waits) steps)
       → ((e : Expr) (r₁ : List ℕ) → r ≡ printExpression e (32 ∷ r₁) → ExpressionFits e → length r₁ < length r
-      → m ≡ work (machine true (left r₁) (waiting s n ∷ waits) (steps ++ postfix e)) → C) → C
+      → m ≡ scanAll (scan true (left r₁) (waiting s n ∷ waits) (steps ++ postfix e)) → C) → C
   operand-space n same k =
       let w : Was r (waiting s (suc n) ∷ waits) steps = ih r (waiting s (suc n) ∷ waits) steps l (sym (ap alive same) ∙ h) in
       space-was (w .r) s waits (steps ++ postfix (w .e)) n (sym (ap alive (same ∙ w .same)) ∙ h) λ r₁ p q.
       k (w .e) r₁ (w .text ∙ ap (printExpression (w .e)) p) (w .fits) (omega (arith, w .shorter, ap length p)) (same ∙ (w .same ∙ q))
 
-  operand-close : m ≡ work (machine true (left r) (waiting s zero ∷ waits) steps)
+  operand-close : m ≡ scanAll (scan true (left r) (waiting s zero ∷ waits) steps)
       → ((e : Expr) (r₁ : List ℕ) → r ≡ printExpression e (41 ∷ r₁) → ExpressionFits e → length r₁ < length r
-      → m ≡ work (machine false (left r₁) waits ((steps ++ postfix e) ++ (s ∷ []))) → C) → C
+      → m ≡ scanAll (scan false (left r₁) waits ((steps ++ postfix e) ++ (s ∷ []))) → C) → C
   operand-close same k =
       let w : Was r (waiting s zero ∷ waits) steps = ih r (waiting s zero ∷ waits) steps l (sym (ap alive same) ∙ h) in
       close-was (w .r) s waits (steps ++ postfix (w .e)) (sym (ap alive (same ∙ w .same)) ∙ h) λ r₁ p q.
@@ -185,10 +208,10 @@ unfolding size sizeBegun found
 whole-less bs r s e = omega (arith, begun-less (left bs) refl, ap sizeBegun e)
 
 both-was : (g : ℕ) → Shorter g → (o : Operator) (bs r₀ : List ℕ) (waits : List Waiting) (steps : List (Step Place)) → length bs < suc g → bs ≡ printOperator o r₀
-    → begun (left bs) ≡ opened (waiting (operate o) 1) (left r₀) → alive (work (machine true (left bs) waits steps)) ≡ true → Was bs waits steps
+    → begun (left bs) ≡ opened (waiting (operate o) 1) (left r₀) → alive (scanAll (scan true (left bs) waits steps)) ≡ true → Was bs waits steps
 unfolding printExpression postfix literal bytes
 both-was g ih o bs r₀ waits steps l p q h =
-    let m : Machine = work (machine true (left bs) waits steps) in
+    let m : Scan = scanAll (scan true (left bs) waits steps) in
     let l₀ : length r₀ < length bs = opened-less bs r₀ (waiting (operate o) 1) q in
     operand-space g ih m (operate o) r₀ waits steps (omega arith) h 0 (turn-opened waits steps bs (left r₀) (waiting (operate o) 1) q) λ x r₁ p₁ f₁ l₁ m₁.
     operand-close g ih m (operate o) r₁ waits (steps ++ postfix x) (omega arith) h m₁ λ y r₂ p₂ f₂ l₂ m₂.
@@ -202,10 +225,10 @@ both-was g ih o bs r₀ waits steps l p q h =
     }
 
 pick-was : (g : ℕ) → Shorter g → (bs r₀ : List ℕ) (waits : List Waiting) (steps : List (Step Place)) → length bs < suc g → bs ≡ literal "(pick " r₀
-    → begun (left bs) ≡ opened (waiting select 2) (left r₀) → alive (work (machine true (left bs) waits steps)) ≡ true → Was bs waits steps
+    → begun (left bs) ≡ opened (waiting select 2) (left r₀) → alive (scanAll (scan true (left bs) waits steps)) ≡ true → Was bs waits steps
 unfolding printExpression postfix literal bytes
 pick-was g ih bs r₀ waits steps l p q h =
-    let m : Machine = work (machine true (left bs) waits steps) in
+    let m : Scan = scanAll (scan true (left bs) waits steps) in
     let l₀ : length r₀ < length bs = opened-less bs r₀ (waiting select 2) q in
     operand-space g ih m select r₀ waits steps (omega arith) h 1 (turn-opened waits steps bs (left r₀) (waiting select 2) q) λ c r₁ p₁ f₁ l₁ m₁.
     operand-space g ih m select r₁ waits (steps ++ postfix c) (omega arith) h 0 m₁ λ x r₂ p₂ f₂ l₂ m₂.
@@ -244,25 +267,25 @@ pub record Stood (bs r : List ℕ) : Type 0 where
   pub fits : ExpressionFits e
   pub steps : expressionSteps (left bs) ≡ parsed (postfix e) (left r)
 
-pub steps-were : (bs r : List ℕ) → after (expressionSteps (left bs)) ≡ left r → Stood bs r
-unfolding expressionSteps outcome goesOn after alive
+pub steps-were : (bs r : List ℕ) → remaining (expressionSteps (left bs)) ≡ left r → Stood bs r
+unfolding expressionSteps outcome scanMore remaining alive
 steps-were bs r h =
-    let w : Was bs [] [] = was (suc (length bs)) bs [] [] (omega arith) (found-left (after (outcome (work (machine true (left bs) [] [])))) h) in
+    let w : Was bs [] [] = was (suc (length bs)) bs [] [] (omega arith) (found-left (remaining (outcome (scanAll (scan true (left bs) [] [])))) h) in
     let z : expressionSteps (left bs) ≡ parsed (postfix (w .e)) (left (w .r)) =
-    ap outcome (w .same ∙ work-stop (machine false (left (w .r)) [] (postfix (w .e))) refl) in
-    let y : w .r ≡ r = left-is (sym (ap after z) ∙ h) in
+    ap outcome (w .same ∙ scan-stop (scan false (left (w .r)) [] (postfix (w .e))) refl) in
+    let y : w .r ≡ r = left-is (sym (ap remaining z) ∙ h) in
     record { e = w .e; text = w .text ∙ ap (printExpression (w .e)) y; fits = w .fits; steps = z ∙ ap (λ x. parsed (postfix (w .e)) (left x)) y }
 
-lost-steps : after (expressionSteps lost) ≡ lost
-unfolding expressionSteps outcome after
-lost-steps = ap (λ m. after (outcome m)) (work-stop (machine true lost [] []) (lost-stops true [] []))
+lost-steps : remaining (expressionSteps lost) ≡ lost
+unfolding expressionSteps outcome remaining
+lost-steps = ap (λ m. remaining (outcome m)) (scan-stop (scan true lost [] []) (lost-stops true [] []))
 
 -- what was read as an expression was printed
-pub expression-was : {C : Type 0} {r : List ℕ} (o : Rest) → after (expression o) ≡ left r
-    → (o ≡ left (printExpression (item (expression o)) r) → ExpressionFits (item (expression o)) → C) → C
-unfolding expression item after
+pub expression-was : {C : Type 0} {r : List ℕ} (o : Rest) → remaining (expression o) ≡ left r
+    → (o ≡ left (printExpression (result (expression o)) r) → ExpressionFits (result (expression o)) → C) → C
+unfolding expression result remaining
 expression-was lost h k = absurd (lost≢left (sym lost-steps ∙ h))
 expression-was {r = r} (left bs) h k =
     let w : Stood bs r = steps-were bs r h in
-    let z : termOf (item (expressionSteps (left bs))) ≡ w .e = ap (λ p. termOf (item p)) (w .steps) ∙ term-postfix (w .e) in
+    let z : termOf (result (expressionSteps (left bs))) ≡ w .e = ap (λ p. termOf (result p)) (w .steps) ∙ term-postfix (w .e) in
     k (ap left (w .text ∙ ap (λ e. printExpression e r) (sym z))) (rw z (w .fits))

@@ -21,7 +21,7 @@ use Rattle.grammar.specs.Print.{printSymbol, printInherited, printSynthe
 use Rattle.grammar.specs.Print.{printKernel, printGo}
 use Rattle.grammar.specs.Ordered.{Ascends, inheritedKey, synthesizedKey, kernelKey, goKey, lookaheadKey, Every, Lookaheads, Fits, SymbolFits}
 use Rattle.grammar.specs.Ordered.{terminal-fits, nonterminal-fits, RuleFits, InheritedFits, SynthesizedFits, KernelFits, GoFits}
-use Rattle.grammar.specs.Reader.{parsed, item, after, opening, naming}
+use Rattle.grammar.specs.Reader.{parsed, result, remaining, opening, naming}
 use Rattle.grammar.specs.ReaderLaws.{space-got, number-got, due-got, keyword-got, closing-got, naming-got, opening-got, shrinking, opening-less}
 use Rattle.grammar.specs.ReaderLaws.{naming-less, word-ends, number-reads, reading, spelling}
 use Rattle.grammar.specs.OrderLaws.{before-true, true-before, Numbering, Following, every-along, along-every, ascends-along, along-ascends, along-fits}
@@ -32,7 +32,7 @@ use Rattle.grammar.specs.ExpressionWas.{expression-was}
 use Rattle.grammar.specs.Parse.{symbolOf, symbol, ownerLine, symbols, ruleLine, inheritedDefinitionLine, synthesizedDefinitionLine, lookahead, lookaheads}
 use Rattle.grammar.specs.Parse.{kernelLine, goLine}
 
--- What may stand after an item
+-- What may stand after an element
 
 abbrev pub Anything : List ℕ → Type 0
 Anything r = Unit {0}
@@ -56,9 +56,9 @@ letter-was w K r h k = by-letter (eqb w (wordOf "t")) refl (eqb w (wordOf "n")) 
     by-letter false p true q = rw p (record { text = rw (eqb-true w (wordOf "n") q); fine = nonterminal-fits k })
     by-letter false p false q = absurd (false≢true (rw (p, q) at h))
 
-pub symbol-was : {C : Type 0} {r : List ℕ} (o : Rest) → after (symbol o) ≡ left r
-    → (o ≡ left (printSymbol (item (symbol o)) r) → SymbolFits (item (symbol o)) → C) → C
-unfolding symbol item after
+pub symbol-was : {C : Type 0} {r : List ℕ} (o : Rest) → remaining (symbol o) ≡ left r
+    → (o ≡ left (printSymbol (result (symbol o)) r) → SymbolFits (result (symbol o)) → C) → C
+unfolding symbol result remaining
 symbol-was {r = r} o e k =
     number-got _ e λ e₁ h. must-got _ _ e₁ λ t e₂. past-got letters letters-positional o e₂ λ bs e₃ e₄ l.
     let w = letter-was (value letters o) _ r t h in
@@ -80,9 +80,9 @@ symbol-inverse = record {
   was = λ s bs r e. symbol-was (mark space (left bs)) e λ e₁ h. space-got (left bs) e₁ λ e₂. record { text = left-is e₂; fine = h };
 }
 
-lookahead-was : (last bs r : List ℕ) → after (lookahead last (naming (wordOf "t") (left bs))) ≡ left r
-    → Stands (λ a. literal " t" · numeral a) (Following lookaheadKey Fits last) bs (item (lookahead last (naming (wordOf "t") (left bs)))) r
-unfolding lookahead lookaheadKey item after spelling
+lookahead-was : (last bs r : List ℕ) → remaining (lookahead last (naming (wordOf "t") (left bs))) ≡ left r
+    → Stands (λ a. literal " t" · numeral a) (Following lookaheadKey Fits last) bs (result (lookahead last (naming (wordOf "t") (left bs)))) r
+unfolding lookahead lookaheadKey result remaining spelling
 lookahead-was last bs r e =
     must-got _ _ e λ t e₁. number-got _ e₁ λ e₂ h. naming-got _ _ e₂ λ e₃.
     record { text = left-is e₃; fine = record { above = before-true last _ t; fits = h } }
@@ -117,14 +117,14 @@ symbols-read xs r h d e =
     section-reads (mark space) (λ (s : Unit {0}). symbol) (λ s X. s) (λ s. printRight) (λ s. SymbolFits) NoDigit
     (λ s. each printRight) symbol-inverse (each-prints (λ s X. s) printRight) tt xs r (every-along h) d e
 
-pub symbols-were : {C : Type 0} {r : List ℕ} (o : Rest) → after (symbols o) ≡ left r
-    → (o ≡ left (each printRight (item (symbols o)) r) → Every SymbolFits (item (symbols o)) → C) → C
+pub symbols-were : {C : Type 0} {r : List ℕ} (o : Rest) → remaining (symbols o) ≡ left r
+    → (o ≡ left (each printRight (result (symbols o)) r) → Every SymbolFits (result (symbols o)) → C) → C
 unfolding symbols
 symbols-were o e k =
     section-was (mark space) (λ (s : Unit {0}). symbol) (λ s X. s) (λ s. printRight) (λ s. SymbolFits) NoDigit
     (λ s. each printRight) symbol-inverse (each-prints (λ s X. s) printRight) tt o e λ e₁ h. k e₁ (along-every h)
 
-most-symbols : (m : ℕ) (o : Rest) → size o ≤ m → size (after (symbols o)) ≤ m
+most-symbols : (m : ℕ) (o : Rest) → size o ≤ m → size (remaining (symbols o)) ≤ m
 unfolding symbols
 most-symbols m o h =
     omega (arith, section-size (mark space) (λ (s : Unit {0}). symbol) (λ s X. s) (symbol-inverse .head-less) (symbol-inverse .one-less) tt o)
@@ -139,30 +139,30 @@ lookaheads-read xs r a h d e =
     section-reads (naming (wordOf "t")) lookahead (λ last. lookaheadKey) (λ last. printLookahead) (Following lookaheadKey Fits) NoDigit
     (λ last. each printLookahead) lookahead-inverse (each-prints (λ last. lookaheadKey) printLookahead) [] xs r (ascends-along a h) d e
 
-pub lookaheads-were : {C : Type 0} {r : List ℕ} (o : Rest) → after (lookaheads o) ≡ left r
-    → (o ≡ left (each printLookahead (item (lookaheads o)) r) → Ascends lookaheadKey [] (item (lookaheads o)) → Every Fits (item (lookaheads o)) → C) → C
+pub lookaheads-were : {C : Type 0} {r : List ℕ} (o : Rest) → remaining (lookaheads o) ≡ left r
+    → (o ≡ left (each printLookahead (result (lookaheads o)) r) → Ascends lookaheadKey [] (result (lookaheads o)) → Every Fits (result (lookaheads o)) → C) → C
 unfolding lookaheads
 lookaheads-were o e k =
     section-was (naming (wordOf "t")) lookahead (λ last. lookaheadKey) (λ last. printLookahead) (Following lookaheadKey Fits) NoDigit
     (λ last. each printLookahead) lookahead-inverse (each-prints (λ last. lookaheadKey) printLookahead) [] o e λ e₁ h. k e₁ (along-ascends h) (along-fits h)
 
-most-lookaheads : (m : ℕ) (o : Rest) → size o ≤ m → size (after (lookaheads o)) ≤ m
+most-lookaheads : (m : ℕ) (o : Rest) → size o ≤ m → size (remaining (lookaheads o)) ≤ m
 unfolding lookaheads
 most-lookaheads m o h =
     omega (arith, section-size (naming (wordOf "t")) lookahead (λ last. lookaheadKey) (lookahead-inverse .head-less) (lookahead-inverse .one-less) [] o)
 
-most-expression : (m : ℕ) (o : Rest) → size o ≤ m → size (after (expression o)) ≤ m
+most-expression : (m : ℕ) (o : Rest) → size o ≤ m → size (remaining (expression o)) ≤ m
 most-expression m o h = omega (arith, expression-size o)
 
-most-symbol : (m : ℕ) (o : Rest) → size o ≤ m → size (after (symbol o)) ≤ m
-unfolding symbol item after
+most-symbol : (m : ℕ) (o : Rest) → size o ≤ m → size (remaining (symbol o)) ≤ m
+unfolding symbol result remaining
 most-symbol m o h = search shrinking depth 20
 
 -- Lines that state an owner
 
-inherited-was : (K : ℕ) (bs r : List ℕ) → after (ownerLine (wordOf "i") K (opening (wordOf "inh") (left bs))) ≡ left r
-    → Stands (printInherited K) (Numbering Fits K) bs (item (ownerLine (wordOf "i") K (opening (wordOf "inh") (left bs)))) r
-unfolding ownerLine item after printInherited spelling
+inherited-was : (K : ℕ) (bs r : List ℕ) → remaining (ownerLine (wordOf "i") K (opening (wordOf "inh") (left bs))) ≡ left r
+    → Stands (printInherited K) (Numbering Fits K) bs (result (ownerLine (wordOf "i") K (opening (wordOf "inh") (left bs)))) r
+unfolding ownerLine result remaining printInherited spelling
 inherited-was K bs r e =
     closing-got _ e λ e₁. number-got _ e₁ λ e₂ h. naming-got _ _ e₂ λ e₃. due-got K _ e₃ λ e₄ k. keyword-got _ _ e₄ λ e₅. opening-got _ _ e₅ λ e₆.
     record { text = left-is e₆; fine = record { number = k; fits = h } }
@@ -178,9 +178,9 @@ inherited-inverse = record {
   was = inherited-was;
 }
 
-synthesized-was : (K : ℕ) (bs r : List ℕ) → after (ownerLine (wordOf "s") K (opening (wordOf "syn") (left bs))) ≡ left r
-    → Stands (printSynthesized K) (Numbering Fits K) bs (item (ownerLine (wordOf "s") K (opening (wordOf "syn") (left bs)))) r
-unfolding ownerLine item after printSynthesized spelling
+synthesized-was : (K : ℕ) (bs r : List ℕ) → remaining (ownerLine (wordOf "s") K (opening (wordOf "syn") (left bs))) ≡ left r
+    → Stands (printSynthesized K) (Numbering Fits K) bs (result (ownerLine (wordOf "s") K (opening (wordOf "syn") (left bs)))) r
+unfolding ownerLine result remaining printSynthesized spelling
 synthesized-was K bs r e =
     closing-got _ e λ e₁. number-got _ e₁ λ e₂ h. naming-got _ _ e₂ λ e₃. due-got K _ e₃ λ e₄ k. keyword-got _ _ e₄ λ e₅. opening-got _ _ e₅ λ e₆.
     record { text = left-is e₆; fine = record { number = k; fits = h } }
@@ -202,9 +202,9 @@ right-ends : (xs : List Symbol) (r : List ℕ) → NoDigit (each printRight xs (
 unfolding reading
 right-ends xs r = list-ends printRight (λ X r. refl) xs (literal ")\n" r) refl
 
-rule-was : (K : ℕ) (bs r : List ℕ) → after (ruleLine K (opening (wordOf "rule") (left bs))) ≡ left r
-    → Stands (printRule K) (Numbering RuleFits K) bs (item (ruleLine K (opening (wordOf "rule") (left bs)))) r
-unfolding ruleLine item after printRule spelling
+rule-was : (K : ℕ) (bs r : List ℕ) → remaining (ruleLine K (opening (wordOf "rule") (left bs))) ≡ left r
+    → Stands (printRule K) (Numbering RuleFits K) bs (result (ruleLine K (opening (wordOf "rule") (left bs)))) r
+unfolding ruleLine result remaining printRule spelling
 rule-was K bs r e =
     closing-got _ e λ e₁. symbols-were _ e₁ λ e₂ hs. number-got _ e₂ λ e₃ h. naming-got _ _ e₃ λ e₄. due-got K _ e₄ λ e₅ k. opening-got _ _ e₅ λ e₆.
     record { text = left-is e₆; fine = record { number = k; fits = record { left = h; right = hs } } }
@@ -232,9 +232,9 @@ rule-inverse = record {
 
 -- Definitions
 
-inherited-definition-was : (last bs r : List ℕ) → after (inheritedDefinitionLine last (opening (wordOf "inhdef") (left bs))) ≡ left r
-    → Stands printInheritedDefinition (Following inheritedKey InheritedFits last) bs (item (inheritedDefinitionLine last (opening (wordOf "inhdef") (left bs)))) r
-unfolding inheritedDefinitionLine inheritedKey item after printInheritedDefinition spelling
+inherited-definition-was : (last bs r : List ℕ) → remaining (inheritedDefinitionLine last (opening (wordOf "inhdef") (left bs))) ≡ left r
+    → Stands printInheritedDefinition (Following inheritedKey InheritedFits last) bs (result (inheritedDefinitionLine last (opening (wordOf "inhdef") (left bs)))) r
+unfolding inheritedDefinitionLine inheritedKey result remaining printInheritedDefinition spelling
 inherited-definition-was last bs r e =
     must-got _ _ e λ t e₁. closing-got _ e₁ λ e₂. expression-was _ e₂ λ e₃ h. space-got _ e₃ λ e₄. number-got _ e₄ λ e₅ k. naming-got _ _ e₅ λ e₆.
     number-got _ e₆ λ e₇ j. space-got _ e₇ λ e₈. number-got _ e₈ λ e₉ p. opening-got _ _ e₉ λ e₁₀.
@@ -265,10 +265,10 @@ inherited-definition-inverse = record {
   was = inherited-definition-was;
 }
 
-synthesized-definition-was : (last bs r : List ℕ) → after (synthesizedDefinitionLine last (opening (wordOf "syndef") (left bs))) ≡ left r
+synthesized-definition-was : (last bs r : List ℕ) → remaining (synthesizedDefinitionLine last (opening (wordOf "syndef") (left bs))) ≡ left r
     → Stands printSynthesizedDefinition (Following synthesizedKey SynthesizedFits last) bs
-    (item (synthesizedDefinitionLine last (opening (wordOf "syndef") (left bs)))) r
-unfolding synthesizedDefinitionLine synthesizedKey item after printSynthesizedDefinition spelling
+    (result (synthesizedDefinitionLine last (opening (wordOf "syndef") (left bs)))) r
+unfolding synthesizedDefinitionLine synthesizedKey result remaining printSynthesizedDefinition spelling
 synthesized-definition-was last bs r e =
     must-got _ _ e λ t e₁. closing-got _ e₁ λ e₂. expression-was _ e₂ λ e₃ h. space-got _ e₃ λ e₄. number-got _ e₄ λ e₅ k. naming-got _ _ e₅ λ e₆.
     number-got _ e₆ λ e₇ p. opening-got _ _ e₇ λ e₈.
@@ -307,9 +307,9 @@ lookaheads-end : (xs r : List ℕ) → NoDigit (each printLookahead xs (literal 
 unfolding reading
 lookaheads-end xs r = list-ends printLookahead (λ a r. refl) xs (literal ")\n" r) refl
 
-kernel-was : (last bs r : List ℕ) → after (kernelLine last (opening (wordOf "kernel") (left bs))) ≡ left r
-    → Stands printKernel (Following kernelKey KernelFine last) bs (item (kernelLine last (opening (wordOf "kernel") (left bs)))) r
-unfolding kernelLine kernelKey item after printKernel spelling
+kernel-was : (last bs r : List ℕ) → remaining (kernelLine last (opening (wordOf "kernel") (left bs))) ≡ left r
+    → Stands printKernel (Following kernelKey KernelFine last) bs (result (kernelLine last (opening (wordOf "kernel") (left bs)))) r
+unfolding kernelLine kernelKey result remaining printKernel spelling
 kernel-was last bs r e =
     must-got _ _ e λ t e₁. closing-got _ e₁ λ e₂. must-got _ _ e₂ λ u e₃. lookaheads-were _ e₃ λ e₄ up hs. number-got _ e₄ λ e₅ d. space-got _ e₅ λ e₆.
     number-got _ e₆ λ e₇ p. space-got _ e₇ λ e₈. number-got _ e₈ λ e₉ s. opening-got _ _ e₉ λ e₁₀.
@@ -345,9 +345,9 @@ kernel-inverse = record {
   was = kernel-was;
 }
 
-go-was : (last bs r : List ℕ) → after (goLine last (opening (wordOf "go") (left bs))) ≡ left r
-    → Stands printGo (Following goKey GoFits last) bs (item (goLine last (opening (wordOf "go") (left bs)))) r
-unfolding goLine goKey item after printGo spelling
+go-was : (last bs r : List ℕ) → remaining (goLine last (opening (wordOf "go") (left bs))) ≡ left r
+    → Stands printGo (Following goKey GoFits last) bs (result (goLine last (opening (wordOf "go") (left bs)))) r
+unfolding goLine goKey result remaining printGo spelling
 go-was last bs r e =
     must-got _ _ e λ t e₁. closing-got _ e₁ λ e₂. number-got _ e₂ λ e₃ m. space-got _ e₃ λ e₄. symbol-was _ e₄ λ e₅ x. space-got _ e₅ λ e₆. number-got _ e₆ λ e₇ s.
     opening-got _ _ e₇ λ e₈.

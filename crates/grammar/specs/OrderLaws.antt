@@ -1,41 +1,72 @@
 -- Laws of order: keys compared by the reader, and what the lines of a section meet one after another.
 -- Assumes nothing.
-use Prim.Native.Nat.{ℕ, suc, _+_, _≤_}
-use mathlib.Core.Path.{_≡_, refl}
+use Prim.Native.Nat.{ℕ, suc, _+_, _≤_, _<_}
+use mathlib.Core.Path.{_≡_, refl, sym, ap, _∙_}
 use mathlib.Core.Bool.{Bool, true, false, false≢true}
-use mathlib.Core.List.{List, [], _∷_}
+use mathlib.Core.List.{List, [], _∷_, List·Memᴰ as Mem, List·Memᴰ·head as in-head, List·Memᴰ·tail as in-tail}
 use native.Mathlib.Omega.{arith}
 use lib.Dec.{eqb, ltb}
 use lib.ListN.{length}
 use borrow.Author.Tests.{eqb-true, eq-eqb, ltb-true, lt-ltb, le-ltb}
 use Rattle.grammar.specs.Limits.{NUMBERS}
-use Rattle.grammar.specs.Ordered.{Before, empty, less, same, Ascends, ascends-[], ascends-∷, Every, every-[], every-∷, Fits, Numbered}
+use Rattle.grammar.specs.Ordered.{Before, before-empty, before-less, before-same, Ascends, ascends-[], ascends-∷, Every, every-[], every-∷, Fits, Numbered}
 use Rattle.grammar.specs.SectionLaws.{Along, along-[], along-∷}
-use Rattle.grammar.specs.Parse.{before}
+use Rattle.grammar.specs.Parse.{isBefore}
 
 -- Order of keys, decided
 
-pub before-true : (xs ys : List ℕ) → before xs ys ≡ true → Before xs ys
-unfolding before
+pub before-true : (xs ys : List ℕ) → isBefore xs ys ≡ true → Before xs ys
+unfolding isBefore
 before-true [] [] h = absurd (false≢true h)
-before-true [] (y ∷ ys) h = empty
+before-true [] (y ∷ ys) h = before-empty
 before-true (x ∷ xs) [] h = absurd (false≢true h)
 before-true (x ∷ xs) (y ∷ ys) h = go (ltb x y) (eqb x y) refl refl (before-true xs ys)
   where
-    go : (s t : Bool) → ltb x y ≡ s → eqb x y ≡ t → (before xs ys ≡ true → Before xs ys) → Before (x ∷ xs) (y ∷ ys)
-    go true t p q ih = less (ltb-true x y p)
+    go : (s t : Bool) → ltb x y ≡ s → eqb x y ≡ t → (isBefore xs ys ≡ true → Before xs ys) → Before (x ∷ xs) (y ∷ ys)
+    go true t p q ih = before-less (ltb-true x y p)
     go false true p q ih =
-        let z = rw (p, before) at h in
-        rw (← eqb-true x y q) (same (ih (rw q at z)))
+        let z = rw (p, isBefore) at h in
+        rw (← eqb-true x y q) (before-same (ih (rw q at z)))
     go false false p q ih =
-        let z = rw (p, before) at h in
+        let z = rw (p, isBefore) at h in
         absurd (false≢true (rw q at z))
 
-pub true-before : {xs ys : List ℕ} → Before xs ys → before xs ys ≡ true
-unfolding before
-true-before empty = refl
-true-before (less {x = x} {y = y} h) = rw (lt-ltb x y h, before)
-true-before (same {x = x} h) = rw (le-ltb x x (omega arith), before) (rw (eq-eqb x x refl) (true-before h))
+pub true-before : {xs ys : List ℕ} → Before xs ys → isBefore xs ys ≡ true
+unfolding isBefore
+true-before before-empty = refl
+true-before (before-less {x = x} {y = y} h) = rw (lt-ltb x y h, isBefore)
+true-before (before-same {x = x} h) = rw (le-ltb x x (omega arith), isBefore) (rw (eq-eqb x x refl) (true-before h))
+
+-- Keys that ascend are all different
+
+before-trans : {xs ys zs : List ℕ} → Before xs ys → Before ys zs → Before xs zs
+before-trans before-empty (before-less k) = before-empty
+before-trans before-empty (before-same k) = before-empty
+before-trans (before-less {x = x} {y = y} h) (before-less {y = z} k) =
+    let l : x < z = omega arith in
+    before-less l
+before-trans (before-less h) (before-same k) = before-less h
+before-trans (before-same h) (before-less k) = before-less k
+before-trans (before-same h) (before-same k) = before-same (before-trans h k)
+
+before-differs : {xs ys : List ℕ} → Before xs ys → xs ≡ ys → ⊥
+before-differs before-empty e = let z : _≡_ {A = ℕ} 0 1 = cc in omega arith
+before-differs (before-less {x = x} {y = y} h) e =
+    let z : x ≡ y = cc in
+    omega arith
+before-differs (before-same {xs = xs} {ys = ys} h) e = before-differs h (let z : xs ≡ ys = cc in z)
+
+module _ {A : Type 0} {key : A → List ℕ} where
+  ascends-above : {last : List ℕ} {xs : List A} {x : A} → Ascends key last xs → Mem x xs → Before last (key x)
+  ascends-above (ascends-∷ b bs) (in-head e) = rw e b
+  ascends-above (ascends-∷ b bs) (in-tail m) = before-trans b (ascends-above bs m)
+
+  -- one line for each key
+  pub ascends-unique : {last : List ℕ} {xs : List A} {x y : A} → Ascends key last xs → Mem x xs → Mem y xs → key x ≡ key y → x ≡ y
+  ascends-unique (ascends-∷ b bs) (in-head p) (in-head q) e = p ∙ sym q
+  ascends-unique (ascends-∷ b bs) (in-head p) (in-tail n) e = absurd (before-differs (ascends-above bs n) (ap key (sym p) ∙ e))
+  ascends-unique (ascends-∷ b bs) (in-tail m) (in-head q) e = absurd (before-differs (ascends-above bs m) (ap key (sym q) ∙ sym e))
+  ascends-unique (ascends-∷ b bs) (in-tail m) (in-tail n) e = ascends-unique bs m n e
 
 -- What a line meets: a number K that fits, or a key above the last
 

@@ -14,9 +14,9 @@ use Rattle.grammar.specs.Print.{printBook}
 
 -- one key stands strictly before another, number by number; the empty key before all others
 pub data Before : List ℕ → List ℕ → Type 0 where
-  empty : {y : ℕ} {ys : List ℕ} → Before [] (y ∷ ys)
-  less : {x y : ℕ} {xs ys : List ℕ} → x < y → Before (x ∷ xs) (y ∷ ys)
-  same : {x : ℕ} {xs ys : List ℕ} → Before xs ys → Before (x ∷ xs) (x ∷ ys)
+  before-empty : {y : ℕ} {ys : List ℕ} → Before [] (y ∷ ys)
+  before-less : {x y : ℕ} {xs ys : List ℕ} → x < y → Before (x ∷ xs) (y ∷ ys)
+  before-same : {x : ℕ} {xs ys : List ℕ} → Before xs ys → Before (x ∷ xs) (x ∷ ys)
 
 -- the keys ascend strictly, from a last key on
 pub data Ascends {A : Type 0} (key : A → List ℕ) : List ℕ → List A → Type 0 where

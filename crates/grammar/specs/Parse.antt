@@ -16,11 +16,11 @@ use Rattle.grammar.specs.Reader.{Parsed, parsed, Reader, pure, _>>=_, _>
 use Rattle.grammar.specs.Expression.{expression}
 
 -- whether a key stands strictly before another
-unfoldable pub before : List ℕ → List ℕ → Bool
-before [] [] = false
-before [] (y ∷ ys) = true
-before (x ∷ xs) [] = false
-before (x ∷ xs) (y ∷ ys) = elim (ltb x y) [ true ↦ true | false ↦ elim (eqb x y) [ true ↦ before xs ys | false ↦ false ] ]
+unfoldable pub isBefore : List ℕ → List ℕ → Bool
+isBefore [] [] = false
+isBefore [] (y ∷ ys) = true
+isBefore (x ∷ xs) [] = false
+isBefore (x ∷ xs) (y ∷ ys) = elim (ltb x y) [ true ↦ true | false ↦ elim (eqb x y) [ true ↦ isBefore xs ys | false ↦ false ] ]
 
 -- a symbol's letter is t or n
 unfoldable pub symbolOf : Bool → ℕ → Symbol
@@ -72,7 +72,7 @@ inheritedDefinitionLine last = do
   mark space
   e ← expression
   closing
-  must (before last (P ∷ J ∷ K ∷ []))
+  must (isBefore last (P ∷ J ∷ K ∷ []))
   pure (record { rule = P; position = J; attribute = K; expression = e })
 
 unfoldable pub synthesizedDefinitionLine : List ℕ → Reader SynthesizedDefinition
@@ -83,13 +83,13 @@ synthesizedDefinitionLine last = do
   mark space
   e ← expression
   closing
-  must (before last (P ∷ K ∷ []))
+  must (isBefore last (P ∷ K ∷ []))
   pure (record { rule = P; attribute = K; expression = e })
 
 unfoldable pub lookahead : List ℕ → Reader ℕ
 lookahead last = do
   a ← decimalNumber
-  must (before last (a ∷ []))
+  must (isBefore last (a ∷ []))
   pure a
 
 unfoldable pub lookaheads : Reader (List ℕ)
@@ -105,7 +105,7 @@ kernelLine last = do
   terminals ← lookaheads
   must (ltb 0 (length terminals))
   closing
-  must (before last (S ∷ P ∷ D ∷ []))
+  must (isBefore last (S ∷ P ∷ D ∷ []))
   pure (record { state = S; rule = P; dot = D; lookaheads = terminals })
 
 unfoldable pub goLine : List ℕ → Reader Go
@@ -116,7 +116,7 @@ goLine last = do
   mark space
   M ← decimalNumber
   closing
-  must (before last (S ∷ symbolKey X))
+  must (isBefore last (S ∷ symbolKey X))
   pure (record { state = S; symbol = X; target = M })
 
 -- The sections
@@ -183,6 +183,6 @@ parseBook text = ended (bookText (left text))
 
 -- opens every definition of this module
 unfoldable pub opens : Unit {0}
-unfolding before symbolOf symbol ownerLine symbols ruleLine inheritedDefinitionLine synthesizedDefinitionLine lookahead lookaheads kernelLine goLine ownerLines
+unfolding isBefore symbolOf symbol ownerLine symbols ruleLine inheritedDefinitionLine synthesizedDefinitionLine lookahead lookaheads kernelLine goLine ownerLines
     ruleLines inheritedDefinitionLines synthesizedDefinitionLines kernelLines goLines endLine bookText ended parseBook
 opens = tt

@@ -9,7 +9,7 @@ use Rattle.text.specs.Rest.{lost, left}
 use Rattle.grammar.specs.Book.{Book}
 use Rattle.grammar.specs.Print.{printBook}
 use Rattle.grammar.specs.Ordered.{Spelled, SpelledText}
-use Rattle.grammar.specs.Reader.{Parsed, parsed, item, after}
+use Rattle.grammar.specs.Reader.{Parsed, parsed, result, remaining}
 use Rattle.grammar.specs.Parse.{bookText, ended, parseBook}
 use Rattle.grammar.specs.ParseReads.{book-reads}
 use Rattle.grammar.specs.ParseWas.{book-was}
@@ -21,8 +21,8 @@ parse-print b h = rw (book-reads b h)
 none≢some : {b : Book} → none ≡ some b → ⊥
 none≢some e = let z : _≡_ {A = ℕ} 0 1 = cc in omega arith
 
-ended-got : {C : Type 0} {b : Book} (p : Parsed Book) → ended p ≡ some b → (item p ≡ b → after p ≡ left [] → C) → C
-unfolding ended item after
+ended-got : {C : Type 0} {b : Book} (p : Parsed Book) → ended p ≡ some b → (result p ≡ b → remaining p ≡ left [] → C) → C
+unfolding ended result remaining
 ended-got (parsed c lost) e k = absurd (none≢some e)
 ended-got (parsed c (left [])) e k = k (cc) refl
 ended-got (parsed c (left (x ∷ xs))) e k = absurd (none≢some e)

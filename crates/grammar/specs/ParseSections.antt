@@ -11,7 +11,7 @@ use Rattle.text.specs.Rest.{Rest, left, found, must, mark}
 use Rattle.text.specs.Numeral.{letters, value, keyword}
 use Rattle.grammar.specs.Printer.{Printer, each, numbered}
 use Rattle.grammar.specs.Ordered.{Ascending, Every, Numbered}
-use Rattle.grammar.specs.Reader.{parsed, item, after, Reader, opening, section}
+use Rattle.grammar.specs.Reader.{parsed, result, remaining, Reader, opening, section}
 use Rattle.grammar.specs.OrderLaws.{Numbering, Following, numbers-along, along-numbers, ascends-along, along-ascends, along-fits}
 use Rattle.grammar.specs.SectionLaws.{Inverse, Prints, section-reads, section-was}
 use Rattle.grammar.specs.LineLaws.{Anything, each-prints}
@@ -73,8 +73,8 @@ module _ {A : Type 0} {P : A → Type 0} (w : ℕ) (one : ℕ → Reader A) (pri
       section-reads (opening w) one (λ K x. suc K) print (Numbering P) Anything (numbered print) I (numbered-prints print)
       0 xs r (numbers-along h) tt (other-word w words r d k)
 
-  pub numbered-was : {C : Type 0} {r : List ℕ} (o : Rest) → after (numberedLines o) ≡ left r
-      → (o ≡ left (numbered print 0 (item (numberedLines o)) r) → Numbered P (item (numberedLines o)) → C) → C
+  pub numbered-was : {C : Type 0} {r : List ℕ} (o : Rest) → remaining (numberedLines o) ≡ left r
+      → (o ≡ left (numbered print 0 (result (numberedLines o)) r) → Numbered P (result (numberedLines o)) → C) → C
   numbered-was o e k =
       section-was (opening w) one (λ K x. suc K) print (Numbering P) Anything (numbered print) I (numbered-prints print) 0 o e λ e₁ h. k e₁ (along-numbers h)
 
@@ -91,8 +91,8 @@ module _ {A : Type 0} {P : A → Type 0} (w : ℕ) (one : List ℕ → Reader A)
       section-reads (opening w) one (λ last. key) (λ last. print) (Following key P) Anything (λ last. each print) I (each-prints (λ last. key) print)
       [] xs r (ascends-along a h) tt (other-word w words r d k)
 
-  pub ordered-was : {C : Type 0} {r : List ℕ} (o : Rest) → after (orderedLines o) ≡ left r
-      → (o ≡ left (each print (item (orderedLines o)) r) → Ascending key (item (orderedLines o)) → Every P (item (orderedLines o)) → C) → C
+  pub ordered-was : {C : Type 0} {r : List ℕ} (o : Rest) → remaining (orderedLines o) ≡ left r
+      → (o ≡ left (each print (result (orderedLines o)) r) → Ascending key (result (orderedLines o)) → Every P (result (orderedLines o)) → C) → C
   ordered-was o e k =
       section-was (opening w) one (λ last. key) (λ last. print) (Following key P) Anything (λ last. each print) I (each-prints (λ last. key) print)
       [] o e λ e₁ h. k e₁ (along-ascends h) (along-fits h)

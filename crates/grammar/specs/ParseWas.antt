@@ -9,7 +9,7 @@ use Rattle.text.specs.Numeral.{letters, write, wordOf}
 use Rattle.grammar.specs.Print.{printHeader, printInherited, printSynthesized, printRule, printInheritedDefinition, printSynthesizedDefinition}
 use Rattle.grammar.specs.Print.{printKernel, printGo, printBook}
 use Rattle.grammar.specs.Ordered.{inheritedKey, synthesizedKey, kernelKey, goKey, Spelled}
-use Rattle.grammar.specs.Reader.{item, after}
+use Rattle.grammar.specs.Reader.{result, remaining}
 use Rattle.grammar.specs.ReaderLaws.{open-got, space-got, number-got, keyword-got, closing-got, opening-got, spelling}
 use Rattle.grammar.specs.OrderLaws.{every-first, every-second}
 use Rattle.grammar.specs.LineLaws.{inherited-inverse, synthesized-inverse, rule-inverse, inherited-definition-inverse, synthesized-definition-inverse}
@@ -22,8 +22,8 @@ end-got : {C : Type 0} {r : List ℕ} (o : Rest) → endLine o ≡ left r → (o
 unfolding endLine
 end-got o e k = closing-got _ e λ e₁. keyword-got _ _ e₁ λ e₂. open-got o e₂ k
 
-pub book-was : (text : List ℕ) → after (bookText (left text)) ≡ left [] → (text ≡ printBook (item (bookText (left text)))) × Spelled (item (bookText (left text)))
-unfolding bookText item after ownerLines ruleLines inheritedDefinitionLines synthesizedDefinitionLines kernelLines goLines printBook printHeader spelling
+pub book-was : (text : List ℕ) → remaining (bookText (left text)) ≡ left [] → (text ≡ printBook (result (bookText (left text)))) × Spelled (result (bookText (left text)))
+unfolding bookText result remaining ownerLines ruleLines inheritedDefinitionLines synthesizedDefinitionLines kernelLines goLines printBook printHeader spelling
 book-was text e =
     end-got _ e λ e₁.
     ordered-was (wordOf "go") goLine goKey printGo go-inverse _ e₁ λ e₂ go-up go-fits.

@@ -96,21 +96,21 @@ module _ {A : Type 0} where
   run-eval ρ t steps stack = run-postfix (evaluating ρ) t steps stack ∙ rw (meaning-eval ρ t)
 
   -- the term on top of a stack; the number 0 on none
-  unfoldable pub top : List (Term A) → Term A
-  top [] = number 0
-  top (t ∷ stack) = t
+  unfoldable pub topTerm : List (Term A) → Term A
+  topTerm [] = number 0
+  topTerm (t ∷ stack) = t
 
   -- the term that the steps build
   unfoldable pub termOf : List (Step A) → Term A
-  termOf steps = top (run building steps [])
+  termOf steps = topTerm (run building steps [])
 
   pub term-postfix : (t : Term A) → termOf (postfix t) ≡ t
-  unfolding termOf top run
+  unfolding termOf topTerm run
   term-postfix t =
-      ap (λ (steps : List (Step A)). top (run building steps [])) (sym (append-nil (postfix t)))
-      ∙ (ap top (run-postfix building t [] []) ∙ meaning-build t)
+      ap (λ (steps : List (Step A)). topTerm (run building steps [])) (sym (append-nil (postfix t)))
+      ∙ (ap topTerm (run-postfix building t [] []) ∙ meaning-build t)
 
 -- opens every definition of this module
 unfoldable pub opens : Unit {0}
-unfolding postfix meaning step run top termOf
+unfolding postfix meaning step run topTerm termOf
 opens = tt

@@ -10,11 +10,11 @@ use Rattle.text.specs.Numeral.{decimal, value, past, keyword}
 pub data Parsed (A : Type 0) : Type 0 where
   parsed : A → Rest → Parsed A
 
-unfoldable pub item : {A : Type 0} → Parsed A → A
-item (parsed x o) = x
+unfoldable pub result : {A : Type 0} → Parsed A → A
+result (parsed x o) = x
 
-unfoldable pub after : {A : Type 0} → Parsed A → Rest
-after (parsed x o) = o
+unfoldable pub remaining : {A : Type 0} → Parsed A → Rest
+remaining (parsed x o) = o
 
 abbrev pub Reader : Type 0 → Type 0
 Reader A = Rest → Parsed A
@@ -23,7 +23,7 @@ abbrev pub pure : {A : Type 0} → A → Reader A
 pure x = λ o. parsed x o
 
 abbrev pub _>>=_ : {A B : Type 0} → Reader A → (A → Reader B) → Reader B
-_>>=_ p f = λ o. f (item (p o)) (after (p o))
+_>>=_ p f = λ o. f (result (p o)) (remaining (p o))
 
 abbrev pub _>>_ : {A : Type 0} → (Rest → Rest) → Reader A → Reader A
 _>>_ f p = λ o. p (f o)
@@ -42,7 +42,7 @@ closing o = mark line-feed (mark close-bracket o)
 unfoldable pub naming : ℕ → Rest → Rest
 naming letter o = keyword letter (mark space o)
 
--- items as long as their head is found; the state says what may come next, and fuel is the size of what is left
+-- elements as long as their head is found; the state says what may come next, and fuel is the size of what is left
 module _ {A S : Type 0} (head : Rest → Rest) (one : S → Reader A) (next : S → A → S) where
   unfoldable pub many : ℕ → S → Reader (List A)
   many zero s o = parsed [] o
@@ -57,5 +57,5 @@ module _ {A S : Type 0} (head : Rest → Rest) (one : S → Reader A) (next : S 
 
 -- opens every definition of this module
 unfoldable pub opens : Unit {0}
-unfolding item after opening closing naming many section
+unfolding result remaining opening closing naming many section
 opens = tt

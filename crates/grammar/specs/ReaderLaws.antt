@@ -18,7 +18,7 @@ use Rattle.text.specs.NumeralLaws.{number-written, written-head, size-past, siz
 use Rattle.text.specs.NumeralLaws.{number-got as number-text, keyword-got as keyword-text}
 use Rattle.grammar.specs.Printer.{bytes, literal}
 use Rattle.grammar.specs.Ordered.{Fits}
-use Rattle.grammar.specs.Reader.{item, after, opening, closing, naming}
+use Rattle.grammar.specs.Reader.{result, remaining, opening, closing, naming}
 
 -- From a reader that left r to what it was given
 
@@ -124,7 +124,7 @@ number-reads n r h k = number-written n r (omega arith) k
 
 -- opens all that reading computes with, and nothing of writing
 unfoldable pub reading : Unit {0}
-unfolding classOf found must markIn mark digitOf digits numeral numberOf restOf read value past spelled keyword no-digit bytes literal item after opening
+unfolding classOf found must markIn mark digitOf digits numeral numberOf restOf read value past spelled keyword no-digit bytes literal result remaining opening
     closing naming
 reading = tt
 

@@ -1,5 +1,5 @@
 -- Reading expressions of any depth (01, "Spelling of a book"), by a loop that keeps the operators that wait for operands and gives the
--- expression's steps in postfix order, one at each closing bracket. Assumes nothing.
+-- expression's steps in postfix order, one at each closing bracket and each number. Assumes nothing.
 use Prim.Native.Nat.{ℕ, zero, suc}
 use mathlib.Core.Bool.{Bool, true, false}
 use mathlib.Core.List.{List, [], _∷_, _++_}

@@ -1,4 +1,4 @@
--- Laws of the readers: what a reader that went on was given, how much it leaves, and that a section reads just the items that were printed.
+-- Laws of the readers: what a reader that went on was given, how much it leaves, and that what was printed is read.
 -- Assumes nothing.
 use Prim.Native.Nat.{ℕ, _≤_, _<_}
 use mathlib.Core.Path.{_≡_, ap, _∙_}

@@ -7,7 +7,8 @@ use mathlib.Core.List.{List, [], _∷_, List·Memᴰ as Mem, List·Memᴰ·head 
 use lib.ListN.{length}
 use Rattle.grammar.specs.Symbol.{Symbol, terminal, nonterminal, Rule, leftOf, rightOf}
 use Rattle.grammar.specs.Book.{Book, Kernel, Go}
-use Rattle.grammar.specs.Ordered.{Before, empty, less, same, Ascends, ascends-[], ascends-∷, Every, every-[], every-∷, Lookaheads, Ordered, kernelKey, goKey, symbolKey}
+use Rattle.grammar.specs.Ordered.{Ascends, ascends-[], ascends-∷, Every, every-[], every-∷, Lookaheads, Ordered, kernelKey, goKey, symbolKey}
+use Rattle.grammar.specs.OrderLaws.{before-differs, ascends-above}
 use Rattle.grammar.specs.Conditions.{WithinLimits, Declared, RightSymbol}
 use Rattle.grammar.specs.ConditionsLaws.{symbols-declared, left-declared}
 use Rattle.grammar.specs.Small.{numberOf, Low, low-all, SmallBook}
@@ -15,28 +16,10 @@ use Rattle.grammar.specs.WellNamed.{Distinct, none, next, SameItem, Same
 
 -- strict ascent leaves no two lines of one key
 
-before-apart : {u v : List ℕ} → Before u v → u ≡ v → ⊥
-before-apart empty e = let z : _≡_ {A = ℕ} 0 1 = cc in omega arith
-before-apart (less {x = x} {y = y} l) e = let q : x ≡ y = cc in omega arith
-before-apart (same b) e = before-apart b (cc)
-
-before-trans : {u v w : List ℕ} → Before u v → Before v w → Before u w
-before-trans empty (less l) = empty
-before-trans empty (same b) = empty
-before-trans (less {x = x} l) (less {y = z} m) = let q : x < z = omega arith in less q
-before-trans (less l) (same b) = less l
-before-trans (same a) (less m) = less m
-before-trans (same a) (same b) = same (before-trans a b)
-
 module _ {A : Type 0} {key : A → List ℕ} {Same : A → A → Type 0} (same-key : (x y : A) → Same x y → key x ≡ key y) where
-  beyond : {u : List ℕ} {xs : List A} → Ascends key u xs → (y : A) → Mem y xs → Before u (key y)
-  beyond ascends-[] y m = absurd (List·Memᴰ·not-nil m)
-  beyond (ascends-∷ h a) y (in-head e) = rw e h
-  beyond (ascends-∷ h a) y (in-tail m) = before-trans h (beyond a y m)
-
-  ascent-distinct : {u : List ℕ} {xs : List A} → Ascends key u xs → Distinct Same xs
+  ascent-distinct : {last : List ℕ} {xs : List A} → Ascends key last xs → Distinct Same xs
   ascent-distinct ascends-[] = none
-  ascent-distinct (ascends-∷ {x = x} h a) = next (λ y m s. before-apart (beyond a y m) (same-key x y s)) (ascent-distinct a)
+  ascent-distinct (ascends-∷ {x = x} h a) = next (λ y m s. before-differs (ascends-above a m) (same-key x y s)) (ascent-distinct a)
 
 kernel-same : (k l : Kernel) → SameItem k l → kernelKey k ≡ kernelKey l
 unfolding kernelKey

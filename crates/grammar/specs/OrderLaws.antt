@@ -49,7 +49,7 @@ before-trans (before-less h) (before-same k) = before-less h
 before-trans (before-same h) (before-less k) = before-less k
 before-trans (before-same h) (before-same k) = before-same (before-trans h k)
 
-before-differs : {xs ys : List ℕ} → Before xs ys → xs ≡ ys → ⊥
+pub before-differs : {xs ys : List ℕ} → Before xs ys → xs ≡ ys → ⊥
 before-differs before-empty e = let z : _≡_ {A = ℕ} 0 1 = cc in omega arith
 before-differs (before-less {x = x} {y = y} h) e =
     let z : x ≡ y = cc in
@@ -57,7 +57,7 @@ before-differs (before-less {x = x} {y = y} h) e =
 before-differs (before-same {xs = xs} {ys = ys} h) e = before-differs h (let z : xs ≡ ys = cc in z)
 
 module _ {A : Type 0} {key : A → List ℕ} where
-  ascends-above : {last : List ℕ} {xs : List A} {x : A} → Ascends key last xs → Mem x xs → Before last (key x)
+  pub ascends-above : {last : List ℕ} {xs : List A} {x : A} → Ascends key last xs → Mem x xs → Before last (key x)
   ascends-above (ascends-∷ b bs) (in-head e) = rw e b
   ascends-above (ascends-∷ b bs) (in-tail m) = before-trans b (ascends-above bs m)
 

@@ -1,0 +1,1 @@
+// The LR(1) side of a book: nullable and FIRST, closures, kernel rules (7), go rules (8), actions and conflicts (9).

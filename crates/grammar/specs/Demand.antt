@@ -15,7 +15,7 @@ use Rattle.grammar.specs.Machine.{Tables, refused, accepted, evaluate}
 use Rattle.grammar.specs.Premises.{Premises}
 
 -- "at most 512 nodes and a stack need of at most 128"
-pub record WithinLimits (t : Tree) : Type 0 where
+pub record SmallTree (t : Tree) : Type 0 where
   pub few-nodes : size t ≤ MAX-ROWS
   pub small-need : need t ≤ MAX-STACK
 
@@ -34,7 +34,7 @@ module _ (b : Book) where
   module _ (T : Tables) where
     pub record Demand3 (ks : List Token) : Type 0 where
       -- "the list is accepted exactly when it is the leaves of some parse tree that has at most 512 nodes and a stack need of at most 128"
-      pub exactly : ((rs : List Row) × (evaluate b T ks ≡ accepted rs)) ↔ ((t : Tree) × TreeOf ks t × WithinLimits t)
+      pub exactly : ((rs : List Row) × (evaluate b T ks ≡ accepted rs)) ↔ ((t : Tree) × TreeOf ks t × SmallTree t)
       -- "Then no other tree of any size has those leaves"
       pub one-tree : {rs : List Row} → evaluate b T ks ≡ accepted rs → (t u : Tree) → TreeOf ks t → TreeOf ks u → t ≡ u
       -- "The row count is the number of that tree's nodes"

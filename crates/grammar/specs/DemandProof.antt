@@ -20,7 +20,7 @@ use Rattle.grammar.specs.Complete.{Told, taken, over, told}
 use Rattle.grammar.specs.Rebuild.{rows-tell}
 use Rattle.grammar.specs.Soundness.{sound}
 use Rattle.grammar.specs.Premises.{Premises}
-use Rattle.grammar.specs.Demand.{WithinLimits, TreeOf, Valued, Demand3Met}
+use Rattle.grammar.specs.Demand.{SmallTree, TreeOf, Valued, Demand3Met}
 
 module _ (b : Book) (T : Tables) (H : Premises b T) where
   values-of : (t : Tree) → (d : Decorated) × Valued b t d
@@ -36,7 +36,7 @@ module _ (b : Book) (T : Tables) (H : Premises b T) where
 
   -- what the machine says of a tree's tokens
   data Says (t : Tree) (d : Decorated) : Answer → Type 0 where
-    takes : WithinLimits t → Says t d (accepted (rows b d 0))
+    takes : SmallTree t → Says t d (accepted (rows b d 0))
     exceeds : {x : Answer} → Over 0 0 (size t) (need t) x → Says t d x
 
   says : {ks : List Token} {t : Tree} {d : Decorated} → TreeOf b ks t → Valued b t d → Says t d (evaluate b T ks)
@@ -50,20 +50,20 @@ module _ (b : Book) (T : Tables) (H : Premises b T) where
 
       finish : Told b T d → Says t d (evaluate b T ks)
       finish (taken e h n) =
-          let l : WithinLimits (erase d) = record { few-nodes = h; small-need = n } in
+          let l : SmallTree (erase d) = record { few-nodes = h; small-need = n } in
           rw (answer e) (takes (rw (u .its-tree) at l))
       finish (over {x = x} e o) = rw (answer e) (exceeds {x = x} (rw (u .its-tree) at o))
 
   accepted-rows : {ks : List Token} {t : Tree} {d : Decorated} {rs : List Row} → TreeOf b ks t → Valued b t d → evaluate b T ks ≡ accepted rs
-      → (rs ≡ rows b d 0) × WithinLimits t
+      → (rs ≡ rows b d 0) × SmallTree t
   accepted-rows {ks} {t} {d} {rs} q u e = by e (says q u)
     where
-      by : {x : Answer} → x ≡ accepted rs → Says t d x → (rs ≡ rows b d 0) × WithinLimits t
+      by : {x : Answer} → x ≡ accepted rs → Says t d x → (rs ≡ rows b d 0) × SmallTree t
       by e (takes l) = (cc, l)
       by e (exceeds (rows-over h)) = let f : _≡_ {A = ℕ} 0 1 = cc in absurd (omega arith)
       by e (exceeds (symbols-over h)) = let f : _≡_ {A = ℕ} 0 1 = cc in absurd (omega arith)
 
-  within-accepted : {ks : List Token} {t : Tree} → TreeOf b ks t → WithinLimits t → (rs : List Row) × (evaluate b T ks ≡ accepted rs)
+  within-accepted : {ks : List Token} {t : Tree} → TreeOf b ks t → SmallTree t → (rs : List Row) × (evaluate b T ks ≡ accepted rs)
   within-accepted {ks} {t} q l = let (d, u) = values-of t in by refl (says q u)
     where
       by : {x : Answer} {d : Decorated} → evaluate b T ks ≡ x → Says t d x → (rs : List Row) × (evaluate b T ks ≡ accepted rs)
@@ -79,7 +79,7 @@ module _ (b : Book) (T : Tables) (H : Premises b T) where
       by e (exceeds (rows-over h)) = let f : _≡_ {A = ℕ} 15 16 = cc in omega arith
       by e (exceeds (symbols-over h)) = let f : _≡_ {A = ℕ} 15 17 = cc in omega arith
 
-  accepted-tree : {ks : List Token} {rs : List Row} → TokensOf b ks → evaluate b T ks ≡ accepted rs → (t : Tree) × TreeOf b ks t × WithinLimits t
+  accepted-tree : {ks : List Token} {rs : List Row} → TokensOf b ks → evaluate b T ks ≡ accepted rs → (t : Tree) × TreeOf b ks t × SmallTree t
   accepted-tree {ks} os e =
       let (t, s, l) = sound b T H os (rw e at (evaluate-ends b T ks)) in
       let q : TreeOf b ks t = record { stands = s; its-leaves = l } in

@@ -30,6 +30,8 @@ pub mod DecoratedLaws
 pub mod DefinitionLaws
 pub mod Demand
 pub mod DemandProof
+pub mod Demands
+pub mod DemandsProof
 pub mod Engine
 pub mod Expression
 pub mod ExpressionReads
@@ -89,6 +91,7 @@ pub mod Repeat
 pub mod Rows
 pub mod RowsLaws
 pub mod RunLaws
+pub mod RunRefusals
 pub mod Runs
 pub mod SameFormula
 pub mod SectionLaws
@@ -103,6 +106,7 @@ pub mod Soundness
 pub mod StateCases
 pub mod States
 pub mod StatesCheck
+pub mod StoredLaws
 pub mod Symbol
 pub mod TakenPremises
 pub mod Term

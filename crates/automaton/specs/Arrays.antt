@@ -7,16 +7,16 @@ use mathlib.Core.Option.{Option, none, some}
 use mathlib.Core.List.{List, []}
 use lib.ListN.{length, getD, take, drop}
 use Rattle.grammar.specs.Limits.{MAX-RULES, MAX-STATES}
-use Rattle.grammar.specs.Symbol.{Symbol, Rule, rightOf, after}
-use Rattle.grammar.specs.Book.{Book, Kernel}
-use Rattle.grammar.specs.States.{Action, shift, accept, reduce, goIn}
-use Rattle.grammar.specs.Fixpoint.{setAt}
-use Rattle.grammar.specs.FirstSets.{Sets, null, first}
-use Rattle.grammar.specs.ReachSets.{reachIn}
-use Rattle.grammar.specs.ClosureSets.{kernelsIn, closureSets}
-use Rattle.grammar.specs.Conditions.{GoSymbol}
-use Rattle.grammar.specs.Actions.{Cell, free, act, conflict}
-use Rattle.grammar.specs.Compiled.{itemsTable, cellsTable}
+use Rattle.grammar.specs.Data.Symbol.{Symbol, Rule, rightOf, after}
+use Rattle.grammar.specs.Data.Book.{Book, Kernel}
+use Rattle.grammar.specs.Automaton.States.{Action, shift, accept, reduce, goIn}
+use Rattle.grammar.specs.Automaton.Fixpoint.{setAt}
+use Rattle.grammar.specs.Automaton.FirstSets.{Sets, null, first}
+use Rattle.grammar.specs.Automaton.ReachSets.{reachIn}
+use Rattle.grammar.specs.Automaton.ClosureSets.{kernelsIn, closureSets}
+use Rattle.grammar.specs.Conditions.Meaning.{GoSymbol}
+use Rattle.grammar.specs.Automaton.Actions.{Cell, free, act, conflict}
+use Rattle.grammar.specs.Automaton.Compiled.{itemsTable, cellsTable}
 use Rattle.book.specs.Layout.{symbolCode}
 
 unfoldable pub flag : Bool → ℕ

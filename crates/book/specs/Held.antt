@@ -14,11 +14,11 @@ use Rattle.grammar.specs.Limits.{
   MAX-KERNELS,
   MAX-GOES,
 }
-use Rattle.grammar.specs.Symbol.{Symbol, terminal, Rule, leftOf, rightOf}
-use Rattle.grammar.specs.Term.{number, nodes, add, sub, min, max}
-use Rattle.grammar.specs.Postfix.{Step, push, load, operate, select, postfix}
-use Rattle.grammar.specs.Book.{Place, own, at, val, Expr, InheritedDefinition, SynthesizedDefinition, Kernel, Go, Book, ownerAt}
-use Rattle.grammar.specs.ClosureSets.{setOf}
+use Rattle.grammar.specs.Data.Symbol.{Symbol, terminal, Rule, leftOf, rightOf}
+use Rattle.grammar.specs.Data.Term.{number, nodes, add, sub, min, max}
+use Rattle.grammar.specs.Data.Postfix.{Step, push, load, operate, select, postfix}
+use Rattle.grammar.specs.Data.Book.{Place, own, at, val, Expr, InheritedDefinition, SynthesizedDefinition, Kernel, Go, Book, ownerAt}
+use Rattle.grammar.specs.Automaton.ClosureSets.{setOf}
 use Rattle.book.specs.Layout.{symbolCode, lastOf}
 
 -- The line of a number in each list; past the last, one that nothing reads

@@ -5,11 +5,11 @@ use mathlib.Core.Bool.{Bool, true, false}
 use mathlib.Core.List.{List, [], _∷_}
 use lib.Dec.{ltb}
 use lib.ListN.{length, set, getD}
-use Rattle.grammar.specs.Symbol.{Symbol, terminal, nonterminal, Rule}
-use Rattle.grammar.specs.Term.{add, sub, min, max}
-use Rattle.grammar.specs.Book.{Place, own, at, val, Kernel, Go}
-use Rattle.grammar.specs.Postfix.{Step, push, load, operate, select}
-use Rattle.grammar.specs.ClosureSets.{setOf}
+use Rattle.grammar.specs.Data.Symbol.{Symbol, terminal, nonterminal, Rule}
+use Rattle.grammar.specs.Data.Term.{add, sub, min, max}
+use Rattle.grammar.specs.Data.Book.{Place, own, at, val, Kernel, Go}
+use Rattle.grammar.specs.Data.Postfix.{Step, push, load, operate, select}
+use Rattle.grammar.specs.Automaton.ClosureSets.{setOf}
 
 -- words from a place on
 unfoldable pub writeAt : ℕ → List ℕ → List ℕ → List ℕ

@@ -8,13 +8,13 @@ use mathlib.Core.Logic.{_≢_, _↔_}
 use mathlib.Core.List.{List, [], _∷_}
 use lib.ListN.{length, replicate}
 use Rattle.grammar.specs.Limits.{MAX-TEXT, BOOK-WORDS, PAGE-WORDS, MAX-TOKENS}
-use Rattle.grammar.specs.Book.{Book}
-use Rattle.grammar.specs.Tree.{Token, Tree, size, TokensOf}
-use Rattle.grammar.specs.Decorated.{Decorated}
-use Rattle.grammar.specs.Rows.{rows, page}
-use Rattle.grammar.specs.Packing.{pack}
+use Rattle.grammar.specs.Data.Book.{Book}
+use Rattle.grammar.specs.Evaluator.Tree.{Token, Tree, size, TokensOf}
+use Rattle.grammar.specs.Evaluator.Decorated.{Decorated}
+use Rattle.grammar.specs.Evaluator.Rows.{rows, page}
+use Rattle.grammar.specs.Format.Packing.{pack}
 use Rattle.grammar.specs.Refusal.{Taken, Verdict}
-use Rattle.grammar.specs.Demand.{SmallTree, TreeOf, Valued}
+use Rattle.grammar.specs.Evaluator.Demand.{SmallTree, TreeOf, Valued}
 use Rattle.grammar.specs.Engine.{Reading, readBook, Evaluation, turnedBack, evaluateWords}
 
 -- Demand 2, and demand 1 of reading: refusal 1 by the lengths alone, else what 01 answers to the text (Verdict: taken exactly if all conditions hold,

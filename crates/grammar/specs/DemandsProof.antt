@@ -10,18 +10,18 @@ use mathlib.Core.List.{List, [], _∷_}
 use lib.Dec.{leb, eqb}
 use lib.ListN.{length, replicate}
 use Rattle.grammar.specs.Limits.{MAX-TEXT, BOOK-WORDS, PAGE-WORDS, MAX-TOKENS}
-use Rattle.grammar.specs.Book.{Book}
-use Rattle.grammar.specs.Decides.{Decides, refutes, equivalent, and-decides, then-decides, le-decides, eq-decides, true-decides, OneTo, oneTo-decides}
-use Rattle.grammar.specs.Tree.{Token, Tree, TokenOf, TokensOf, no-tokens, and-tokens}
-use Rattle.grammar.specs.Rows.{Row, page}
-use Rattle.grammar.specs.Packing.{pack}
+use Rattle.grammar.specs.Data.Book.{Book}
+use Rattle.grammar.specs.Conditions.Decides.{Decides, refutes, equivalent, and-decides, then-decides, le-decides, eq-decides, true-decides, OneTo, oneTo-decides}
+use Rattle.grammar.specs.Evaluator.Tree.{Token, Tree, TokenOf, TokensOf, no-tokens, and-tokens}
+use Rattle.grammar.specs.Evaluator.Rows.{Row, page}
+use Rattle.grammar.specs.Format.Packing.{pack}
 use Rattle.grammar.specs.Refusal.{Taken, Verdict, refusal}
 use Rattle.grammar.specs.RefusalLaws.{refusal-verdict}
-use Rattle.grammar.specs.Machine.{Tables, Answer, refused, accepted, evaluate}
-use Rattle.grammar.specs.RunRefusals.{refused-late}
-use Rattle.grammar.specs.Demand.{TreeOf, SmallTree, Valued, Demand3}
-use Rattle.grammar.specs.DemandProof.{demand-3}
-use Rattle.grammar.specs.TakenPremises.{premises}
+use Rattle.grammar.specs.Evaluator.Machine.{Tables, Answer, refused, accepted, evaluate}
+use Rattle.grammar.specs.Evaluator.RunRefusals.{refused-late}
+use Rattle.grammar.specs.Evaluator.Demand.{TreeOf, SmallTree, Valued, Demand3}
+use Rattle.grammar.specs.Evaluator.DemandProof.{demand-3}
+use Rattle.grammar.specs.Evaluator.TakenPremises.{premises}
 use Rattle.grammar.specs.StoredLaws.{stored-found, found-stored}
 use Rattle.grammar.specs.Engine.{Reading, readingOf, readBook, tablesOf, storedBook, tokensOf, kindsIn, Evaluation, turnedBack, evaluationOf}
 use Rattle.grammar.specs.Engine.{evaluateTokens, evaluateBook, evaluateWords}

@@ -7,17 +7,17 @@ use mathlib.Core.List.{List, [], _∷_}
 use lib.Dec.{leb, eqb}
 use lib.ListN.{length, getD, replicate}
 use Rattle.grammar.specs.Limits.{MAX-TEXT, BOOK-WORDS, PAGE-WORDS, MAX-TOKENS}
-use Rattle.grammar.specs.Book.{Book}
-use Rattle.grammar.specs.States.{goIn}
-use Rattle.grammar.specs.Tree.{Token}
-use Rattle.grammar.specs.Rows.{Row, page}
-use Rattle.grammar.specs.Machine.{Tables, Answer, refused, accepted, evaluate}
-use Rattle.grammar.specs.Fixpoint.{sameSets}
-use Rattle.grammar.specs.Actions.{free, actionOf}
-use Rattle.grammar.specs.Compiled.{Compiled, compiled, formulaAt}
-use Rattle.grammar.specs.Decides.{oneTo}
-use Rattle.grammar.specs.Packing.{pack, unpack}
-use Rattle.grammar.specs.Parse.{parseBook}
+use Rattle.grammar.specs.Data.Book.{Book}
+use Rattle.grammar.specs.Automaton.States.{goIn}
+use Rattle.grammar.specs.Evaluator.Tree.{Token}
+use Rattle.grammar.specs.Evaluator.Rows.{Row, page}
+use Rattle.grammar.specs.Evaluator.Machine.{Tables, Answer, refused, accepted, evaluate}
+use Rattle.grammar.specs.Automaton.Fixpoint.{sameSets}
+use Rattle.grammar.specs.Automaton.Actions.{free, actionOf}
+use Rattle.grammar.specs.Automaton.Compiled.{Compiled, compiled, formulaAt}
+use Rattle.grammar.specs.Conditions.Decides.{oneTo}
+use Rattle.grammar.specs.Format.Packing.{pack, unpack}
+use Rattle.grammar.specs.Format.Parse.{parseBook}
 use Rattle.grammar.specs.Refusal.{bookRefusal, refusal}
 
 -- reading

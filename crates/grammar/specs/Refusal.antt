@@ -5,15 +5,15 @@ use mathlib.Core.Path.{_≡_}
 use mathlib.Core.Bool.{true, false}
 use mathlib.Core.Option.{none, some}
 use mathlib.Core.List.{List}
-use Rattle.grammar.specs.Book.{Book}
-use Rattle.grammar.specs.Print.{printBook}
-use Rattle.grammar.specs.Ordered.{Spelled, SpelledText}
-use Rattle.grammar.specs.Parse.{parseBook}
-use Rattle.grammar.specs.Conditions.{WithinLimits, Declared, Owned, Defined}
-use Rattle.grammar.specs.ConditionTests.{withinLimits, declared, owned, defined}
-use Rattle.grammar.specs.States.{KernelRules, GoRules, NoConflict}
-use Rattle.grammar.specs.Formula.{LR-attributed}
-use Rattle.grammar.specs.Compiled.{statesRefusal}
+use Rattle.grammar.specs.Data.Book.{Book}
+use Rattle.grammar.specs.Format.Print.{printBook}
+use Rattle.grammar.specs.Format.Ordered.{Spelled, SpelledText}
+use Rattle.grammar.specs.Format.Parse.{parseBook}
+use Rattle.grammar.specs.Conditions.Meaning.{WithinLimits, Declared, Owned, Defined}
+use Rattle.grammar.specs.Conditions.Tests.{withinLimits, declared, owned, defined}
+use Rattle.grammar.specs.Automaton.States.{KernelRules, GoRules, NoConflict}
+use Rattle.grammar.specs.Formulas.Formula.{LR-attributed}
+use Rattle.grammar.specs.Automaton.Compiled.{statesRefusal}
 
 -- what is asked of a book that is spelled right, 3 to 10
 pub record Sound (b : Book) : Type 0 where

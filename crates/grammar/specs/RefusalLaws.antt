@@ -6,30 +6,30 @@ use mathlib.Core.Path.{_≡_, refl, sym, ap, _∙_, subst}
 use mathlib.Core.Bool.{Bool, true, false}
 use mathlib.Core.Option.{Option, none, some}
 use mathlib.Core.List.{List}
-use Rattle.grammar.specs.Book.{Book}
-use Rattle.grammar.specs.Print.{printBook}
-use Rattle.grammar.specs.Ordered.{Spelled, SpelledText}
-use Rattle.grammar.specs.Parse.{parseBook}
-use Rattle.grammar.specs.ParseLaws.{parse-print, print-parse, parsed-spelled, none-misspelt}
-use Rattle.grammar.specs.Decides.{Decides, refutes}
-use Rattle.grammar.specs.Conditions.{WithinLimits, Declared, Owned, Defined}
-use Rattle.grammar.specs.ConditionTests.{withinLimits, declared, owned, defined}
-use Rattle.grammar.specs.ConditionTestsLaws.{withinLimits-decides, declared-decides, owned-decides, defined-decides}
-use Rattle.grammar.specs.States.{KernelRules, GoRules, NoConflict}
-use Rattle.grammar.specs.Formula.{LR-attributed}
-use Rattle.grammar.specs.StatesCheck.{kernelRules, goRules}
-use Rattle.grammar.specs.FirstSets.{setsOf}
-use Rattle.grammar.specs.ReachSets.{reachSets}
-use Rattle.grammar.specs.Compiled.{itemsTable, itemsAt, cellsTable, partsTable, noConflict, oneFormula, statesRefusal}
-use Rattle.grammar.specs.WellNamed.{WellNamed}
-use Rattle.grammar.specs.ItemsRight.{ItemsRight}
+use Rattle.grammar.specs.Data.Book.{Book}
+use Rattle.grammar.specs.Format.Print.{printBook}
+use Rattle.grammar.specs.Format.Ordered.{Spelled, SpelledText}
+use Rattle.grammar.specs.Format.Parse.{parseBook}
+use Rattle.grammar.specs.Format.ParseLaws.{parse-print, print-parse, parsed-spelled, none-misspelt}
+use Rattle.grammar.specs.Conditions.Decides.{Decides, refutes}
+use Rattle.grammar.specs.Conditions.Meaning.{WithinLimits, Declared, Owned, Defined}
+use Rattle.grammar.specs.Conditions.Tests.{withinLimits, declared, owned, defined}
+use Rattle.grammar.specs.Conditions.TestsLaws.{withinLimits-decides, declared-decides, owned-decides, defined-decides}
+use Rattle.grammar.specs.Automaton.States.{KernelRules, GoRules, NoConflict}
+use Rattle.grammar.specs.Formulas.Formula.{LR-attributed}
+use Rattle.grammar.specs.Automaton.StatesCheck.{kernelRules, goRules}
+use Rattle.grammar.specs.Automaton.FirstSets.{setsOf}
+use Rattle.grammar.specs.Automaton.ReachSets.{reachSets}
+use Rattle.grammar.specs.Automaton.Compiled.{itemsTable, itemsAt, cellsTable, partsTable, noConflict, oneFormula, statesRefusal}
+use Rattle.grammar.specs.Automaton.WellNamed.{WellNamed}
+use Rattle.grammar.specs.Automaton.ItemsRight.{ItemsRight}
 use Rattle.grammar.specs.BookFacts.{well-named, small-book}
-use Rattle.grammar.specs.ItemsRightLaws.{book-items-right}
-use Rattle.grammar.specs.KernelRulesLaws.{kernelRules-decides}
-use Rattle.grammar.specs.GoRulesLaws.{goTable-decides}
-use Rattle.grammar.specs.ActionsLaws.{noConflict-decides}
-use Rattle.grammar.specs.FormulaPremises.{formula-premises}
-use Rattle.grammar.specs.OneFormulaLaws.{oneFormula-decides}
+use Rattle.grammar.specs.Automaton.ItemsRightLaws.{book-items-right}
+use Rattle.grammar.specs.Automaton.KernelRulesLaws.{kernelRules-decides}
+use Rattle.grammar.specs.Automaton.GoRulesLaws.{goTable-decides}
+use Rattle.grammar.specs.Automaton.ActionsLaws.{noConflict-decides}
+use Rattle.grammar.specs.Formulas.FormulaPremises.{formula-premises}
+use Rattle.grammar.specs.Formulas.OneFormulaLaws.{oneFormula-decides}
 use Rattle.grammar.specs.Refusal.{Sound, Taken, Breaks, breaks-limits, breaks-names, breaks-attributes, breaks-definitions}
 use Rattle.grammar.specs.Refusal.{breaks-kernel-rules, breaks-go-rules, breaks-no-conflict, breaks-one-formula}
 use Rattle.grammar.specs.Refusal.{Verdict, taken, misspelt, broken, bookRefusal, refusal}

@@ -10,14 +10,14 @@ use lib.Dec.{eqb}
 use lib.ListN.{length}
 use borrow.Author.Tests.{eqb-true, eq-eqb}
 use Rattle.grammar.specs.Limits.{MAX-TEXT, BOOK-WORDS}
-use Rattle.grammar.specs.Book.{Book}
-use Rattle.grammar.specs.Print.{printBook}
-use Rattle.grammar.specs.PrintLaws.{Printable, line-end, byte, print-printable}
-use Rattle.grammar.specs.Parse.{parseBook}
-use Rattle.grammar.specs.ParseLaws.{parse-print}
-use Rattle.grammar.specs.Fixpoint.{sameSets}
-use Rattle.grammar.specs.LeastLaws.{sameSets-still, sameSets-self}
-use Rattle.grammar.specs.Packing.{pack, before, unpack, Bytes, no-bytes, and-bytes, unpack-pack, pack-length}
+use Rattle.grammar.specs.Data.Book.{Book}
+use Rattle.grammar.specs.Format.Print.{printBook}
+use Rattle.grammar.specs.Format.PrintLaws.{Printable, line-end, byte, print-printable}
+use Rattle.grammar.specs.Format.Parse.{parseBook}
+use Rattle.grammar.specs.Format.ParseLaws.{parse-print}
+use Rattle.grammar.specs.Automaton.Fixpoint.{sameSets}
+use Rattle.grammar.specs.Automaton.LeastLaws.{sameSets-still, sameSets-self}
+use Rattle.grammar.specs.Format.Packing.{pack, before, unpack, Bytes, no-bytes, and-bytes, unpack-pack, pack-length}
 use Rattle.grammar.specs.Refusal.{Taken, Breaks, Verdict, taken, misspelt, broken, bookRefusal, refusal}
 use Rattle.grammar.specs.Refusal.{breaks-limits, breaks-names, breaks-attributes, breaks-definitions}
 use Rattle.grammar.specs.Refusal.{breaks-kernel-rules, breaks-go-rules, breaks-no-conflict, breaks-one-formula}

@@ -1,0 +1,20 @@
+-- The text of a book: printing, reading, and that they are inverse; the words of a stored text.
+pub mod Expression
+pub mod ExpressionReads
+pub mod ExpressionWas
+pub mod LineLaws
+pub mod OrderLaws
+pub mod Ordered
+pub mod Packing
+pub mod Parse
+pub mod ParseLaws
+pub mod ParseReads
+pub mod ParseSections
+pub mod ParseWas
+pub mod Print
+pub mod PrintLaws
+pub mod Printer
+pub mod Reader
+pub mod ReaderLaws
+pub mod Repeat
+pub mod SectionLaws

@@ -21,6 +21,7 @@ pub mod GoRulesLaws
 pub mod Items
 pub mod ItemsRight
 pub mod ItemsRightLaws
+pub mod KernelItems
 pub mod KernelLines
 pub mod KernelRulesLaws
 pub mod LeastLaws

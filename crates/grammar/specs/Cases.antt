@@ -4,4 +4,3 @@ pub mod Cases
 pub mod CasesProof
 pub mod ConditionCases
 pub mod ParseCases
-pub mod StateCases

@@ -11,7 +11,7 @@ use lib.Dec.{leb, eqb}
 use lib.ListN.{length, replicate}
 use Rattle.grammar.specs.Limits.{MAX-TEXT, BOOK-WORDS, PAGE-WORDS, MAX-TOKENS}
 use Rattle.grammar.specs.Data.Book.{Book}
-use Rattle.grammar.specs.Conditions.Decides.{Decides, refutes, equivalent, and-decides, then-decides, le-decides, eq-decides, true-decides, OneTo, oneTo-decides}
+use Rattle.grammar.specs.Conditions.Decides.{Decides, by-decided, equivalent, and-decides, then-decides, le-decides, eq-decides, true-decides, OneTo, oneTo-decides}
 use Rattle.grammar.specs.Evaluator.Tree.{Token, Tree, TokenOf, TokensOf, no-tokens, and-tokens}
 use Rattle.grammar.specs.Evaluator.Rows.{Row, page}
 use Rattle.grammar.specs.Format.Packing.{pack}
@@ -28,11 +28,6 @@ use Rattle.grammar.specs.Engine.{evaluateTokens, evaluateBook, evaluateW
 use Rattle.grammar.specs.Demands.{Lengths, Reads, wrong-lengths, takes, refuses, Reading-right, Stored, bookOf, numbersOf, TokenList}
 use Rattle.grammar.specs.Demands.{Evaluates, no-book, wrong-rows, wrong-tokens, wrong-kinds, runs, Evaluating-right, Figures, Figures-right}
 
--- a test by what it decides
-by-test : {A C : Type 0} {t : Bool} → Decides t A → (t ≡ true → A → C) → (t ≡ false → (A → ⊥) → C) → C
-by-test {t = true} d f g = f refl (d .sound refl)
-by-test {t = false} d f g = g refl (refutes d)
-
 -- reading
 
 lengths-decides : (text : List ℕ) (lent : ℕ) → Decides (leb (length text) MAX-TEXT && eqb lent BOOK-WORDS) (Lengths text lent)
@@ -48,7 +43,7 @@ answers text lent (suc n) l v = refuses l (λ (e : suc n ≡ 0). omega arith) v
 pub reading-right : Reading-right
 unfolding readBook readingOf
 reading-right text lent =
-    by-test (lengths-decides text lent)
+    by-decided (lengths-decides text lent)
     (λ e l. rw (e, readBook) (answers text lent (refusal text) l (refusal-verdict text)))
     (λ e h. rw (e, readBook) (wrong-lengths h))
 
@@ -98,10 +93,10 @@ module _ {words : List ℕ} (s : Stored words) (tokens : List ℕ) (lent : ℕ) 
   evaluates-list : (ks : List Token) → tokensOf tokens ≡ some ks → Evaluates words tokens lent (evaluateTokens (bookOf s) ks lent)
   unfolding evaluateTokens
   evaluates-list ks e =
-      by-test (le-decides (length ks) MAX-TOKENS)
+      by-decided (le-decides (length ks) MAX-TOKENS)
       (λ n few. rw (n, evaluateTokens) (
       let list : TokenList tokens = record { list = ks; its-numbers = numbers-back tokens ks e; few = few } in
-      by-test (kinds-decides (bookOf s) ks)
+      by-decided (kinds-decides (bookOf s) ks)
       (λ k kinds. rw k (runs s all list kinds (run-evaluation (evaluate (bookOf s) (tablesOf (bookOf s)) ks) lent)))
       (λ k h. rw k (wrong-kinds s all list h))
       ))
@@ -128,7 +123,7 @@ evaluating-right words tokens lent = go (storedBook words) refl
   where
     with-book : (s : Stored words) → Evaluates words tokens lent (evaluateBook (bookOf s) tokens lent)
     with-book s =
-        by-test (eq-decides lent PAGE-WORDS)
+        by-decided (eq-decides lent PAGE-WORDS)
         (λ e all. evaluates-book s tokens lent all)
         (λ e h. rw (e, evaluateBook) (wrong-rows s h))
 

@@ -11,7 +11,7 @@ use Rattle.grammar.specs.Format.Print.{printBook}
 use Rattle.grammar.specs.Format.Ordered.{Spelled, SpelledText}
 use Rattle.grammar.specs.Format.Parse.{parseBook}
 use Rattle.grammar.specs.Format.ParseLaws.{parse-print, print-parse, parsed-spelled, none-misspelt}
-use Rattle.grammar.specs.Conditions.Decides.{Decides, refutes}
+use Rattle.grammar.specs.Conditions.Decides.{Decides, by-decided, false-of}
 use Rattle.grammar.specs.Conditions.Meaning.{WithinLimits, Declared, Owned, Defined}
 use Rattle.grammar.specs.Conditions.Tests.{withinLimits, declared, owned, defined}
 use Rattle.grammar.specs.Conditions.TestsLaws.{withinLimits-decides, declared-decides, owned-decides, defined-decides}
@@ -39,14 +39,6 @@ data Judged (b : Book) : ℕ → Type 0 where
   sound : Sound b → Judged b 0
   breaks : {n : ℕ} → Breaks b n → Judged b n
 
--- a test by what it decides
-by-test : {A C : Type 0} {t : Bool} → Decides t A → (t ≡ true → A → C) → (t ≡ false → (A → ⊥) → C) → C
-by-test {t = true} d f g = f refl (d .sound refl)
-by-test {t = false} d f g = g refl (refutes d)
-
-false-of : {A : Type 0} {t : Bool} → Decides t A → (A → ⊥) → t ≡ false
-false-of d h = by-test d (λ e a. absurd (h a)) (λ e n. e)
-
 -- the tests of 7 to 10 as the function asks them, of a book within its limits whose names are declared
 module _ {b : Book} (spelled : Spelled b) (limits : WithinLimits b) (names : Declared b) where
   named : WellNamed b
@@ -72,10 +64,10 @@ module _ (b : Book) (spelled : Spelled b) where
   states-judged : WithinLimits b → Declared b → Owned b → Defined b → Judged b (statesRefusal b)
   unfolding statesRefusal
   states-judged limits names attributes definitions =
-      by-test (kernels-decides spelled limits names)
-      (λ e₇ kernels. by-test (goes-decides spelled limits names)
-      (λ e₈ goes. by-test (conflicts-decides spelled limits names)
-      (λ e₉ conflicts. by-test (formulas-decides spelled limits names attributes kernels)
+      by-decided (kernels-decides spelled limits names)
+      (λ e₇ kernels. by-decided (goes-decides spelled limits names)
+      (λ e₈ goes. by-decided (conflicts-decides spelled limits names)
+      (λ e₉ conflicts. by-decided (formulas-decides spelled limits names attributes kernels)
       (λ e formulas. rw (e₇, statesRefusal) (rw (e₈, e₉, e) (sound (record {
         limits = limits;
         names = names;
@@ -94,10 +86,10 @@ module _ (b : Book) (spelled : Spelled b) where
   judged : Judged b (bookRefusal b)
   unfolding bookRefusal
   judged =
-      by-test (withinLimits-decides b)
-      (λ e₃ limits. by-test (declared-decides b)
-      (λ e₄ names. by-test (owned-decides b)
-      (λ e₅ attributes. by-test (defined-decides b)
+      by-decided (withinLimits-decides b)
+      (λ e₃ limits. by-decided (declared-decides b)
+      (λ e₄ names. by-decided (owned-decides b)
+      (λ e₅ attributes. by-decided (defined-decides b)
       (λ e₆ definitions. rw (e₃, bookRefusal) (rw (e₄, e₅, e₆) (states-judged limits names attributes definitions)))
       (λ e₆ h. rw (e₃, bookRefusal) (rw (e₄, e₅, e₆) (breaks (breaks-definitions limits names attributes h)))))
       (λ e₅ h. rw (e₃, bookRefusal) (rw (e₄, e₅) (breaks (breaks-attributes limits names h)))))

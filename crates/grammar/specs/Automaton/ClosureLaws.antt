@@ -24,51 +24,9 @@ use Rattle.grammar.specs.Automaton.First.{First}
 use Rattle.grammar.specs.Automaton.FirstSets.{Sets, firstWith}
 use Rattle.grammar.specs.Automaton.FirstSetsLaws.{SetsRight, with-low, first-with, with-first}
 use Rattle.grammar.specs.Automaton.Items.{derives, KernelItem, kernel-item, Closure, kernel, close}
+use Rattle.grammar.specs.Automaton.SetOf.{setOf-low, setOf-holds, setOf-only}
+use Rattle.grammar.specs.Automaton.KernelLines.{LineOf, line-of, in-state}
 use Rattle.grammar.specs.Automaton.ClosureSets.{setOf, derivesInto, kernelsIn, fromKernels, closureRule, closureSets}
-
--- ---- the set of a list's numbers
-
-pub setOf-low : (l : List ℕ) → setOf l < 2 ^ 32
-unfolding setOf
-setOf-low [] = omega arith
-setOf-low (a ∷ l) = with-lt (setOf l) a
-
-pub setOf-has : {a : ℕ} {l : List ℕ} → a < 32 → Mem a l → bit (setOf l) a ≡ true
-unfolding setOf
-setOf-has {a} h (mem-head {xs = l} e) = subst (λ (x : ℕ). bit (with (setOf l) x) a ≡ true) e (with-self (setOf l) a h)
-setOf-has {a} h (mem-tail {x = x} {xs = l} m) = with-keeps (setOf l) x a h (setOf-has h m)
-
-pub has-setOf : (l : List ℕ) (a : ℕ) → bit (setOf l) a ≡ true → Mem a l
-unfolding setOf with
-has-setOf [] a e = none-in a e
-has-setOf (x ∷ l) a e =
-    ⊎-elim (λ q. mem-tail (has-setOf l a q)) (λ q. mem-head (sym (single-is x a q)))
-    (union-either (setOf l) (single x) a (bit-lt _ a (with-lt (setOf l) x) e) e)
-
--- ---- the kernel lines of a state
-
-by-line : (x : Kernel) (ks : List Kernel) (S : ℕ) (Q : List Kernel → Type 0) → (x .state ≡ S → Q (x ∷ kernelsIn ks S))
-    → ((x .state ≡ S → ⊥) → Q (kernelsIn ks S)) → Q (kernelsIn (x ∷ ks) S)
-unfolding kernelsIn
-by-line x ks S Q own other =
-    by-test (eqb (x .state) S) (x ∷ kernelsIn ks S) (kernelsIn ks S) Q (λ e. own (eqb-true (x .state) S e)) (λ e. other (eqb-false (x .state) S e))
-
-pub kernelsIn-has : {k : Kernel} {ks : List Kernel} (S : ℕ) → k .state ≡ S → Mem k ks → Mem k (kernelsIn ks S)
-kernelsIn-has {k} S h (mem-head {x = x} {xs = ks} e) =
-    by-line x ks S (Mem k) (λ _. mem-head e) (λ n. absurd (n (subst (λ (y : Kernel). y .state ≡ S) e h)))
-kernelsIn-has {k} S h (mem-tail {x = x} {xs = ks} m) =
-    by-line x ks S (Mem k) (λ _. mem-tail (kernelsIn-has S h m)) (λ _. kernelsIn-has S h m)
-
-pub has-kernelsIn : {k : Kernel} (ks : List Kernel) (S : ℕ) → Mem k (kernelsIn ks S) → Mem k ks × (k .state ≡ S)
-unfolding kernelsIn
-has-kernelsIn [] S m = absurd (not-nil m)
-has-kernelsIn {k} (x ∷ ks) S m =
-    by-line x ks S (λ l. Mem k l → Mem k (x ∷ ks) × (k .state ≡ S))
-    (λ h n. ⊎-elim (λ e. (mem-head e, subst (λ (y : Kernel). y .state ≡ S) (sym e) h)) (λ n′. further (has-kernelsIn ks S n′)) (cases-cons n))
-    (λ _ n. further (has-kernelsIn ks S n)) m
-  where
-    further : Mem k ks × (k .state ≡ S) → Mem k (x ∷ ks) × (k .state ≡ S)
-    further h = (mem-tail (h .0), h .1)
 
 -- ---- what items give the next nonterminal
 
@@ -192,7 +150,7 @@ module _ {b : Book} {F : Sets} (H : SmallBook b) (R : SetsRight (b .rules) F) wh
 
   line-item : {S : ℕ} {k : Kernel} → Mem k (kernelsIn (b .kernels) S) → (a : ℕ) → bit (setOf (k .lookaheads)) a ≡ true
       → KernelItem b S (k .rule) (k .dot) a
-  line-item {S} {k} m a e = let (n, s) = has-kernelsIn (b .kernels) S m in kernel-item n s refl refl (has-setOf (k .lookaheads) a e)
+  line-item {S} {k} m a e = let l : LineOf (b .kernels) S k = line-of m in kernel-item (l .there) (l .of-state) refl refl (setOf-only (k .lookaheads) a e)
 
   line-enters : {S : ℕ} (k : Kernel) → Mem k (kernelsIn (b .kernels) S) → (family : List ℕ) (a : ℕ) → bit ((line b F k) .gives family) a ≡ true
       → Enters b S ((line b F k) .target) a
@@ -245,7 +203,7 @@ module _ {b : Book} {F : Sets} (H : SmallBook b) (R : SetsRight (b .rules) F) wh
   kernel-gives {S} {P} {D} {B} {a} {c} {β} (kernel-item {k = k} m s r d l) h f =
       subst (λ (A : ℕ). bit (setAt (closureSets b F S) A) a ≡ true) (given (replicate 32 0) .0)
       (least-holds (closure-fits S) ((line b F k) .target) a
-      (lines-give (kernelsIn-has S s m) (replicate 32 0) (none-family 32) a (λ family. given family .1)))
+      (lines-give (in-state m s) (replicate 32 0) (none-family 32) a (λ family. given family .1)))
     where
       here : after (b .rules) (k .rule) (k .dot) ≡ nonterminal B ∷ β
       here = rw (r, d) h
@@ -253,7 +211,7 @@ module _ {b : Book} {F : Sets} (H : SmallBook b) (R : SetsRight (b .rules) F) wh
       given : (family : List ℕ) → Gives (line b F k) family B a
       given family =
           into-gives R B β (after (b .rules) (k .rule) (k .dot)) (λ _. setOf (k .lookaheads)) family a c
-          (line-rest k) here (setOf-low (k .lookaheads)) (setOf-has (H .low-lookaheads k m c l) l) f
+          (line-rest k) here (setOf-low (k .lookaheads)) (setOf-holds (k .lookaheads) c (H .low-lookaheads k m c l) l) f
 
   rule-gives : (S : ℕ) {P B a c : ℕ} {β : List Symbol} → P < length (b .rules) → bit (setAt (closureSets b F S) (leftOf (b .rules) P)) c ≡ true
       → rightOf (b .rules) P ≡ nonterminal B ∷ β → First (b .rules) β c a → bit (setAt (closureSets b F S) B) a ≡ true

@@ -20,7 +20,8 @@ use Rattle.grammar.specs.Automaton.FirstSets.{Sets}
 use Rattle.grammar.specs.Automaton.FirstSetsLaws.{SetsRight}
 use Rattle.grammar.specs.Automaton.Items.{kernel-item, Closure, kernel}
 use Rattle.grammar.specs.Automaton.ClosureSets.{setOf, kernelsIn, closureSets}
-use Rattle.grammar.specs.Automaton.ClosureLaws.{setOf-low, setOf-has, has-setOf, kernelsIn-has, has-kernelsIn}
+use Rattle.grammar.specs.Automaton.SetOf.{setOf-low, setOf-holds, setOf-only}
+use Rattle.grammar.specs.Automaton.KernelLines.{LineOf, line-of, in-state}
 use Rattle.grammar.specs.Automaton.ClosureLaws.{closure-family, Shape, closure-shape, set-closure}
 use Rattle.grammar.specs.Automaton.CoreItems.{Core, core, ofKernels, entered, ofRules, coreItems}
 
@@ -124,9 +125,10 @@ module _ {b : Book} {F : Sets} (H : SmallBook b) (R : SetsRight (b .rules) F) wh
     where
       go : Source b F S P D M → (a : ℕ) × (bit M a ≡ true)
       go (inl o) =
-          let here = has-kernelsIn (b .kernels) S (o .listed) .0 in
+          let line : LineOf (b .kernels) S (o .line) = line-of (o .listed) in
+          let here = line .there in
           let (a, l) = H .some-lookahead (o .line) here in
-          (a, subst (λ (x : ℕ). bit x a ≡ true) (o .set-is) (setOf-has (H .low-lookaheads (o .line) here a l) l))
+          (a, subst (λ (x : ℕ). bit x a ≡ true) (o .set-is) (setOf-holds (o .line .lookaheads) a (H .low-lookaheads (o .line) here a l) l))
       go (inr o) = member M (core-low S P D M m) (o .some)
 
   pub core-not-empty : (S P D M : ℕ) → Mem (core P D M) (coreItems b F S) → M ≡ 0 → ⊥
@@ -137,9 +139,9 @@ module _ {b : Book} {F : Sets} (H : SmallBook b) (R : SetsRight (b .rules) F) wh
     where
       go : Source b F S P D M → Closure b S P D a
       go (inl o) =
-          let (here, s) = has-kernelsIn (b .kernels) S (o .listed) in
+          let line : LineOf (b .kernels) S (o .line) = line-of (o .listed) in
           kernel
-          (kernel-item here s (o .rule-is) (o .dot-is) (has-setOf (o .line .lookaheads) a (subst (λ (x : ℕ). bit x a ≡ true) (sym (o .set-is)) e)))
+          (kernel-item (line .there) (line .of-state) (o .rule-is) (o .dot-is) (setOf-only (o .line .lookaheads) a (subst (λ (x : ℕ). bit x a ≡ true) (sym (o .set-is)) e)))
       go (inr o) =
           subst (λ (x : ℕ). Closure b S P x a) (sym (o .dot-is))
           (set-closure H R S P a (o .below) (subst (λ (x : ℕ). bit x a ≡ true) (sym (o .set-is)) e))
@@ -152,8 +154,8 @@ module _ {b : Book} {F : Sets} (H : SmallBook b) (R : SetsRight (b .rules) F) wh
       go (inl (kernel-item {k = k} m s r d l)) =
           let same : core P D (setOf (k .lookaheads)) ≡ core (k .rule) (k .dot) (setOf (k .lookaheads)) = cc in (
             setOf (k .lookaheads),
-            cast same (append-left (ofRules (b .rules) (closureSets b F S) (length (b .rules))) (ofKernels-has (kernelsIn-has S s m))),
-            setOf-has (H .low-lookaheads k m a l) l,
+            cast same (append-left (ofRules (b .rules) (closureSets b F S) (length (b .rules))) (ofKernels-has (in-state m s))),
+            setOf-holds (k .lookaheads) a (H .low-lookaheads k m a l) l,
           )
       go (inr (z, p, e)) =
           let M : ℕ = setAt (closureSets b F S) (leftOf (b .rules) P) in

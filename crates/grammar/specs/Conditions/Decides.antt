@@ -22,6 +22,14 @@ false-decides f = record { sound = λ e. absurd (false≢true e); complete = λ 
 pub refutes : {A : Type 0} → Decides false A → A → ⊥
 refutes d a = false≢true (d .complete a)
 
+-- a test by what it decides
+pub by-decided : {A C : Type 0} {t : Bool} → Decides t A → (t ≡ true → A → C) → (t ≡ false → (A → ⊥) → C) → C
+by-decided {t = true} d f g = f refl (d .sound refl)
+by-decided {t = false} d f g = g refl (refutes d)
+
+pub false-of : {A : Type 0} {t : Bool} → Decides t A → (A → ⊥) → t ≡ false
+false-of d h = by-decided d (λ e a. absurd (h a)) (λ e n. e)
+
 -- what decides A decides every statement that is equivalent to A
 pub equivalent : {t : Bool} {A B : Type 0} → (A → B) → (B → A) → Decides t A → Decides t B
 equivalent f g d = record { sound = λ e. f (d .sound e); complete = λ h. d .complete (g h) }

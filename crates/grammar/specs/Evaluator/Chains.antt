@@ -13,7 +13,8 @@ use Rattle.grammar.specs.Formulas.Formula.{Formula, becomes, ownBelow, g
 use Rattle.grammar.specs.Evaluator.Decorated.{Values, noValues, Result, childAt, synthesizedOf, tokenValueOf, placeValue, inheritedFrom}
 use Rattle.grammar.specs.Evaluator.Machine.{Tables, Frame, frame, inheritedAt, resultAt, leafValue, formulaValue, cell}
 use Rattle.grammar.specs.Evaluator.Premises.{MayRead, reads-own, reads-at, reads-val, Premises}
-use Rattle.grammar.specs.Evaluator.PremisesLaws.{inherited-leaves, owner-apart, start-dot}
+use Rattle.grammar.specs.Automaton.KernelItems.{start-dot}
+use Rattle.grammar.specs.Evaluator.PremisesLaws.{inherited-leaves, owner-apart}
 
 -- what a definition's leaf is on the stack where the dot is D: own in i, at J and val J in the symbols below the top
 unfoldable pub stackValue : ℕ → Values → List Frame → Place → ℕ
@@ -63,7 +64,7 @@ module _ (b : Book) (T : Tables) (H : Premises b T) where
   one-own : {S P c : ℕ} (a D : ℕ) → KernelItem b S P D c → (st : List Frame) (K : ℕ) → inheritedOwner b K ≡ leftOf (b .rules) P
       → eval (ownBelow D K) (leafValue st) ≡ inheritedAt D (cell T S a st) st K
   unfolding eval ownBelow leafValue
-  one-own a zero h st K o = absurd (owner-apart b T H K (rw (start-dot b T H h) at o))
+  one-own a zero h st K o = absurd (owner-apart b T H K (rw (start-dot (H .kernel-rules) h) at o))
   one-own {S} a (suc D) h st K o = ap (λ g. g K) (inheritedAt-below D noValues (cell T S a st) st)
 
   -- a chain's formula has the value of the last item's definition, own being read D symbols down where the top cell is just set

@@ -71,10 +71,6 @@ module _ (b : Book) where
   pub dotted : {S P D a : ℕ} → Closure b S P (suc D) a → KernelItem b S P (suc D) a
   dotted (kernel k) = k
 
-  pub chain-closure : {S a P D c : ℕ} → Chain b S a P D c → Closure b S P D c
-  chain-closure (one k r) = kernel k
-  chain-closure (longer chain e r) = close (chain-closure chain) e
-
 module _ (b : Book) (T : Tables) (H : Premises b T) where
   pub inherited-leaves : (P J K : ℕ) → Leaves (MayRead b P J) (inheritedExpr b P J K)
   inherited-leaves = inheritedIn-leaves (MayRead b) (b .inheritedDefinitions) (H .inherited-reads)
@@ -101,14 +97,6 @@ module _ (b : Book) (T : Tables) (H : Premises b T) where
 
   pub start-only : {P D a : ℕ} → KernelItem b 0 P D a → (P ≡ 0) × (D ≡ 0)
   start-only (kernel-item {k = k} m s p d a) = let e = H .kernel-rules .start-only k m s in (cc, cc)
-
-  -- a kernel item with dot 0 is of rule 0
-  pub start-dot : {S P a : ℕ} → KernelItem b S P 0 a → P ≡ 0
-  start-dot {S} {P} (kernel-item {k = k} m s p d a) = by (ℕ-discrete (k .state) 0)
-    where
-      by : Dec (k .state ≡ 0) → P ≡ 0
-      by (yes z) = let e = H .kernel-rules .start-only k m z in cc
-      by (no n) = let l = H .kernel-rules .dots k m n in absurd (omega arith)
 
   -- "Rule 0's kernels have t0 alone"
   pub start-lookahead : {S D a : ℕ} → KernelItem b S 0 D a → a ≡ 0

@@ -27,7 +27,8 @@ use Rattle.grammar.specs.Evaluator.Runs.{Reach, stay, move, reach-then, 
 use Rattle.grammar.specs.Evaluator.Moves.{shift-moves, shift-16, shift-17, reduce-moves, reduce-16, reduce-17}
 use Rattle.grammar.specs.Evaluator.Premises.{Premises}
 use Rattle.grammar.specs.Data.ListLaws.{drop-step, drop-get}
-use Rattle.grammar.specs.Evaluator.PremisesLaws.{chain-closure, go-there, go-has}
+use Rattle.grammar.specs.Formulas.ChainLaws.{chain-closure}
+use Rattle.grammar.specs.Evaluator.PremisesLaws.{go-there, go-has}
 use Rattle.grammar.specs.Evaluator.FirstOfLeaves.{first-of-leaves, reach-trees}
 use Rattle.grammar.specs.Evaluator.Chains.{Below, OnTop, cell-inherits}
 

@@ -21,7 +21,8 @@ use Rattle.grammar.specs.Evaluator.Runs.{Ends, halts, moves}
 use Rattle.grammar.specs.Evaluator.Moves.{row-more, symbol-more, rule-more, arrive-more, row-accepted, symbol-accepted, rule-accepted, arrive-accepted}
 use Rattle.grammar.specs.Evaluator.Premises.{Premises}
 use Rattle.grammar.specs.Data.ListLaws.{drop-step}
-use Rattle.grammar.specs.Evaluator.PremisesLaws.{dotted, start-length, start-unreached, start-only, start-dot, start-lookahead, go-back}
+use Rattle.grammar.specs.Automaton.KernelItems.{start-dot}
+use Rattle.grammar.specs.Evaluator.PremisesLaws.{dotted, start-length, start-unreached, start-only, start-lookahead, go-back}
 
 module _ (b : Book) where
   -- ks is the leaves of a tree of a whole message
@@ -67,7 +68,7 @@ module _ (b : Book) (T : Tables) where
     -- where rule P begins, and is not rule 0, it was added by the closure
     in-range : {S P a : ℕ} → Closure b S P 0 a → P ≢ 0 → P < length (b .rules)
     in-range (close c (derives h p e f)) n = p
-    in-range (kernel k) n = absurd (n (start-dot b T H k))
+    in-range (kernel k) n = absurd (n (start-dot (H .kernel-rules) k))
 
     -- where rule 0 begins, the stack is empty
     lowest : {S a : ℕ} {st : List Frame} {w : List Token} → Along S st w → Closure b S 0 0 a → w ≡ []

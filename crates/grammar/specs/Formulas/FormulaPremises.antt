@@ -14,6 +14,7 @@ use Rattle.grammar.specs.Data.Book.{Place, own, at, val, Book, inherited
 use Rattle.grammar.specs.Automaton.Items.{Reaches, before, complete, further, KernelItem, kernel-item, Closure, close, Chain}
 use Rattle.grammar.specs.Formulas.ChainLaws.{chain-closure, chain-reaches}
 use Rattle.grammar.specs.Automaton.States.{KernelRules}
+use Rattle.grammar.specs.Automaton.KernelItems.{start-dot as kernel-start}
 use Rattle.grammar.specs.Conditions.Meaning.{WithinLimits, Declared, Owned}
 use Rattle.grammar.specs.Conditions.MeaningLaws.{inherited-exists, no-inherited-start, right-declared, Reads, inherited-reads, closure-declared}
 
@@ -49,13 +50,6 @@ module _ {b : Book} (limits : WithinLimits b) (declared : Declared b) (owned : O
   own-reads P J (at I K) h = tt
   own-reads P J (val I) h = tt
 
-  start-dot : (S P a : ℕ) → KernelItem b S P 0 a → P ≡ 0
-  start-dot S P a (kernel-item {k = k} m s p d l) = by (ℕ-discrete (k .state) 0)
-    where
-      by : Dec (k .state ≡ 0) → P ≡ 0
-      by (yes z) = let e = kernels .start-only k m z in cc
-      by (no n) = let h = kernels .dots k m n in absurd (omega arith)
-
   pub formula-premises : FormulaPremises b
   formula-premises = record {
     attributes-limit = limits .inherited-limit;
@@ -65,5 +59,5 @@ module _ {b : Book} (limits : WithinLimits b) (declared : Declared b) (owned : O
     chain-state = λ S a P D c chain. closure-declared declared (chain-closure b chain) .state-there;
     chain-terminal = λ S a P D c chain. reaches-terminal (chain-closure b chain) (chain-reaches b chain);
     own-left = λ P J K. leaves-map (own-reads P J) (inherited-reads declared owned P J K);
-    start-dot = start-dot;
+    start-dot = λ S P a. kernel-start kernels;
   }

@@ -71,6 +71,7 @@ pub mod ParseReads
 pub mod ParseSections
 pub mod ParseWas
 pub mod PartialLaws
+pub mod Passes
 pub mod Postfix
 pub mod Premises
 pub mod PremisesLaws

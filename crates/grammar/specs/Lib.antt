@@ -42,6 +42,8 @@ pub mod FirstSetsLaws
 pub mod Fixpoint
 pub mod FixpointLaws
 pub mod Formula
+pub mod FormulaCheck
+pub mod FormulaCheckCases
 pub mod FormulaPremises
 pub mod FormulaTable
 pub mod GoLaws

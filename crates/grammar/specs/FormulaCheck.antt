@@ -16,9 +16,9 @@ use Rattle.grammar.specs.CoreItems.{Core, core}
 use Rattle.grammar.specs.Slots.{Slots, slotAt, ownAt, sameFormula, ready}
 use Rattle.grammar.specs.Passes.{passes}
 
--- line d of the inherited attributes' definitions; past the last, one that nothing reads
-abbrev pub definitionAt : List InheritedDefinition → ℕ → InheritedDefinition
-definitionAt lines d = getD lines d (record { rule = 0; position = 0; attribute = 0; expression = number 0 })
+-- a line that nothing reads
+abbrev pub noDefinition : InheritedDefinition
+noDefinition = record { rule = 0; position = 0; attribute = 0; expression = number 0 }
 
 -- the dot before the symbol that a definition is of: it belongs to the item (rule, dot)
 abbrev pub dotOf : InheritedDefinition → ℕ
@@ -63,8 +63,9 @@ module _ (b : Book) where
   abbrev pub definitions : ℕ
   definitions = length (b .inheritedDefinitions)
 
+  -- the definition of a place
   abbrev pub lineAt : ℕ → InheritedDefinition
-  lineAt d = definitionAt (b .inheritedDefinitions) d
+  lineAt d = getD (b .inheritedDefinitions) d noDefinition
 
   module _ (member : ℕ → ℕ → Bool) where
     -- a definition may give its formula: its item is in the partial state, and does not wait for its left side

@@ -28,6 +28,7 @@ pub mod Decorate
 pub mod Decorated
 pub mod DecoratedLaws
 pub mod DefinitionLaws
+pub mod DefinitionPremises
 pub mod Demand
 pub mod DemandProof
 pub mod Engine

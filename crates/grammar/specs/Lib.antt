@@ -45,6 +45,7 @@ pub mod FixpointLaws
 pub mod Formula
 pub mod FormulaCheck
 pub mod FormulaCheckCases
+pub mod FormulaCheckLaws
 pub mod FormulaCheckSteps
 pub mod FormulaPremises
 pub mod FormulaTable

@@ -30,28 +30,17 @@ use Rattle.grammar.specs.FormulaCheck.{dotOf, Progress, progress, split,
 use Rattle.grammar.specs.FormulaCheck.{ended, check}
 use Rattle.grammar.specs.DefinitionPremises.{LineRight, DefinitionPremises}
 use Rattle.grammar.specs.FormulaCheckSteps.{done-either, none-done, Within, none-stands, set-within, set-each, enter-by, visit-by, Long, fresh-long}
-use Rattle.grammar.specs.FormulaCheckSteps.{growing, visit-done, ready-within, formula-within, line-gives}
+use Rattle.grammar.specs.FormulaCheckSteps.{due-in, due-out, growing, visit-done, ready-within, formula-within, line-gives}
 
 -- the test tells by rule and dot which items the partial state (S, a) has
 abbrev pub Tells : Book → ℕ → ℕ → (ℕ → ℕ → Bool) → Type 0
 Tells b S a member = (P D : ℕ) → Decides (member P D) ((c : ℕ) × Partial b S a P D c)
 
+-- a definition's attribute has a slot
+room : (b : Book) → DefinitionPremises b → (slots : Slots) (d : ℕ) → d < definitions b → length slots ≡ MAX-INHERITED → lineAt b d .attribute < length slots
+room b L slots d l s = let k = L .line-right d l .attribute-there in let most = L .attributes-limit in omega arith
+
 module _ (b : Book) (member : ℕ → ℕ → Bool) (L : DefinitionPremises b) where
-  due-in : (slots : Slots) (line : InheritedDefinition) → member (line .rule) (dotOf line) ≡ true → ready b slots (line .rule) (dotOf line) ≡ true
-      → due b member slots line ≡ true
-  unfolding due
-  due-in slots line m r = rw (m, due) r
-
-  due-out : (slots : Slots) (line : InheritedDefinition) → due b member slots line ≡ true
-      → (member (line .rule) (dotOf line) ≡ true) × (ready b slots (line .rule) (dotOf line) ≡ true)
-  unfolding due
-  due-out slots line = by (member (line .rule) (dotOf line)) refl
-    where
-      by : (t : Bool) → member (line .rule) (dotOf line) ≡ t → elim t [ true ↦ ready b slots (line .rule) (dotOf line) | false ↦ false ] ≡ true
-          → (member (line .rule) (dotOf line) ≡ true) × (ready b slots (line .rule) (dotOf line) ≡ true)
-      by true m r = (m, r)
-      by false m r = absurd (false≢true r)
-
   -- ---------------------------------------------------------------- what is done stands
 
   -- the definition does not wait, and its formula stands
@@ -78,9 +67,6 @@ module _ (b : Book) (member : ℕ → ℕ → Bool) (L : DefinitionPremises b) w
       by (inl p) = rw p given
       by (inr q) = before e l q
 
-  room : (slots : Slots) (d : ℕ) → d < definitions b → length slots ≡ MAX-INHERITED → lineAt b d .attribute < length slots
-  room slots d l s = let k = L .line-right d l .attribute-there in let most = L .attributes-limit in omega arith
-
   visit-held : Keeps (visit b member) Held (definitions b)
   visit-held d l s (long, given) = (growing b member .keeps d l s long, visit-given s long given)
     where
@@ -88,7 +74,7 @@ module _ (b : Book) (member : ℕ → ℕ → Bool) (L : DefinitionPremises b) w
       visit-given split long given = unfold visit in tt
       visit-given (progress slots done) (s, m) given = visit-by b member AllGiven d slots done given λ n h.
           let right = L .line-right d l in
-          let (m, r) = due-out slots (lineAt b d) h in
+          let (m, r) = due-out b member slots (lineAt b d) h in
           let K = lineAt b d .attribute in
           let f = formulaOf slots (lineAt b d) in
           enter-by AllGiven slots (set done d true) K f
@@ -96,7 +82,7 @@ module _ (b : Book) (member : ℕ → ℕ → Bool) (L : DefinitionPremises b) w
             let within = set-within slots K f e in
             let other = set slots K (some f) in
             also-given other done d
-            (ready-within b slots other _ _ within r, getD-set-same slots K (some f) none (room slots d l s) ∙ ap some (formula-within b slots other right within r))
+            (ready-within b slots other _ _ within r, getD-set-same slots K (some f) none (room b L slots d l s) ∙ ap some (formula-within b slots other right within r))
             (λ e k q. given-within slots other (L .line-right e k) within (given e k q)))
           (λ e. also-given slots done d (r, e) given)
           (λ g e q. tt)
@@ -133,7 +119,7 @@ module _ (b : Book) (H : FormulaPremises b) (L : DefinitionPremises b) (S a : �
     ready-stands {P} {D} {c} {B} {β} chain K r h o =
         let (d, l, (p, j, k)) = L .next-line P D B K β h o in
         let dot : dotOf (lineAt b d) ≡ D = omega arith in
-        let due-now = due-in b member L slots (lineAt b d) (rw (p, dot) (chain-member chain)) (rw (p, dot) r) in
+        let due-now = due-in b member slots (lineAt b d) (rw (p, dot) (chain-member chain)) (rw (p, dot) r) in
         let stands = end-given b member L slots done end d l due-now .1 ∙ ap some (line-gives b slots (L .line-right d l)) in
         rw (p, dot, k) at stands
 
@@ -167,7 +153,7 @@ module _ (b : Book) (H : FormulaPremises b) (L : DefinitionPremises b) (S a : �
         → slotAt settled (lineAt b d .attribute) ≡ some (formulaOf slots (lineAt b d))
     line-inside slots d l h within =
         let right = L .line-right d l in
-        let (m, r) = due-out b member L slots (lineAt b d) h in
+        let (m, r) = due-out b member slots (lineAt b d) h in
         let (M, i) = member-item (lineAt b d .rule) (dotOf (lineAt b d)) m in
         let (β, e) = right .before-owner in
         agree (core _ _ M) i _ β e (lineAt b d .attribute) (right .attribute-there) refl
@@ -179,7 +165,7 @@ module _ (b : Book) (H : FormulaPremises b) (L : DefinitionPremises b) (S a : �
         by : (s : Progress) → Long s → Inside s → Inside (visit b member d s)
         by (progress slots done) (s, m) within = visit-by b member Inside d slots done within λ n h.
             let there = line-inside slots d l h within in
-            enter-by Inside slots (set done d true) _ _ (λ e. set-each _ slots _ _ (room b member L slots d l s) within there) (λ e. within)
+            enter-by Inside slots (set done d true) _ _ (λ e. set-each _ slots _ _ (room b L slots d l s) within there) (λ e. within)
             (λ g e differ. differ (let here = within _ g e in cc))
 
     pub inside-unsplit : check b member ≡ true

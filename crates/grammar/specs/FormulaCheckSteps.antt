@@ -5,7 +5,7 @@ use native.Mathlib.Omega.{arith}
 use native.Mathlib.Decide.{ℕ-discrete}
 use mathlib.Core.Path.{_≡_, refl, ap, sym, _∙_}
 use mathlib.Core.Logic.{_≢_, _⊎_, inl, inr}
-use mathlib.Core.Bool.{Bool, true, false}
+use mathlib.Core.Bool.{Bool, true, false, false≢true}
 use mathlib.Core.Option.{Option, none, some}
 use mathlib.Core.List.{List, [], _∷_}
 use lib.ListN.{length, getD, set, replicate, length-set, length-replicate}
@@ -106,6 +106,22 @@ enter-by Q slots done K f new old other = by (slotAt slots K) refl
         (λ t. other g e λ p. true-false (same-formula g f .complete p) t)
 
 module _ (b : Book) (member : ℕ → ℕ → Bool) where
+  -- it is due if its item is in the partial state and does not wait
+  pub due-in : (slots : Slots) (line : InheritedDefinition) → member (line .rule) (dotOf line) ≡ true → ready b slots (line .rule) (dotOf line) ≡ true
+      → due b member slots line ≡ true
+  unfolding due
+  due-in slots line m r = rw (m, due) r
+
+  pub due-out : (slots : Slots) (line : InheritedDefinition) → due b member slots line ≡ true
+      → (member (line .rule) (dotOf line) ≡ true) × (ready b slots (line .rule) (dotOf line) ≡ true)
+  unfolding due
+  due-out slots line = by (member (line .rule) (dotOf line)) refl
+    where
+      by : (t : Bool) → member (line .rule) (dotOf line) ≡ t → elim t [ true ↦ ready b slots (line .rule) (dotOf line) | false ↦ false ] ≡ true
+          → (member (line .rule) (dotOf line) ≡ true) × (ready b slots (line .rule) (dotOf line) ≡ true)
+      by true m r = (m, r)
+      by false m r = absurd (false≢true r)
+
   -- nothing happens, or the definition of the place gives its formula
   pub visit-by : (Q : Progress → Type 0) (d : ℕ) (slots : Slots) (done : List Bool) → Q (progress slots done)
       → (getD done d true ≡ false → due b member slots (lineAt b d) ≡ true

@@ -67,6 +67,17 @@ module _ {S : Type 0} (visit : ℕ → S → S) (Q : S → Type 0) where
   unfolding passes
   passes-keep size n keep s q = kept (λ t u. eqb (size t) (size u)) (visits visit n) Q (visits-keep n keep) (2 ^ 40) s q
 
+-- visits that do the same at every place make the same passes
+module _ {S : Type 0} (visit other : ℕ → S → S) where
+  pub visits-same : (n : ℕ) → ((d : ℕ) → d < n → (s : S) → visit d s ≡ other d s) → (s : S) → visits visit n s ≡ visits other n s
+  unfolding visits
+  visits-same zero same s = refl
+  visits-same (suc n) same s = same n (omega arith) (visits visit n s) ∙ ap (other n) (visits-same n (λ d l. same d (omega arith)) s)
+
+  pub passes-same : (size : S → ℕ) (n : ℕ) → ((d : ℕ) → d < n → (s : S) → visit d s ≡ other d s) → (s : S) → passes visit size n s ≡ passes other size n s
+  unfolding passes
+  passes-same size n same s = ap (λ step. iterate (λ t u. eqb (size t) (size u)) step (2 ^ 40) s) (λ i t. visits-same n same t i)
+
 -- what is asked of the visits of n places: `ok` is kept, and a change makes the size larger, up to a bound
 pub record Growing {S : Type 0} (visit : ℕ → S → S) (n : ℕ) (ok : S → Type 0) (size : S → ℕ) : Type 0 where
   pub keeps : Keeps visit ok n

@@ -8,6 +8,7 @@ pub mod Cases
 pub mod CasesProof
 pub mod CellLaws
 pub mod ChainLaws
+pub mod ChainReady
 pub mod Chains
 pub mod ClosureBounds
 pub mod ClosureLaws
@@ -44,6 +45,7 @@ pub mod Fixpoint
 pub mod FixpointLaws
 pub mod Formula
 pub mod FormulaCheck
+pub mod FormulaCheckAll
 pub mod FormulaCheckCases
 pub mod FormulaCheckLaws
 pub mod FormulaCheckSteps

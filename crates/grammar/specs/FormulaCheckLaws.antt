@@ -16,21 +16,23 @@ use Rattle.grammar.specs.DecidesSteps.{All}
 use Rattle.grammar.specs.TestLaws.{true-false}
 use Rattle.grammar.specs.Symbol.{Symbol, nonterminal, leftOf, after}
 use Rattle.grammar.specs.Book.{InheritedDefinition, Book, inheritedOwner}
-use Rattle.grammar.specs.Items.{derives, KernelItem, Partial, Chain, one, longer}
+use Rattle.grammar.specs.Items.{Partial, Chain}
 use Rattle.grammar.specs.Formula.{Formula, gives}
 use Rattle.grammar.specs.ChainLaws.{chain-partial, chain-to, OneFormula}
 use Rattle.grammar.specs.CoreItems.{Core, core}
 use Rattle.grammar.specs.Slots.{Slots, slotAt, ownAt, attributes, ready, slotsOf, agrees}
-use Rattle.grammar.specs.SlotsTests.{settledBelow-decides, ItemAgrees, agrees-decides}
+use Rattle.grammar.specs.SlotsFill.{Filled}
+use Rattle.grammar.specs.SlotsTests.{ItemAgrees, agrees-decides}
 use Rattle.grammar.specs.SlotsLaws.{agrees-one-formula, one-formula-agrees}
 use Rattle.grammar.specs.PartialLaws.{PartialItems}
 use Rattle.grammar.specs.FormulaPremises.{FormulaPremises}
+use Rattle.grammar.specs.ChainReady.{Ready, chain-ready}
 use Rattle.grammar.specs.Passes.{Keeps, passes-keep, passes-rest}
 use Rattle.grammar.specs.FormulaCheck.{dotOf, Progress, progress, split, advance, unsplit, fresh, enter, formulaOf, definitions, lineAt, due, visit}
 use Rattle.grammar.specs.FormulaCheck.{ended, check}
 use Rattle.grammar.specs.DefinitionPremises.{LineRight, DefinitionPremises}
 use Rattle.grammar.specs.FormulaCheckSteps.{done-either, none-done, Within, none-stands, set-within, set-each, enter-by, visit-by, Long, fresh-long}
-use Rattle.grammar.specs.FormulaCheckSteps.{due-in, due-out, growing, visit-done, ready-within, formula-within, line-gives}
+use Rattle.grammar.specs.FormulaCheckSteps.{due-in, due-out, growing, visit-done, ready-filled, ready-within, formula-within, line-gives}
 
 -- the test tells by rule and dot which items the partial state (S, a) has
 abbrev pub Tells : Book → ℕ → ℕ → (ℕ → ℕ → Bool) → Type 0
@@ -124,20 +126,15 @@ module _ (b : Book) (H : FormulaPremises b) (L : DefinitionPremises b) (S a : �
         rw (p, dot, k) at stands
 
     -- and no chain's last item waits
-    chain-ready : {P D c : ℕ} → Chain b S a P D c → ready b slots P D ≡ true
-    unfolding ready
-    chain-ready (one {P = P} {D = D} {c = c} k r) = by D k
+    unwaiting : {P D c : ℕ} → Chain b S a P D c → ready b slots P D ≡ true
+    unwaiting {P} {D} {c} chain = ready-filled b slots P D (chain-ready b (λ K. Filled (slotAt slots K)) H S a settles chain)
       where
-        by : (D : ℕ) → KernelItem b S P D c → ready b slots P D ≡ true
-        by zero k =
-            let start : P ≡ 0 = H .start-dot S P c k in
-            settledBelow-decides _ _ _ _ .complete λ K l o. absurd (H .start-bare K (o ∙ ap (leftOf (b .rules)) start ∙ H .start-left))
-        by (suc D) k = refl
-    chain-ready (longer chain (derives g p q f) r) =
-        settledBelow-decides _ _ _ _ .complete λ J l o. (gives b _ _ _ J, ready-stands chain J (chain-ready chain) g (o ∙ q))
+        settles : (P D c B K : ℕ) (β : List Symbol) → Chain b S a P D c → Ready b (λ J. Filled (slotAt slots J)) P D → after (b .rules) P D ≡ nonterminal B ∷ β
+            → inheritedOwner b K ≡ B → Filled (slotAt slots K)
+        settles P D c B K β chain r h o = (gives b P D (ownAt slots D) K, ready-stands chain K (ready-filled b slots P D r) h o)
 
     items-agree : All (ItemAgrees b slots) items
-    items-agree (core P D M) m = λ B β h K l o. let (c, chain) = listed .item-chain P D M m in ready-stands chain K (chain-ready chain) h o
+    items-agree (core P D M) m = λ B β h K l o. let (c, chain) = listed .item-chain P D M m in ready-stands chain K (unwaiting chain) h o
 
     pub ended-one-formula : OneFormula b S a
     ended-one-formula = agrees-one-formula b H S a items listed slots (agrees-decides b slots items .complete items-agree)

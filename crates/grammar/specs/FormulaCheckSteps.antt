@@ -21,8 +21,9 @@ use Rattle.grammar.specs.ConditionsLaws.{Reads}
 use Rattle.grammar.specs.Formula.{Formula, becomes, gives}
 use Rattle.grammar.specs.Slots.{Slots, slotAt, standing, ownAt, sameFormula, attributes, ready}
 use Rattle.grammar.specs.SameFormula.{same-formula}
-use Rattle.grammar.specs.SlotsFill.{Each}
+use Rattle.grammar.specs.SlotsFill.{Filled, Each}
 use Rattle.grammar.specs.SlotsTests.{settledBelow-decides}
+use Rattle.grammar.specs.ChainReady.{Ready}
 use Rattle.grammar.specs.Passes.{Larger, Keeps, Growing}
 use Rattle.grammar.specs.FormulaCheck.{dotOf, Progress, progress, split, doneIn, advance, fresh, enter, formulaOf, definitions, lineAt, due, visit}
 use Rattle.grammar.specs.DefinitionPremises.{LineRight}
@@ -189,6 +190,12 @@ module _ (b : Book) (member : ℕ → ℕ → Bool) where
 -- ---------------------------------------------------------------- what a definition gives
 
 module _ (b : Book) where
+  -- an item whose left side is filled, or whose dot is not in front, does not wait
+  pub ready-filled : (slots : Slots) (P D : ℕ) → Ready b (λ K. Filled (slotAt slots K)) P D → ready b slots P D ≡ true
+  unfolding ready
+  ready-filled slots P zero h = settledBelow-decides _ slots _ _ .complete (h refl)
+  ready-filled slots P (suc D) h = refl
+
   -- what an item waits for stays
   pub ready-within : (slots other : Slots) (P D : ℕ) → Within slots other → ready b slots P D ≡ true → ready b other P D ≡ true
   unfolding ready

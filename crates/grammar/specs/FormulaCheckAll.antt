@@ -35,7 +35,7 @@ use Rattle.grammar.specs.Passes.{visits, passes, visits-keep, passes-sam
 use Rattle.grammar.specs.FormulaCheck.{dotOf, Progress, progress, split, advance, unsplit, fresh, enter, formulaOf, definitions, lineAt, due, visit}
 use Rattle.grammar.specs.FormulaCheck.{ended, check, checkAll, isItem, listed}
 use Rattle.grammar.specs.DefinitionPremises.{DefinitionPremises, definition-premises}
-use Rattle.grammar.specs.FormulaCheckSteps.{Long, growing}
+use Rattle.grammar.specs.FormulaCheckSteps.{holds-decides, Long, growing}
 use Rattle.grammar.specs.FormulaCheckLaws.{Tells, check-decides}
 
 -- two tests of one thing answer the same
@@ -64,7 +64,7 @@ fails-below f i n l e = by (allBelow n f) refl
   where
     by : (t : Bool) → allBelow n f ≡ t → t ≡ false
     by false h = refl
-    by true h = true-false (below-decides {P = λ i. f i ≡ true} n (λ i k. record { sound = λ e. e; complete = λ e. e }) .sound h i l) e
+    by true h = true-false (below-decides {P = λ i. f i ≡ true} n (λ i k. holds-decides) .sound h i l) e
 
 -- ---------------------------------------------------------------- tests that tell the items
 
@@ -137,7 +137,7 @@ module _ (b : Book) (members : ℕ → ℕ → ℕ → Bool) where
   check-again i a l same = by (allBelow a (λ c. check b (members c))) refl
     where
       at : allBelow a (λ c. check b (members c)) ≡ true → check b (members i) ≡ true
-      at h = below-decides {P = λ c. check b (members c) ≡ true} a (λ c k. record { sound = λ e. e; complete = λ e. e }) .sound h i l
+      at h = below-decides {P = λ c. check b (members c) ≡ true} a (λ c k. holds-decides) .sound h i l
 
       by : (t : Bool) → allBelow a (λ c. check b (members c)) ≡ t → elim t [ true ↦ check b (members a) | false ↦ false ] ≡ t
       by true e = sym (check-same b (members i) (members a) same) ∙ at e

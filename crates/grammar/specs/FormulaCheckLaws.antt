@@ -32,7 +32,7 @@ use Rattle.grammar.specs.FormulaCheck.{dotOf, Progress, progress, split,
 use Rattle.grammar.specs.FormulaCheck.{ended, check}
 use Rattle.grammar.specs.DefinitionPremises.{LineRight, DefinitionPremises}
 use Rattle.grammar.specs.FormulaCheckSteps.{done-either, none-done, Within, none-stands, set-within, set-each, enter-by, visit-by, Long, fresh-long}
-use Rattle.grammar.specs.FormulaCheckSteps.{due-in, due-out, growing, visit-done, ready-filled, ready-within, formula-within, line-gives}
+use Rattle.grammar.specs.FormulaCheckSteps.{due-decides, growing, visit-done, ready-filled, ready-within, formula-within, line-gives}
 
 -- the test tells by rule and dot which items the partial state (S, a) has
 abbrev pub Tells : Book → ℕ → ℕ → (ℕ → ℕ → Bool) → Type 0
@@ -76,7 +76,7 @@ module _ (b : Book) (member : ℕ → ℕ → Bool) (L : DefinitionPremises b) w
       visit-given split long given = unfold visit in tt
       visit-given (progress slots done) (s, m) given = visit-by b member AllGiven d slots done given λ n h.
           let right = L .line-right d l in
-          let (m, r) = due-out b member slots (lineAt b d) h in
+          let (m, r) = due-decides b member slots (lineAt b d) .sound h in
           let K = lineAt b d .attribute in
           let f = formulaOf slots (lineAt b d) in
           enter-by AllGiven slots (set done d true) K f
@@ -121,7 +121,7 @@ module _ (b : Book) (H : FormulaPremises b) (L : DefinitionPremises b) (S a : �
     ready-stands {P} {D} {c} {B} {β} chain K r h o =
         let (d, l, (p, j, k)) = L .next-line P D B K β h o in
         let dot : dotOf (lineAt b d) ≡ D = omega arith in
-        let due-now = due-in b member slots (lineAt b d) (rw (p, dot) (chain-member chain)) (rw (p, dot) r) in
+        let due-now = due-decides b member slots (lineAt b d) .complete (rw (p, dot) (chain-member chain), rw (p, dot) r) in
         let stands = end-given b member L slots done end d l due-now .1 ∙ ap some (line-gives b slots (L .line-right d l)) in
         rw (p, dot, k) at stands
 
@@ -150,7 +150,7 @@ module _ (b : Book) (H : FormulaPremises b) (L : DefinitionPremises b) (S a : �
         → slotAt settled (lineAt b d .attribute) ≡ some (formulaOf slots (lineAt b d))
     line-inside slots d l h within =
         let right = L .line-right d l in
-        let (m, r) = due-out b member slots (lineAt b d) h in
+        let (m, r) = due-decides b member slots (lineAt b d) .sound h in
         let (M, i) = member-item (lineAt b d .rule) (dotOf (lineAt b d)) m in
         let (β, e) = right .before-owner in
         agree (core _ _ M) i _ β e (lineAt b d .attribute) (right .attribute-there) refl

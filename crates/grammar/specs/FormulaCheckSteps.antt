@@ -5,13 +5,13 @@ use native.Mathlib.Omega.{arith}
 use native.Mathlib.Decide.{ℕ-discrete}
 use mathlib.Core.Path.{_≡_, refl, ap, sym, _∙_}
 use mathlib.Core.Logic.{_≢_, _⊎_, inl, inr}
-use mathlib.Core.Bool.{Bool, true, false, false≢true}
+use mathlib.Core.Bool.{Bool, true, false}
 use mathlib.Core.Option.{Option, none, some}
 use mathlib.Core.List.{List, [], _∷_}
 use lib.ListN.{length, getD, set, replicate, length-set, length-replicate}
 use lib.Seq.{getD-set-same, getD-set-other}
 use Rattle.grammar.specs.Limits.{MAX-INHERITED, MAX-DEFINITIONS}
-use Rattle.grammar.specs.Decides.{Decides, refutes}
+use Rattle.grammar.specs.Decides.{Decides, then-decides}
 use Rattle.grammar.specs.TestLaws.{by-test, true-false}
 use Rattle.grammar.specs.Symbol.{leftOf}
 use Rattle.grammar.specs.Term.{replace}
@@ -27,6 +27,10 @@ use Rattle.grammar.specs.ChainReady.{Ready}
 use Rattle.grammar.specs.Passes.{Larger, Keeps, Growing}
 use Rattle.grammar.specs.FormulaCheck.{dotOf, Progress, progress, split, doneIn, advance, fresh, enter, formulaOf, definitions, lineAt, due, visit}
 use Rattle.grammar.specs.DefinitionPremises.{LineRight}
+
+-- a test decides that it holds
+pub holds-decides : {t : Bool} → Decides t (t ≡ true)
+holds-decides = record { sound = λ e. e; complete = λ e. e }
 
 -- ---------------------------------------------------------------- definitions that are done
 
@@ -108,20 +112,10 @@ enter-by Q slots done K f new old other = by (slotAt slots K) refl
 
 module _ (b : Book) (member : ℕ → ℕ → Bool) where
   -- it is due if its item is in the partial state and does not wait
-  pub due-in : (slots : Slots) (line : InheritedDefinition) → member (line .rule) (dotOf line) ≡ true → ready b slots (line .rule) (dotOf line) ≡ true
-      → due b member slots line ≡ true
+  pub due-decides : (slots : Slots) (line : InheritedDefinition)
+      → Decides (due b member slots line) ((member (line .rule) (dotOf line) ≡ true) × (ready b slots (line .rule) (dotOf line) ≡ true))
   unfolding due
-  due-in slots line m r = rw (m, due) r
-
-  pub due-out : (slots : Slots) (line : InheritedDefinition) → due b member slots line ≡ true
-      → (member (line .rule) (dotOf line) ≡ true) × (ready b slots (line .rule) (dotOf line) ≡ true)
-  unfolding due
-  due-out slots line = by (member (line .rule) (dotOf line)) refl
-    where
-      by : (t : Bool) → member (line .rule) (dotOf line) ≡ t → elim t [ true ↦ ready b slots (line .rule) (dotOf line) | false ↦ false ] ≡ true
-          → (member (line .rule) (dotOf line) ≡ true) × (ready b slots (line .rule) (dotOf line) ≡ true)
-      by true m r = (m, r)
-      by false m r = absurd (false≢true r)
+  due-decides slots line = then-decides holds-decides holds-decides
 
   -- nothing happens, or the definition of the place gives its formula
   pub visit-by : (Q : Progress → Type 0) (d : ℕ) (slots : Slots) (done : List Bool) → Q (progress slots done)

@@ -79,6 +79,8 @@ pub mod ParseSections
 pub mod ParseWas
 pub mod PartialLaws
 pub mod Passes
+pub mod Plan
+pub mod PlanLaws
 pub mod Postfix
 pub mod Premises
 pub mod PremisesLaws

@@ -28,11 +28,18 @@ use Rattle.grammar.specs.Machine.{Tables, Frame, frame, inheritedAt, for
 use Rattle.grammar.specs.Chains.{stackValue, cell-value}
 use Rattle.grammar.specs.Premises.{Premises}
 use Rattle.grammar.specs.Slots.{attributes}
-use Rattle.grammar.specs.FormulaPremises.{FormulaPremises}
+use Rattle.grammar.specs.BookFacts.{small-book}
+use Rattle.grammar.specs.ItemsRightLaws.{book-items-right}
+use Rattle.grammar.specs.Compiled.{compiled}
+use Rattle.grammar.specs.FormulaTable.{formula-some}
+use Rattle.grammar.specs.Refusal.{Sound}
+use Rattle.grammar.specs.Engine.{tablesFrom, tablesOf}
+use Rattle.grammar.specs.TakenPremises.{premises}
+use Rattle.grammar.specs.FormulaPremises.{FormulaPremises, formula-premises}
 use Rattle.grammar.specs.ChainReady.{Ready, chain-settles}
 use Rattle.grammar.specs.Passes.{Larger, Keeps, passes-keep, Growing, passes-rest}
 use Rattle.grammar.specs.FormulaCheck.{dotOf, doneIn, definitions, lineAt}
-use Rattle.grammar.specs.DefinitionPremises.{LineRight, DefinitionPremises}
+use Rattle.grammar.specs.DefinitionPremises.{LineRight, DefinitionPremises, definition-premises}
 use Rattle.grammar.specs.FormulaCheckSteps.{holds-decides, done-more, done-length, done-either, none-done}
 use Rattle.grammar.specs.FormulaCheckLaws.{Tells}
 use Rattle.grammar.specs.Plan.{Setting, setting, setIn, valueAt, valueIn, unset, settledIn, valueOf, readyIn, dueIn, setLine, settled, fillCell}
@@ -240,3 +247,15 @@ module _ (b : Book) (T : Tables) (H : Premises b T) (F : FormulaPremises b) (L :
             at (yes l) false k = right K .1 k ∙ sym (bare-cell values known e K λ q m. true-false q k)
             at (no n) t k =
                 List·getD-eq-default values 0 (omega arith) ∙ sym (bare-cell values known e K λ q m. n m)
+
+-- ---------------------------------------------------------------- a book that is taken
+
+module _ {b : Book} (spelled : Spelled b) (s : Sound b) where
+  pub taken-cell : (S a : ℕ) (member : ℕ → ℕ → Bool) → Tells b S a member → (st : List Frame) (K : ℕ)
+      → fillCell b member st K ≡ cell (tablesOf b) S a st K
+  unfolding tablesOf tablesFrom compiled
+  taken-cell S a member tells st =
+      let F = formula-premises (s .limits) (s .names) (s .attributes) (s .kernel-rules) in
+      let right = book-items-right b (small-book (spelled .ordered) (s .limits) (s .names)) in
+      fills-cell b (tablesOf b) (premises spelled s) F (definition-premises (spelled .ordered) (s .limits) (s .names) (s .attributes) (s .definitions)) S a st
+      member tells (formula-some right F (s .one-formula) S a)

@@ -1,11 +1,11 @@
 -- What is settled by passes is settled at every chain: if the last item of a chain settles its next nonterminal as soon as it need not wait for its left
 -- side, no last item waits. Assumes the premises of formulas.
-use Prim.Native.Nat.{ℕ, zero, _<_}
+use Prim.Native.Nat.{ℕ, _<_}
 use mathlib.Core.Path.{_≡_, ap, _∙_}
 use mathlib.Core.List.{List, _∷_}
 use Rattle.grammar.specs.Symbol.{Symbol, nonterminal, leftOf, after}
 use Rattle.grammar.specs.Book.{Book, inheritedOwner}
-use Rattle.grammar.specs.Items.{derives, KernelItem, Chain, one, longer}
+use Rattle.grammar.specs.Items.{derives, Chain, one, longer}
 use Rattle.grammar.specs.Slots.{attributes}
 use Rattle.grammar.specs.FormulaPremises.{FormulaPremises}
 
@@ -15,7 +15,8 @@ module _ (b : Book) (Settled : ℕ → Type 0) where
   Ready P D = D ≡ 0 → (K : ℕ) → K < attributes b → inheritedOwner b K ≡ leftOf (b .rules) P → Settled K
 
   module _ (H : FormulaPremises b) (S a : ℕ)
-      (settles : (P D c B K : ℕ) (β : List Symbol) → Chain b S a P D c → Ready P D → after (b .rules) P D ≡ nonterminal B ∷ β → inheritedOwner b K ≡ B → Settled K) where
+      (settles : (P D c B K : ℕ) (β : List Symbol) → Chain b S a P D c → Ready P D → after (b .rules) P D ≡ nonterminal B ∷ β
+      → inheritedOwner b K ≡ B → Settled K) where
     pub chain-ready : {P D c : ℕ} → Chain b S a P D c → Ready P D
     chain-ready (one {P = P} {D = D} {c = c} k r) e K l o =
         let start : P ≡ 0 = H .start-dot S P c (rw e at k) in
@@ -23,5 +24,6 @@ module _ (b : Book) (Settled : ℕ → Type 0) where
     chain-ready (longer {P = P} {D = D} {c = c} chain (derives {B = B} {β = β} g p q f) r) e K l o = settles P D c B K β chain (chain-ready chain) g (o ∙ q)
 
     -- so every chain settles its next nonterminal
-    pub chain-settles : {P D c B : ℕ} {β : List Symbol} → Chain b S a P D c → (K : ℕ) → after (b .rules) P D ≡ nonterminal B ∷ β → inheritedOwner b K ≡ B → Settled K
+    pub chain-settles : {P D c B : ℕ} {β : List Symbol} → Chain b S a P D c → (K : ℕ) → after (b .rules) P D ≡ nonterminal B ∷ β
+        → inheritedOwner b K ≡ B → Settled K
     chain-settles {P} {D} {c} {B} {β} chain K h o = settles P D c B K β chain (chain-ready chain) h o

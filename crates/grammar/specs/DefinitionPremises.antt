@@ -59,7 +59,8 @@ module _ {b : Book} (ordered : Ordered b) (limits : WithinLimits b) (declared : 
       (λ d n (p, j, k). ap (λ x. x .expression) (ascends-unique (ordered .inherited) n m (rw (p, j, k))))
 
   line-before : (line : InheritedDefinition) → Mem line (b .inheritedDefinitions)
-      → after (b .rules) (line .rule) (dotOf line) ≡ nonterminal (inheritedOwner b (line .attribute)) ∷ drop (suc (dotOf line)) (rightOf (b .rules) (line .rule))
+      → after (b .rules) (line .rule) (dotOf line)
+      ≡ nonterminal (inheritedOwner b (line .attribute)) ∷ drop (suc (dotOf line)) (rightOf (b .rules) (line .rule))
   unfolding symbolAt
   line-before line m =
       let place = declared .inherited-declared line m .position-there in

@@ -1,7 +1,7 @@
 -- The one-formula check (10) by definitions instead of items (01, "Partial states and chains"): each inherited attribute's definition whose item is in the
 -- partial state gives its formula once, as soon as the left side of its rule is settled, and two different formulas of one attribute end the check. The
 -- partial state is given by a test of its items, by rule and dot. The lists are as long as 01's limits. Assumes nothing.
-use Prim.Native.Nat.{ℕ, zero, suc, _-_}
+use Prim.Native.Nat.{ℕ, suc, _-_}
 use mathlib.Core.Bool.{Bool, true, false, _&&_}
 use mathlib.Core.Option.{none, some}
 use mathlib.Core.List.{List, [], _∷_}

@@ -4,9 +4,8 @@ use Prim.Native.Nat.{ℕ, zero, suc, _≤_, _<_}
 use native.Mathlib.Omega.{arith}
 use native.Mathlib.Decide.{ℕ-discrete}
 use mathlib.Core.Path.{_≡_, refl, ap, sym, _∙_}
-use mathlib.Core.Bool.{Bool, true, false, false≢true}
+use mathlib.Core.Bool.{Bool, true, false}
 use mathlib.Core.List.{List, List·Memᴰ as Mem}
-use lib.Dec.{eqb}
 use lib.ListN.{getD, set}
 use Rattle.sets.specs.Sets.{bit}
 use Rattle.grammar.specs.Decides.{Decides, equivalent, eq-decides, and-decides, then-decides, any-decides, allBelow}
@@ -31,7 +30,7 @@ use Rattle.grammar.specs.PartialLaws.{PartialItems, partial-items}
 use Rattle.grammar.specs.FormulaPremises.{FormulaPremises, formula-premises}
 use Rattle.grammar.specs.Compiled.{itemsTable, partsTable, oneFormula}
 use Rattle.grammar.specs.OneFormulaLaws.{oneFormula-decides}
-use Rattle.grammar.specs.Passes.{visits, passes, visits-keep, passes-same, passes-turn, passes-end}
+use Rattle.grammar.specs.Passes.{visits, passes, passes-same, passes-turn, passes-end}
 use Rattle.grammar.specs.FormulaCheck.{dotOf, Progress, progress, split, advance, unsplit, fresh, enter, formulaOf, definitions, lineAt, due, visit}
 use Rattle.grammar.specs.FormulaCheck.{ended, check, checkAll, isItem, listed}
 use Rattle.grammar.specs.DefinitionPremises.{DefinitionPremises, definition-premises}
@@ -169,7 +168,8 @@ module _ {b : Book} {F : Sets} {R : List ℕ} (right : ItemsRight b F R) (H : Fo
     (members : ℕ → ℕ → ℕ → ℕ → Bool) (tells : (S a : ℕ) → S < b .states → a ≤ b .terminals → Tells b S a (members S a)) where
   pub checkAll-decides : Decides (checkAll b members) (LR-attributed b)
   unfolding checkAll
-  checkAll-decides = equivalent everywhere (λ h S l a m. h S a) (below-decides (b .states) λ S l. below-decides (suc (b .terminals)) λ a m. one S a l (omega arith))
+  checkAll-decides =
+      equivalent everywhere (λ h S l a m. h S a) (below-decides (b .states) λ S l. below-decides (suc (b .terminals)) λ a m. one S a l (omega arith))
     where
       one : (S a : ℕ) → S < b .states → a ≤ b .terminals → Decides (check b (members S a)) (OneFormula b S a)
       one S a l m = check-decides b H L S a _ (partial-items right S a) (members S a) (tells S a l m)
@@ -186,7 +186,8 @@ module _ {b : Book} {F : Sets} {R : List ℕ} (right : ItemsRight b F R) (H : Fo
 
 -- ---------------------------------------------------------------- from the conditions 2 to 7
 
-module _ {b : Book} (ordered : Ordered b) (limits : WithinLimits b) (declared : Declared b) (owned : Owned b) (defined : Defined b) (kernels : KernelRules b) where
+module _ {b : Book} (ordered : Ordered b) (limits : WithinLimits b) (declared : Declared b) (owned : Owned b) (defined : Defined b)
+    (kernels : KernelRules b) where
   right-items : ItemsRight b (setsOf (b .rules)) (reachSets (b .rules) (setsOf (b .rules)))
   right-items = book-items-right b (small-book ordered limits declared)
 

@@ -1,26 +1,25 @@
 -- The one-formula check by definitions decides the one-formula condition (10). If it ends without a split, every definition whose item is in the partial
 -- state has given its formula, which stands, so every item gives what stands there. If all chains agree, what stands is at each visit a part of the
 -- chains' formulas, so there is no split. Assumes the premises of formulas and of definitions, and that the test tells the partial state's items.
-use Prim.Native.Nat.{ℕ, zero, suc, _-_, _≤_, _<_}
+use Prim.Native.Nat.{ℕ, _<_}
 use native.Mathlib.Omega.{arith}
 use mathlib.Core.Path.{_≡_, refl, ap, sym, _∙_}
 use mathlib.Core.Logic.{_⊎_, inl, inr}
-use mathlib.Core.Bool.{Bool, true, false, false≢true}
+use mathlib.Core.Bool.{Bool, true, false≢true}
 use mathlib.Core.Option.{none, some}
 use mathlib.Core.List.{List, _∷_, List·Memᴰ as Mem}
-use lib.ListN.{length, getD, set, replicate}
+use lib.ListN.{length, getD, set}
 use lib.Seq.{getD-set-same}
 use Rattle.grammar.specs.Limits.{MAX-INHERITED, MAX-DEFINITIONS}
 use Rattle.grammar.specs.Decides.{Decides}
 use Rattle.grammar.specs.DecidesSteps.{All}
-use Rattle.grammar.specs.TestLaws.{true-false}
-use Rattle.grammar.specs.Symbol.{Symbol, nonterminal, leftOf, after}
+use Rattle.grammar.specs.Symbol.{Symbol, nonterminal, after}
 use Rattle.grammar.specs.Book.{InheritedDefinition, Book, inheritedOwner}
 use Rattle.grammar.specs.Items.{Partial, Chain}
-use Rattle.grammar.specs.Formula.{Formula, gives}
+use Rattle.grammar.specs.Formula.{gives}
 use Rattle.grammar.specs.ChainLaws.{chain-partial, chain-to, OneFormula}
 use Rattle.grammar.specs.CoreItems.{Core, core}
-use Rattle.grammar.specs.Slots.{Slots, slotAt, ownAt, attributes, ready, slotsOf, agrees}
+use Rattle.grammar.specs.Slots.{Slots, slotAt, ownAt, ready, slotsOf}
 use Rattle.grammar.specs.SlotsFill.{Filled}
 use Rattle.grammar.specs.SlotsTests.{ItemAgrees, agrees-decides}
 use Rattle.grammar.specs.SlotsLaws.{agrees-one-formula, one-formula-agrees}
@@ -28,7 +27,7 @@ use Rattle.grammar.specs.PartialLaws.{PartialItems}
 use Rattle.grammar.specs.FormulaPremises.{FormulaPremises}
 use Rattle.grammar.specs.ChainReady.{Ready, chain-ready}
 use Rattle.grammar.specs.Passes.{Keeps, passes-keep, passes-rest}
-use Rattle.grammar.specs.FormulaCheck.{dotOf, Progress, progress, split, advance, unsplit, fresh, enter, formulaOf, definitions, lineAt, due, visit}
+use Rattle.grammar.specs.FormulaCheck.{dotOf, Progress, progress, split, advance, unsplit, fresh, formulaOf, definitions, lineAt, due, visit}
 use Rattle.grammar.specs.FormulaCheck.{ended, check}
 use Rattle.grammar.specs.DefinitionPremises.{LineRight, DefinitionPremises}
 use Rattle.grammar.specs.FormulaCheckSteps.{done-either, none-done, Within, none-stands, set-within, set-each, enter-by, visit-by, Long, fresh-long}
@@ -57,9 +56,6 @@ module _ (b : Book) (member : ℕ → ℕ → Bool) (L : DefinitionPremises b) w
   AllGiven (progress slots done) = (d : ℕ) → d < definitions b → getD done d true ≡ true → Given slots (lineAt b d)
   AllGiven split = Unit {0}
 
-  abbrev Held : Progress → Type 0
-  Held s = Long s × AllGiven s
-
   -- the definition of place d is given, and those that were
   also-given : (slots : Slots) (done : List Bool) (d : ℕ) → Given slots (lineAt b d)
       → ((e : ℕ) → e < definitions b → getD done e true ≡ true → Given slots (lineAt b e)) → AllGiven (progress slots (set done d true))
@@ -69,39 +65,41 @@ module _ (b : Book) (member : ℕ → ℕ → Bool) (L : DefinitionPremises b) w
       by (inl p) = rw p given
       by (inr q) = before e l q
 
-  visit-held : Keeps (visit b member) Held (definitions b)
-  visit-held d l s (long, given) = (growing b member .keeps d l s long, visit-given s long given)
+  visit-given : Keeps (visit b member) (λ s. Long s × AllGiven s) (definitions b)
+  visit-given d l s (long, given) = (growing b member .keeps d l s long, by s long given)
     where
-      visit-given : (s : Progress) → Long s → AllGiven s → AllGiven (visit b member d s)
-      visit-given split long given = unfold visit in tt
-      visit-given (progress slots done) (s, m) given = visit-by b member AllGiven d slots done given λ n h.
+      by : (s : Progress) → Long s → AllGiven s → AllGiven (visit b member d s)
+      by split long given = unfold visit in tt
+      by (progress slots done) (s, m) given = visit-by b member AllGiven d slots done given λ n h.
           let right = L .line-right d l in
           let (m, r) = due-decides b member slots (lineAt b d) .sound h in
           let K = lineAt b d .attribute in
           let f = formulaOf slots (lineAt b d) in
+          let other = set slots K (some f) in
           enter-by AllGiven slots (set done d true) K f
           (λ e.
             let within = set-within slots K f e in
-            let other = set slots K (some f) in
+            let here = getD-set-same slots K (some f) none (room b L slots d l s) in
             also-given other done d
-            (ready-within b slots other _ _ within r, getD-set-same slots K (some f) none (room b L slots d l s) ∙ ap some (formula-within b slots other right within r))
+            (ready-within b slots other _ _ within r, here ∙ ap some (formula-within b slots other right within r))
             (λ e k q. given-within slots other (L .line-right e k) within (given e k q)))
           (λ e. also-given slots done d (r, e) given)
           (λ g e q. tt)
 
-  held-at-end : Held (ended b member)
+  ended-given : Long (ended b member) × AllGiven (ended b member)
   unfolding ended
-  held-at-end =
-      passes-keep (visit b member) Held advance (definitions b) visit-held fresh (fresh-long, λ d l e. absurd (none-done MAX-DEFINITIONS d (omega (arith, L .definitions-limit)) e))
+  ended-given =
+      passes-keep (visit b member) (λ s. Long s × AllGiven s) advance (definitions b) visit-given fresh
+      (fresh-long, λ d l e. absurd (none-done MAX-DEFINITIONS d (omega (arith, L .definitions-limit)) e))
 
   -- at the end every definition that is due is given
   end-given : (slots : Slots) (done : List Bool) → ended b member ≡ progress slots done → (d : ℕ) → d < definitions b
       → due b member slots (lineAt b d) ≡ true → Given slots (lineAt b d)
   unfolding ended
   end-given slots done e d l h =
-      let held : Held (progress slots done) = rw e at held-at-end in
+      let (long, given) : Long (progress slots done) × AllGiven (progress slots done) = rw e at ended-given in
       let still : visit b member d (progress slots done) ≡ progress slots done = rw e at (passes-rest (growing b member) fresh fresh-long d l) in
-      held .1 d l (visit-done b member d slots done (held .0 .1) still h)
+      given d l (visit-done b member d slots done (long .1) still h)
 
 -- ---------------------------------------------------------------- the check of one partial state
 
@@ -129,8 +127,8 @@ module _ (b : Book) (H : FormulaPremises b) (L : DefinitionPremises b) (S a : �
     unwaiting : {P D c : ℕ} → Chain b S a P D c → ready b slots P D ≡ true
     unwaiting {P} {D} {c} chain = ready-filled b slots P D (chain-ready b (λ K. Filled (slotAt slots K)) H S a settles chain)
       where
-        settles : (P D c B K : ℕ) (β : List Symbol) → Chain b S a P D c → Ready b (λ J. Filled (slotAt slots J)) P D → after (b .rules) P D ≡ nonterminal B ∷ β
-            → inheritedOwner b K ≡ B → Filled (slotAt slots K)
+        settles : (P D c B K : ℕ) (β : List Symbol) → Chain b S a P D c → Ready b (λ J. Filled (slotAt slots J)) P D
+            → after (b .rules) P D ≡ nonterminal B ∷ β → inheritedOwner b K ≡ B → Filled (slotAt slots K)
         settles P D c B K β chain r h o = (gives b P D (ownAt slots D) K, ready-stands chain K (ready-filled b slots P D r) h o)
 
     items-agree : All (ItemAgrees b slots) items

@@ -150,7 +150,8 @@ module _ (b : Book) (member : ℕ → ℕ → Bool) where
   visit-long d l split long = tt
   visit-long d l (progress slots done) (s, m) =
       visit-by b member Long d slots done (s, m) λ e h.
-      enter-by Long slots (set done d true) _ _ (λ p. (length-set slots _ _ ∙ s, length-set done d true ∙ m)) (λ p. (s, length-set done d true ∙ m)) (λ g p n. tt)
+      let marked = length-set done d true ∙ m in
+      enter-by Long slots (set done d true) _ _ (λ p. (length-set slots _ _ ∙ s, marked)) (λ p. (s, marked)) (λ g p n. tt)
 
   visit-grows : (d : ℕ) → d < definitions b → (s : Progress) → Long s → Larger advance s (visit b member d s)
   unfolding visit

@@ -5,11 +5,11 @@ use Prim.Native.Nat.{ℕ, zero, suc, _≤_, _<_, _^_}
 use native.Mathlib.Omega.{arith}
 use native.Mathlib.Decide.{ℕ-discrete, decLt}
 use mathlib.Core.Path.{_≡_, refl, ap, sym, _∙_}
-use mathlib.Core.Logic.{_⊎_, inl, inr}
-use mathlib.Core.Bool.{Bool, true, false, false≢true}
+use mathlib.Core.Logic.{inl, inr}
+use mathlib.Core.Bool.{Bool, true, false}
 use mathlib.Core.Option.{Option, none, some}
 use mathlib.Core.List.{List, [], _∷_}
-use lib.ListN.{length, getD, set, replicate, length-set, length-replicate, getD-replicate, List·getD-eq-default}
+use lib.ListN.{length, getD, set, replicate, length-set, length-replicate, List·getD-eq-default}
 use lib.Seq.{getD-set-same, getD-set-other}
 use Rattle.grammar.specs.Limits.{MAX-INHERITED}
 use Rattle.grammar.specs.Decides.{Decides, eq-decides, then-decides, if-decides, allBelow-decides}
@@ -17,13 +17,12 @@ use Rattle.grammar.specs.TestLaws.{by-test, true-false}
 use Rattle.grammar.specs.Symbol.{Symbol, nonterminal, leftOf, after}
 use Rattle.grammar.specs.Term.{eval}
 use Rattle.grammar.specs.TermLaws.{eval-same}
-use Rattle.grammar.specs.Book.{Place, own, at, val, InheritedDefinition, Book, ownerAt, inheritedOwner, inheritedExpr}
+use Rattle.grammar.specs.Book.{Place, own, at, val, InheritedDefinition, Book, ownerAt, inheritedOwner}
 use Rattle.grammar.specs.ConditionsLaws.{Reads}
 use Rattle.grammar.specs.Ordered.{Spelled}
 use Rattle.grammar.specs.Items.{Chain}
 use Rattle.grammar.specs.Formula.{Formula}
 use Rattle.grammar.specs.ChainLaws.{chain-partial, chain-to, FromChain, from-chain}
-use Rattle.grammar.specs.Decorated.{Values}
 use Rattle.grammar.specs.Machine.{Tables, Frame, frame, inheritedAt, formulaValue, cell}
 use Rattle.grammar.specs.Chains.{stackValue, cell-value}
 use Rattle.grammar.specs.Premises.{Premises}
@@ -38,9 +37,9 @@ use Rattle.grammar.specs.TakenPremises.{premises}
 use Rattle.grammar.specs.FormulaPremises.{FormulaPremises, formula-premises}
 use Rattle.grammar.specs.ChainReady.{Ready, chain-settles}
 use Rattle.grammar.specs.Passes.{Larger, Keeps, passes-keep, Growing, passes-rest}
-use Rattle.grammar.specs.FormulaCheck.{dotOf, doneIn, definitions, lineAt}
-use Rattle.grammar.specs.DefinitionPremises.{LineRight, DefinitionPremises, definition-premises}
-use Rattle.grammar.specs.FormulaCheckSteps.{holds-decides, done-more, done-length, done-either, none-done}
+use Rattle.grammar.specs.FormulaCheck.{dotOf, definitions, lineAt}
+use Rattle.grammar.specs.DefinitionPremises.{DefinitionPremises, definition-premises}
+use Rattle.grammar.specs.FormulaCheckSteps.{holds-decides, done-more, done-length, none-done}
 use Rattle.grammar.specs.FormulaCheckLaws.{Tells}
 use Rattle.grammar.specs.Plan.{Setting, setting, setIn, valueAt, valueIn, unset, settledIn, valueOf, readyIn, dueIn, setLine, settled, fillCell}
 
@@ -202,8 +201,8 @@ module _ (b : Book) (T : Tables) (H : Premises b T) (F : FormulaPremises b) (L :
   -- ---------------------------------------------------------------- the end
 
   -- the attributes of every chain's next nonterminal are set
-  chain-known : (values : List ℕ) (known : List Bool) → settled b member st ≡ setting values known → {P D c B : ℕ} {β : List Symbol} → Chain b S a P D c → (K : ℕ)
-      → after (b .rules) P D ≡ nonterminal B ∷ β → inheritedOwner b K ≡ B → Known known K
+  chain-known : (values : List ℕ) (known : List Bool) → settled b member st ≡ setting values known → {P D c B : ℕ} {β : List Symbol} → Chain b S a P D c
+      → (K : ℕ) → after (b .rules) P D ≡ nonterminal B ∷ β → inheritedOwner b K ≡ B → Known known K
   unfolding settled
   chain-known values known e chain K h o = chain-settles b (Known known) F S a settles chain K h o
     where
@@ -214,7 +213,8 @@ module _ (b : Book) (T : Tables) (H : Premises b T) (F : FormulaPremises b) (L :
           let dot : dotOf (lineAt b d) ≡ D = omega arith in
           let m : member P D ≡ true = tells P D .complete (c, chain-partial b chain) in
           let due = dueIn-decides b member known (lineAt b d) .complete (rw (p, dot) m, rw (p, dot) ready) in
-          let still : setLine b member st d (setting values known) ≡ setting values known = rw e at (passes-rest (setting-growing b member st) unset unset-full d l) in
+          let still : setLine b member st d (setting values known) ≡ setting values known =
+          rw e at (passes-rest (setting-growing b member st) unset unset-full d l) in
           rw k at (line-known b member st d values known still due)
 
   module _ (formula-some : (K : ℕ) (f : Formula) → T .formulaAt S a K ≡ some f → FromChain b S a K f) where

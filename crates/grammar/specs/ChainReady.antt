@@ -14,13 +14,17 @@ module _ (b : Book) (Settled : ℕ → Type 0) where
   abbrev pub Ready : ℕ → ℕ → Type 0
   Ready P D = D ≡ 0 → (K : ℕ) → K < attributes b → inheritedOwner b K ≡ leftOf (b .rules) P → Settled K
 
+  -- rule 0 does not wait: n0 owns nothing
+  pub start-ready : FormulaPremises b → (D : ℕ) → Ready 0 D
+  start-ready H D e K l o = absurd (H .start-bare K (o ∙ H .start-left))
+
   module _ (H : FormulaPremises b) (S a : ℕ)
       (settles : (P D c B K : ℕ) (β : List Symbol) → Chain b S a P D c → Ready P D → after (b .rules) P D ≡ nonterminal B ∷ β
       → inheritedOwner b K ≡ B → Settled K) where
     pub chain-ready : {P D c : ℕ} → Chain b S a P D c → Ready P D
     chain-ready (one {P = P} {D = D} {c = c} k r) e K l o =
         let start : P ≡ 0 = H .start-dot S P c (rw e at k) in
-        absurd (H .start-bare K (o ∙ ap (leftOf (b .rules)) start ∙ H .start-left))
+        start-ready H D e K l (o ∙ ap (leftOf (b .rules)) start)
     chain-ready (longer {P = P} {D = D} {c = c} chain (derives {B = B} {β = β} g p q f) r) e K l o = settles P D c B K β chain (chain-ready chain) g (o ∙ q)
 
     -- so every chain settles its next nonterminal

@@ -78,11 +78,11 @@ module _ (b : Book) (member : ℕ → ℕ → Bool) (L : DefinitionPremises b) w
           let other = set slots K (some f) in
           enter-by AllGiven slots (set done d true) K f
           (λ e.
-            let within = set-within slots K f e in
-            let here = getD-set-same slots K (some f) none (room b L slots d l s) in
-            also-given other done d
-            (ready-within b slots other _ _ within r, here ∙ ap some (formula-within b slots other right within r))
-            (λ e k q. given-within slots other (L .line-right e k) within (given e k q)))
+          let within = set-within slots K f e in
+          let here = getD-set-same slots K (some f) none (room b L slots d l s) in
+          also-given other done d
+          (ready-within b slots other _ _ within r, here ∙ ap some (formula-within b slots other right within r))
+          (λ e k q. given-within slots other (L .line-right e k) within (given e k q)))
           (λ e. also-given slots done d (r, e) given)
           (λ g e q. tt)
 

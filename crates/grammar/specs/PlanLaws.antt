@@ -112,7 +112,7 @@ module _ (b : Book) (member : ℕ → ℕ → Bool) (st : List Frame) where
       by false e =
           let asked = rw (e, setLine) at still in
           let sets : setting (set values (lineAt b d .attribute) (valueOf st values (lineAt b d))) (set known (lineAt b d .attribute) true)
-              ≡ setting values known = rw h at asked in
+          ≡ setting values known = rw h at asked in
           let same = ap setIn sets in
           let more = done-more known (lineAt b d .attribute) e in
           absurd (omega arith)

@@ -65,26 +65,28 @@ module _ (b : Book) (member : ℕ → ℕ → Bool) (L : DefinitionPremises b) w
       by (inl p) = rw p given
       by (inr q) = before e l q
 
+  -- an empty slot takes the definition's formula
+  new-given : (slots : Slots) (done : List Bool) (d : ℕ) (l : d < definitions b) → length slots ≡ MAX-INHERITED
+      → ready b slots (lineAt b d .rule) (dotOf (lineAt b d)) ≡ true → AllGiven (progress slots done) → slotAt slots (lineAt b d .attribute) ≡ none
+      → AllGiven (progress (set slots (lineAt b d .attribute) (some (formulaOf slots (lineAt b d)))) (set done d true))
+  new-given slots done d l s r given e =
+      let K = lineAt b d .attribute in
+      let f = formulaOf slots (lineAt b d) in
+      let other = set slots K (some f) in
+      let within = set-within slots K f e in
+      let here = getD-set-same slots K (some f) none (room b L slots d l s) in
+      also-given other done d
+      (ready-within b slots other _ _ within r, here ∙ ap some (formula-within b slots other (L .line-right d l) within r))
+      (λ e k q. given-within slots other (L .line-right e k) within (given e k q))
+
   visit-given : Keeps (visit b member) (λ s. Long s × AllGiven s) (definitions b)
   visit-given d l s (long, given) = (growing b member .keeps d l s long, by s long given)
     where
       by : (s : Progress) → Long s → AllGiven s → AllGiven (visit b member d s)
       by split long given = unfold visit in tt
       by (progress slots done) (s, m) given = visit-by b member AllGiven d slots done given λ n h.
-          let right = L .line-right d l in
-          let (m, r) = due-decides b member slots (lineAt b d) .sound h in
-          let K = lineAt b d .attribute in
-          let f = formulaOf slots (lineAt b d) in
-          let other = set slots K (some f) in
-          enter-by AllGiven slots (set done d true) K f
-          (λ e.
-          let within = set-within slots K f e in
-          let here = getD-set-same slots K (some f) none (room b L slots d l s) in
-          also-given other done d
-          (ready-within b slots other _ _ within r, here ∙ ap some (formula-within b slots other right within r))
-          (λ e k q. given-within slots other (L .line-right e k) within (given e k q)))
-          (λ e. also-given slots done d (r, e) given)
-          (λ g e q. tt)
+          let (i, r) = due-decides b member slots (lineAt b d) .sound h in
+          enter-by AllGiven slots (set done d true) _ _ (new-given slots done d l s r given) (λ e. also-given slots done d (r, e) given) (λ g e q. tt)
 
   ended-given : Long (ended b member) × AllGiven (ended b member)
   unfolding ended

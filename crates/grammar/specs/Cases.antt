@@ -3,4 +3,5 @@ pub mod CaseBooks
 pub mod Cases
 pub mod CasesProof
 pub mod ConditionCases
+pub mod FormulaCheckCases
 pub mod ParseCases

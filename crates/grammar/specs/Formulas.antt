@@ -1,10 +1,19 @@
 -- Chains, formulas and the one-formula condition (10): meaning, functions that compute, and that they decide.
 pub mod ChainLaws
+pub mod ChainReady
+pub mod DefinitionPremises
 pub mod Formula
+pub mod FormulaCheck
+pub mod FormulaCheckAll
+pub mod FormulaCheckLaws
+pub mod FormulaCheckSteps
 pub mod FormulaPremises
 pub mod FormulaTable
 pub mod OneFormulaLaws
 pub mod PartialLaws
+pub mod Passes
+pub mod Plan
+pub mod PlanLaws
 pub mod SameFormula
 pub mod Slots
 pub mod SlotsFill

@@ -1,7 +1,7 @@
 -- The three demands, as promises about the two calls (Engine.antt): `readBook` from a text and the number of lent words, `evaluateWords` from stored
 -- words, token numbers and the number of lent row words. Stated here, proved in DemandsProof.antt. What to believe: books as data and their text
--- (Book.antt, Print.antt, Ordered.antt), the conditions (Conditions.antt, States.antt, Formula.antt, gathered in Refusal.antt), trees and their values
--- (Tree.antt, Decorated.antt, Rows.antt), the filling of words (Packing.antt). Assumes nothing.
+-- (Data/Book, Format/Print, Format/Ordered), the conditions (Conditions/Meaning, Automaton/States, Formulas/Formula, gathered in Refusal), trees and
+-- their values (Evaluator/Tree, Decorated, Rows), the stack evaluator (Evaluator/Machine), the filling of words (Format/Packing). Assumes nothing.
 use Prim.Native.Nat.{ℕ, _≤_}
 use mathlib.Core.Path.{_≡_}
 use mathlib.Core.Logic.{_≢_, _↔_}
@@ -13,11 +13,21 @@ use Rattle.grammar.specs.Evaluator.Tree.{Token, Tree, size, TokensOf}
 use Rattle.grammar.specs.Evaluator.Decorated.{Decorated}
 use Rattle.grammar.specs.Evaluator.Rows.{rows, page}
 use Rattle.grammar.specs.Format.Packing.{pack}
-use Rattle.grammar.specs.Refusal.{Taken, Verdict}
+use Rattle.grammar.specs.Refusal.{Taken, Verdict, refusal}
 use Rattle.grammar.specs.Evaluator.Demand.{SmallTree, TreeOf, Valued}
-use Rattle.grammar.specs.Engine.{Reading, readBook, Evaluation, turnedBack, evaluateWords}
+use Rattle.grammar.specs.Evaluator.Machine.{evaluate}
+use Rattle.grammar.specs.Evaluator.Premises.{Premises}
+use Rattle.grammar.specs.Engine.{Reading, readBook, tablesOf, Evaluation, turnedBack, evaluationOf, evaluateWords}
 
--- Demand 2, and demand 1 of reading: refusal 1 by the lengths alone, else what 01 answers to the text (Verdict: taken exactly if all conditions hold,
+-- Demand 2: a text is taken exactly if it meets all conditions, and refused with n of 2 to 10 exactly if condition n is broken and none before it
+
+abbrev pub Taken-right : Type 0
+Taken-right = (text : List ℕ) → (refusal text ≡ 0) ↔ Taken text
+
+abbrev pub Refusal-right : Type 0
+Refusal-right = (text : List ℕ) (n : ℕ) → (refusal text ≡ n) ↔ Verdict text n
+
+-- Demand 1 of reading: refusal 1 by the lengths alone, else what 01 answers to the text (Verdict: taken exactly if all conditions hold,
 -- else the first that is broken); zeros on every refusal, else the book's filling
 
 pub record Lengths (text : List ℕ) (lent : ℕ) : Type 0 where
@@ -60,12 +70,17 @@ pub data Evaluates (words tokens : List ℕ) (lent : ℕ) : Evaluation → Type 
   wrong-tokens : Stored words → lent ≡ PAGE-WORDS → (TokenList tokens → ⊥) → Evaluates words tokens lent (turnedBack 13 lent)
   wrong-kinds : (s : Stored words) → lent ≡ PAGE-WORDS → (ks : TokenList tokens) → (TokensOf (bookOf s) (ks .list) → ⊥)
       → Evaluates words tokens lent (turnedBack 14 lent)
-  -- 0 and rows, or 15, 16 or 17 and zeros: what demand 3 is about
-  runs : (s : Stored words) → lent ≡ PAGE-WORDS → (ks : TokenList tokens) → TokensOf (bookOf s) (ks .list) → {e : Evaluation}
-      → (e .number ≢ 0 → e ≡ turnedBack (e .number) lent) → Evaluates words tokens lent e
+  -- the stack evaluator's answer (Machine.antt): 0 and rows, or 15, 16 or 17 and zeros
+  runs : (s : Stored words) → lent ≡ PAGE-WORDS → (ks : TokenList tokens) → TokensOf (bookOf s) (ks .list)
+      → Evaluates words tokens lent (evaluationOf (evaluate (bookOf s) (tablesOf (bookOf s)) (ks .list)) lent)
 
 abbrev pub Evaluating-right : Type 0
 Evaluating-right = (words tokens : List ℕ) (lent : ℕ) → Evaluates words tokens lent (evaluateWords words tokens lent)
+
+-- the evaluator's tables are what the items and chains of the book's states say (Premises.antt: its actions are those of the items, its go lines the
+-- book's, its formulas those of all chains), "as their stack evaluator, written out in 01"
+abbrev pub Tables-right : Type 0
+Tables-right = (words : List ℕ) (s : Stored words) → Premises (bookOf s) (tablesOf (bookOf s))
 
 -- Demand 3: of every taken book and every list of at most 255 of its tokens, evaluated into 5,120 row words
 

@@ -15,18 +15,26 @@ use Rattle.grammar.specs.Conditions.Decides.{Decides, by-decided, equiva
 use Rattle.grammar.specs.Evaluator.Tree.{Token, Tree, TokenOf, TokensOf, no-tokens, and-tokens}
 use Rattle.grammar.specs.Evaluator.Rows.{Row, page}
 use Rattle.grammar.specs.Format.Packing.{pack}
-use Rattle.grammar.specs.Refusal.{Taken, Verdict, refusal}
-use Rattle.grammar.specs.RefusalLaws.{refusal-verdict}
+use Rattle.grammar.specs.Refusal.{Taken, Verdict, taken, refusal}
+use Rattle.grammar.specs.RefusalLaws.{refusal-verdict, verdict-refusal}
 use Rattle.grammar.specs.Evaluator.Machine.{Tables, Answer, refused, accepted, evaluate}
 use Rattle.grammar.specs.Evaluator.RunRefusals.{refused-late}
 use Rattle.grammar.specs.Evaluator.Demand.{TreeOf, SmallTree, Valued, Demand3}
 use Rattle.grammar.specs.Evaluator.DemandProof.{demand-3}
 use Rattle.grammar.specs.Evaluator.TakenPremises.{premises}
-use Rattle.grammar.specs.StoredLaws.{stored-found, found-stored}
+use Rattle.grammar.specs.StoredLaws.{refusal-taken, stored-found, found-stored}
 use Rattle.grammar.specs.Engine.{Reading, readingOf, readBook, tablesOf, storedBook, tokensOf, kindsIn, Evaluation, turnedBack, evaluationOf}
 use Rattle.grammar.specs.Engine.{evaluateTokens, evaluateBook, evaluateWords}
-use Rattle.grammar.specs.Demands.{Lengths, Reads, wrong-lengths, takes, refuses, Reading-right, Stored, bookOf, numbersOf, TokenList}
-use Rattle.grammar.specs.Demands.{Evaluates, no-book, wrong-rows, wrong-tokens, wrong-kinds, runs, Evaluating-right, Figures, Figures-right}
+use Rattle.grammar.specs.Demands.{Taken-right, Refusal-right, Lengths, Reads, wrong-lengths, takes, refuses, Reading-right, Stored, bookOf, numbersOf, TokenList}
+use Rattle.grammar.specs.Demands.{Evaluates, no-book, wrong-rows, wrong-tokens, wrong-kinds, runs, Evaluating-right, Tables-right, Figures, Figures-right}
+
+-- refusals of a text
+
+pub taken-right : Taken-right
+taken-right text = (refusal-taken text, λ t. verdict-refusal text (taken t))
+
+pub refusal-right : Refusal-right
+refusal-right text n = (λ e. rw e at (refusal-verdict text), verdict-refusal text)
 
 -- reading
 
@@ -84,11 +92,6 @@ kinds-decides b (k ∷ ks) =
 
 -- evaluating
 
-run-evaluation : (x : Answer) (lent : ℕ) → (evaluationOf x lent) .number ≢ 0 → evaluationOf x lent ≡ turnedBack ((evaluationOf x lent) .number) lent
-unfolding evaluationOf turnedBack
-run-evaluation (refused n) lent h = refl
-run-evaluation (accepted rs) lent h = absurd (h refl)
-
 module _ {words : List ℕ} (s : Stored words) (tokens : List ℕ) (lent : ℕ) (all : lent ≡ PAGE-WORDS) where
   evaluates-list : (ks : List Token) → tokensOf tokens ≡ some ks → Evaluates words tokens lent (evaluateTokens (bookOf s) ks lent)
   unfolding evaluateTokens
@@ -97,7 +100,7 @@ module _ {words : List ℕ} (s : Stored words) (tokens : List ℕ) (lent : ℕ) 
       (λ n few. rw (n, evaluateTokens) (
       let list : TokenList tokens = record { list = ks; its-numbers = numbers-back tokens ks e; few = few } in
       by-decided (kinds-decides (bookOf s) ks)
-      (λ k kinds. rw k (runs s all list kinds (run-evaluation (evaluate (bookOf s) (tablesOf (bookOf s)) ks) lent)))
+      (λ k kinds. rw k (runs s all list kinds))
       (λ k h. rw k (wrong-kinds s all list h))
       ))
       (λ n h. rw (n, evaluateTokens) (wrong-tokens s all (λ (l : TokenList tokens).
@@ -187,8 +190,11 @@ machine-figures b T ks lent D = record {
   no-message = λ z t q. D .no-message (refused-fifteen b T ks lent z) t q;
 }
 
+pub tables-right : Tables-right
+tables-right words s = premises (s .its-book .spelled) (s .its-book .sound)
+
 pub figures-right : Figures-right
 figures-right words s ks few kinds =
     let t = s .its-book in
     rw (evaluation-is words s ks few kinds)
-    (machine-figures (t .book) (tablesOf (t .book)) ks PAGE-WORDS (demand-3 (t .book) (tablesOf (t .book)) (premises (t .spelled) (t .sound)) ks kinds))
+    (machine-figures (t .book) (tablesOf (t .book)) ks PAGE-WORDS (demand-3 (t .book) (tablesOf (t .book)) (tables-right words s) ks kinds))

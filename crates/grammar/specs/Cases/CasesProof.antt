@@ -1,10 +1,13 @@
 -- Every case of the table is answered as expected: one computed test, and the law that turns it into an equation for each case.
 -- Assumes nothing.
-use mathlib.Core.Path.{_≡_, refl}
+use mathlib.Core.Path.{_≡_, refl, ap, _∙_}
 use mathlib.Core.Bool.{Bool, true, false, _&&_, false≢true}
 use mathlib.Core.List.{List, [], _∷_, List·Memᴰ as Mem, List·Memᴰ·head, List·Memᴰ·tail, List·Memᴰ·not-nil}
-use lib.Dec.{eqb}
-use borrow.Author.Tests.{eqb-true}
+use lib.Dec.{eqb, leb}
+use lib.ListN.{length}
+use Prim.Native.Nat.{ℕ, zero, suc, _≤_}
+use mathlib.Core.Option.{Option, none, some}
+use borrow.Author.Tests.{eqb-true, le-leb, leb-true}
 use Rattle.sets.specs.Sets.{opens as opens-sets}
 use Rattle.text.specs.Class.{opens as opens-class}
 use Rattle.text.specs.Rest.{opens as opens-rest}
@@ -39,7 +42,15 @@ use Rattle.grammar.specs.Evaluator.Rows.{opens as opens-rows}
 use Rattle.grammar.specs.Evaluator.Machine.{opens as opens-machine}
 use Rattle.grammar.specs.Engine.{Evaluation, opens as opens-engine}
 use Rattle.grammar.specs.Cases.CaseBooks.{unlines, opens as opens-books}
-use Rattle.grammar.specs.Cases.Cases.{Case, answer, table, sameEvaluation, holds, opens as opens-cases}
+use Rattle.grammar.specs.Cases.Cases.{Case, afterReading, calls, answer, table, sameEvaluation, holdsOf, holds, opens as opens-cases}
+use Rattle.grammar.specs.Limits.{MAX-TEXT, BOOK-WORDS, PAGE-WORDS}
+use Rattle.grammar.specs.Data.Book.{Book}
+use Rattle.grammar.specs.Format.Parse.{parseBook}
+use Rattle.grammar.specs.Format.Packing.{pack}
+use Rattle.grammar.specs.Refusal.{Taken, bookRefusal, refusal}
+use Rattle.grammar.specs.Engine.{readingOf, readBook, storedBook, evaluateBook, evaluateWords}
+use Rattle.grammar.specs.Demands.{Stored}
+use Rattle.grammar.specs.StoredLaws.{refusal-taken, taken-parsed, stored-found}
 
 -- opens all that an answer computes with
 unfoldable pub opens : Unit {0}
@@ -63,18 +74,51 @@ same-sound x y e = go (eqb (x .number) (y .number)) (eqb (x .count) (y .count)) 
     go true false p q h = absurd (false≢true h)
     go false t p q h = absurd (false≢true h)
 
-each-holds : (cs : List Case) → holds cs ≡ true → (c : Case) → Mem c cs → answer (unlines (c .lines)) (c .tokens) ≡ c .expected
+-- the computing form is what the two calls answer
+
+stored-answer : (words tokens : List ℕ) (lent : ℕ) {b : Book} → storedBook words ≡ some b → evaluateWords words tokens lent ≡ evaluateBook b tokens lent
+unfolding evaluateWords
+stored-answer words tokens lent e = rw (e, evaluateWords)
+
+calls-answer : (text tokens : List ℕ) → length text ≤ MAX-TEXT → calls text tokens ≡ answer text tokens
+unfolding afterReading calls answer readBook readingOf refusal
+calls-answer text tokens l = go (parseBook text) refl
+  where
+    reads : {n : ℕ} → refusal text ≡ n → readBook text BOOK-WORDS ≡ readingOf n text BOOK-WORDS
+    reads e = rw (le-leb (length text) MAX-TEXT l, readBook) (ap (λ n. readingOf n text BOOK-WORDS) e)
+
+    after : {n : ℕ} → refusal text ≡ n → calls text tokens ≡ afterReading (readingOf n text BOOK-WORDS) tokens
+    after e = ap (λ r. afterReading r tokens) (reads e)
+
+    go : (o : Option Book) → parseBook text ≡ o → calls text tokens ≡ answer text tokens
+    go none q = after {n = 2} (rw (q, refusal)) ∙ rw (q, answer)
+    go (some b) q = by (bookRefusal b) refl
+      where
+        by : (n : ℕ) → bookRefusal b ≡ n → calls text tokens ≡ answer text tokens
+        by (suc n) z = after {n = suc n} (rw (q, refusal) z) ∙ rw (q, answer) (rw z)
+        by zero z =
+            let t : Taken text = refusal-taken text (rw (q, refusal) z) in
+            let s : Stored (pack BOOK-WORDS text) = record { text = text; its-book = t; short-text = l; filling = refl } in
+            let same : t .book ≡ b = let p = taken-parsed t in cc in
+            let found : storedBook (pack BOOK-WORDS text) ≡ some b = stored-found (pack BOOK-WORDS text) s ∙ ap some same in
+            after {n = 0} (rw (q, refusal) z) ∙ (stored-answer (pack BOOK-WORDS text) tokens PAGE-WORDS found ∙ rw (q, answer) (rw z))
+
+each-holds : (cs : List Case) → holds cs ≡ true → (c : Case) → Mem c cs → holdsOf c ≡ true
 unfolding holds
 each-holds [] e c m = absurd (List·Memᴰ·not-nil m)
-each-holds (d ∷ ds) e c m = go (sameEvaluation (answer (unlines (d .lines)) (d .tokens)) (d .expected)) refl m (each-holds ds)
+each-holds (d ∷ ds) e c m = go (holdsOf d) refl m (each-holds ds)
   where
-    go : (t : Bool) → sameEvaluation (answer (unlines (d .lines)) (d .tokens)) (d .expected) ≡ t → Mem c (d ∷ ds)
-        → (holds ds ≡ true → (c : Case) → Mem c ds → answer (unlines (c .lines)) (c .tokens) ≡ c .expected)
-        → answer (unlines (c .lines)) (c .tokens) ≡ c .expected
+    go : (t : Bool) → holdsOf d ≡ t → Mem c (d ∷ ds) → (holds ds ≡ true → (c : Case) → Mem c ds → holdsOf c ≡ true) → holdsOf c ≡ true
     go false q m ih = absurd (false≢true (rw (q, holds) at e))
-    go true q (List·Memᴰ·head p) ih = rw p (same-sound _ _ q)
+    go true q (List·Memᴰ·head p) ih = rw p q
     go true q (List·Memᴰ·tail n) ih = ih (rw (q, holds) at e) c n
 
 -- every case of the table is answered as expected
-pub cases : (c : Case) → Mem c table → answer (unlines (c .lines)) (c .tokens) ≡ c .expected
-cases = each-holds table table-holds
+pub cases : (c : Case) → Mem c table → calls (unlines (c .lines)) (c .tokens) ≡ c .expected
+unfolding holdsOf
+cases c m = go (leb (length (unlines (c .lines))) MAX-TEXT) refl (each-holds table table-holds c m)
+  where
+    go : (t : Bool) → leb (length (unlines (c .lines))) MAX-TEXT ≡ t
+        → (t && sameEvaluation (answer (unlines (c .lines)) (c .tokens)) (c .expected)) ≡ true → calls (unlines (c .lines)) (c .tokens) ≡ c .expected
+    go true q h = calls-answer (unlines (c .lines)) (c .tokens) (leb-true _ _ q) ∙ same-sound _ _ h
+    go false q h = absurd (false≢true h)

@@ -90,6 +90,12 @@ module _ (words : List ℕ) (P : ℕ) where
       rw (add-one D) (drop-cons (rightIn words P) D (terminal 0) (omega (arith, right-size))
       ∙ ap (λ (X : Symbol). X ∷ drop (suc D) (rightIn words P)) (right-at D h))
 
+  pub rest-before : (at : ℕ) → 0 < at → at ≤ sizeWord words P
+      → drop (at - 1) (rightIn words P) ≡ symbolOf (symbolWord words P (at - 1)) ∷ drop at (rightIn words P)
+  rest-before at l h =
+      let e : at - 1 + 1 ≡ at = omega arith in
+      rest-more (at - 1) (omega arith) ∙ ap (λ (n : ℕ). symbolOf (symbolWord words P (at - 1)) ∷ drop n (rightIn words P)) e
+
   -- no symbol
   pub rest-none : (D : ℕ) → sizeWord words P ≤ D → drop D (rightIn words P) ≡ []
   rest-none D h = let l : length (rightIn words P) ≤ D = omega (arith, right-size) in drop-of-length-le (rightIn words P) l
@@ -115,11 +121,11 @@ module _ (words : List ℕ) (count : ℕ) where
 
 -- ---- its symbols
 
-terminal-of : (word : ℕ) → word < 32 → symbolOf word ≡ terminal word
+pub terminal-of : (word : ℕ) → word < 32 → symbolOf word ≡ terminal word
 unfolding symbolOf
 terminal-of word h = rw (lt-ltb word 32 h, symbolOf)
 
-nonterminal-of : (word : ℕ) → 32 ≤ word → symbolOf word ≡ nonterminal (word - 32)
+pub nonterminal-of : (word : ℕ) → 32 ≤ word → symbolOf word ≡ nonterminal (word - 32)
 unfolding symbolOf
 nonterminal-of word h = rw (le-ltb word 32 h, symbolOf)
 

@@ -1,3 +1,9 @@
 pub mod Arrays
+pub mod FirstLoops
 pub mod GrammarOf
+pub mod NullableLoops
 pub mod Passes
+pub mod ReachLoops
+pub mod Rests
+pub mod Rows
+pub mod Searches

@@ -32,11 +32,6 @@ told-more m = record { now-is = refl; same-is = λ q. true-false refl q; more-is
 unfoldable pub given : ℕ → ℕ → List ℕ → List ℕ
 given target more sets = set sets target (union (setAt sets target) more)
 
--- a visit gives what its constraint says
-pub visit-given : (c : Constraint) (sets : List ℕ) → visit c sets ≡ given (c .target) (c .gives sets) sets
-unfolding visit given
-visit-given c sets = refl
-
 -- by the union that was worked out: it is the set that stands there, or another
 module _ {sets : List ℕ} {new : ℕ} (target more : ℕ) (e : new ≡ union (setAt sets target) more) where
   pub given-same : new ≡ setAt sets target → Told (given target more sets) sets sets false
@@ -50,6 +45,12 @@ module _ {sets : List ℕ} {new : ℕ} (target more : ℕ) (e : new ≡ union (s
     where
       there : set sets target (union (setAt sets target) more) ≡ sets → new ≡ setAt sets target
       there q = e ∙ sym (getD-set-same sets target _ 0 (omega (arith, S .long))) ∙ ap (λ (l : List ℕ). setAt l target) q
+
+-- a visit gives what its constraint says
+pub visit-told : (c : Constraint) {now next : List ℕ} {target more : ℕ} {r : Bool} → target ≡ c .target → more ≡ c .gives now
+    → Told (given target more now) now next r → Told (visit c now) now next r
+unfolding visit given
+visit-told c e f told = rw (e, f) at told
 
 -- ---- a pass
 
@@ -114,6 +115,12 @@ left sets = 2 ^ 40 - total sets
 module _ {constraint : ℕ → Constraint} {count : ℕ} {first : List ℕ} (F : Fits constraint count first) where
   pub closing-begins : Closing constraint count first first
   closing-begins = record { family = record { long = refl; low = F .low }; goes = refl }
+
+  -- a pass that changed something made the sets larger
+  pub pass-told : {now next : List ℕ} → Closing constraint count first now → next ≡ visits constraint count now → (next ≡ now → ⊥)
+      → Told (visits constraint count now) now next true
+  pass-told {now} C e h =
+      rw e (told-more (⊎-elim (λ q. absurd (h (e ∙ q))) (λ m. m) (growing F .grows now (C .family))))
 
   module _ {now next : List ℕ} {r : Bool} (C : Closing constraint count first now) (T : Told (visits constraint count now) now next r) where
     pub closing-turn : Closing constraint count first next

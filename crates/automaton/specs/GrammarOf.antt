@@ -60,6 +60,13 @@ pub record GrammarFits (words : List ℕ) (count : ℕ) : Type 0 where
   pub few : count ≤ MAX-RULES
   pub rule-fits : (P : ℕ) → P < count → RuleFits words P
 
+-- a grammar in the array, with symbols numbered below 32 and right sides of at most eight symbols
+pub record GrammarHeld (G : List Rule) (words : List ℕ) (count : ℕ) : Type 0 where
+  pub held : RulesIn G words
+  pub counted : count ≡ length G
+  pub small : Small G
+  pub short : (P : ℕ) → P < length G → length (rightOf G P) ≤ MAX-RIGHT
+
 -- ---- lists by place
 
 length-listed : {A : Type 0} (f : ℕ → A) (count : ℕ) → length (listed f count) ≡ count
@@ -173,12 +180,12 @@ same-rule : (r s : Rule) → r .left ≡ s .left → r .right ≡ s .right → r
 same-rule r s e f =
     ap (λ (A : ℕ). record { left = A; right = r .right }) e ∙ ap (λ (β : List Symbol). record { left = s .left; right = β }) f
 
-module _ {G : List Rule} {words : List ℕ} (R : RulesIn G words) (H : Small G) (short : (P : ℕ) → P < length G → length (rightOf G P) ≤ MAX-RIGHT) where
+module _ {G : List Rule} {words : List ℕ} {count : ℕ} (H : GrammarHeld G words count) where
   word-at : (P D : ℕ) → P < length G → D < length (rightOf G P) → symbolWord words P D ≡ symbolCode (getD (rightOf G P) D (terminal 0))
-  word-at P D h l = R .symbol-is P D h l (omega (arith, short P h))
+  word-at P D h l = H .held .symbol-is P D h l (omega (arith, H .short P h))
 
   number-at : (P D : ℕ) → P < length G → numberOf (getD (rightOf G P) D (terminal 0)) < 32
-  number-at P D h = low-at (rightOf G P) D (H .right-low P h)
+  number-at P D h = low-at (rightOf G P) D (H .small .right-low P h)
 
   symbol-at : (P D : ℕ) → P < length G → D < length (rightOf G P) → symbolOf (symbolWord words P D) ≡ getD (rightOf G P) D (terminal 0)
   symbol-at P D h l =
@@ -186,31 +193,31 @@ module _ {G : List Rule} {words : List ℕ} (R : RulesIn G words) (H : Small G) 
 
   right-back : (P : ℕ) → P < length G → rightIn words P ≡ rightOf G P
   right-back P h =
-      ext-getD (terminal 0) (rightIn words P) (rightOf G P) (right-size words P ∙ R .size-is P h)
+      ext-getD (terminal 0) (rightIn words P) (rightOf G P) (right-size words P ∙ H .held .size-is P h)
       (λ D l. let m : D < sizeWord words P = rw (right-size words P) at l in
-      right-at words P D m ∙ symbol-at P D h (rw (R .size-is P h) at m))
+      right-at words P D m ∙ symbol-at P D h (rw (H .held .size-is P h) at m))
 
   rule-back : (P : ℕ) → P < length G → ruleIn words P ≡ ruleAt G P
   unfolding ruleIn
-  rule-back P h = same-rule _ _ (R .left-is P h) (right-back P h)
+  rule-back P h = same-rule _ _ (H .held .left-is P h) (right-back P h)
 
-  pub grammar-back : grammarOf words (length G) ≡ G
+  pub grammar-back : grammarOf words count ≡ G
   unfolding ruleAt
   grammar-back =
-      ext-getD (record { left = 0; right = [] }) (grammarOf words (length G)) G (grammar-size words (length G))
-      (λ P l. let h : P < length G = rw (grammar-size words (length G)) at l in rule-is words (length G) P h ∙ rule-back P h)
+      ext-getD (record { left = 0; right = [] }) (grammarOf words count) G (grammar-size words count ∙ H .counted)
+      (λ P l. let h : P < count = rw (grammar-size words count) at l in rule-is words count P h ∙ rule-back P (rw (H .counted) at h))
 
-  pub grammar-fits : GrammarFits words (length G)
-  grammar-fits = record {
-    few = R .fits;
-    rule-fits = λ P h. record {
-      long = R .long;
-      below = omega (arith, R .fits);
-      left-low = rw (R .left-is P h) (H .left-low P h);
-      size-low = rw (R .size-is P h) (short P h);
-      symbol-low = λ D l. rw (word-at P D h (rw (R .size-is P h) at l)) (code-low (getD (rightOf G P) D (terminal 0)) (number-at P D h));
-    };
-  }
+  pub grammar-fits : GrammarFits words count
+  grammar-fits = record { few = omega (arith, H .counted, H .held .fits); rule-fits = λ P l. fits P (rw (H .counted) at l) }
+    where
+      fits : (P : ℕ) → P < length G → RuleFits words P
+      fits P h = record {
+        long = H .held .long;
+        below = omega (arith, H .held .fits);
+        left-low = rw (H .held .left-is P h) (H .small .left-low P h);
+        size-low = rw (H .held .size-is P h) (H .short P h);
+        symbol-low = λ D l. rw (word-at P D h (rw (H .held .size-is P h) at l)) (code-low (getD (rightOf G P) D (terminal 0)) (number-at P D h));
+      }
 
 -- opens every definition of this module
 unfoldable pub opens : Unit {0}

@@ -4,6 +4,7 @@ pub mod GrammarOf
 pub mod NullableLoops
 pub mod Passes
 pub mod ReachLoops
+pub mod RestSets
 pub mod Rests
 pub mod Rows
 pub mod Searches

@@ -3,5 +3,6 @@ pub mod first;
 pub mod nullable;
 pub mod passes;
 pub mod reach;
+pub mod rests;
 pub mod rules;
 pub mod suffixes;

@@ -1,15 +1,27 @@
 -- What the loops that find FIRST keep true: over a right side, over the rules, and over passes.
 -- Assumes nothing.
-use Prim.Native.Nat.{ℕ, zero, suc, _+_, _-_, _≤_, _<_}
-use mathlib.Core.Path.{_≡_, refl, sym, ap, _∙_, subst}
+use Prim.Native.Nat.{ℕ, _-_, _≤_, _<_}
+use mathlib.Core.Path.{_≡_, sym, ap, _∙_}
 use mathlib.Core.Bool.{Bool}
-use mathlib.Core.List.{List, [], _∷_}
+use mathlib.Core.List.{List, _∷_}
 use native.Mathlib.Omega.{arith}
-use lib.ListN.{drop, length, replicate}
-use Rattle.grammar.specs.Symbol.{Symbol, leftOf, rightOf}
+use lib.ListN.{drop, replicate}
+use Rattle.grammar.specs.Symbol.{Symbol}
 use Rattle.grammar.specs.Fixpoint.{visit, least}
 use Rattle.grammar.specs.FirstSets.{firstIn, firstRule, firstSets}
-use Rattle.automaton.specs.GrammarOf.{symbolOf, leftWord, sizeWord, symbolWord, rightIn, grammarOf, rest-none, rest-before, grammar-size, left-is, right-is}
+use Rattle.automaton.specs.GrammarOf.{
+  symbolOf,
+  leftWord,
+  sizeWord,
+  symbolWord,
+  rightIn,
+  grammarOf,
+  rest-none,
+  rest-before,
+  grammar-size,
+  left-is,
+  right-is,
+}
 use Rattle.automaton.specs.Passes.{Told, given, visit-told}
 
 -- ---- over a right side, from the last symbol down to a dot

@@ -1,6 +1,6 @@
 -- What the loops that find the nullable nonterminals keep true: over a right side, over the rules, and over passes.
 -- Assumes nothing.
-use Prim.Native.Nat.{ℕ, zero, suc, _+_, _-_, _^_, _≤_, _<_}
+use Prim.Native.Nat.{ℕ, _+_, _-_, _^_, _≤_, _<_}
 use mathlib.Core.Path.{_≡_, refl, sym, ap, _∙_}
 use mathlib.Core.Bool.{Bool, true, false}
 use mathlib.Core.List.{List, [], _∷_}
@@ -11,10 +11,23 @@ use Rattle.sets.specs.Sets.{union, with}
 use Rattle.sets.specs.SetsLaws.{union-lt, subset-true, subset-union}
 use Rattle.grammar.specs.Members.{none-in}
 use Rattle.grammar.specs.Symbol.{rightOf}
-use Rattle.grammar.specs.Fixpoint.{setAt, Constraint, visit, visits, least}
+use Rattle.grammar.specs.Fixpoint.{setAt, visit, visits, least}
 use Rattle.grammar.specs.FirstSets.{nullIn, nullRule, nullable}
-use Rattle.automaton.specs.GrammarOf.{symbolOf, leftWord, sizeWord, symbolWord, rightIn, grammarOf, rest-more, rest-none, grammar-size, left-is, right-is, GrammarFits}
 use Rattle.grammar.specs.LeastLaws.{Fits}
+use Rattle.automaton.specs.GrammarOf.{
+  symbolOf,
+  leftWord,
+  sizeWord,
+  symbolWord,
+  rightIn,
+  grammarOf,
+  rest-more,
+  rest-none,
+  grammar-size,
+  left-is,
+  right-is,
+  GrammarFits,
+}
 use Rattle.automaton.specs.Passes.{Told, Closing, left, closing-begins, closing-turn, closing-ends, closing-less, pass-told, told-same}
 use Rattle.automaton.specs.Rests.{nullSymbol, null-past, null-stops}
 use Rattle.automaton.specs.Searches.{null-fits}

@@ -1,9 +1,9 @@
 -- Loops that find a least family of sets (`least`) in place: a visit of one constraint, a pass over all of them, passes until one changes nothing.
 -- Each tells whether it changed the sets. One law for a turn, one for the end and one for the measure of each loop. Assumes nothing.
-use Prim.Native.Nat.{ℕ, zero, suc, _+_, _-_, _^_, _<_, _≤_}
+use Prim.Native.Nat.{ℕ, _+_, _-_, _^_, _<_, _≤_}
 use mathlib.Core.Path.{_≡_, refl, sym, ap, _∙_, subst}
 use mathlib.Core.Bool.{Bool, true, false}
-use mathlib.Core.List.{List, [], _∷_}
+use mathlib.Core.List.{List}
 use mathlib.Core.Logic.{⊎-elim}
 use native.Mathlib.Omega.{arith}
 use native.Mathlib.Numerals.{add-one}
@@ -32,6 +32,15 @@ told-more m = record { now-is = refl; same-is = λ q. true-false refl q; more-is
 unfoldable pub given : ℕ → ℕ → List ℕ → List ℕ
 given target more sets = set sets target (union (setAt sets target) more)
 
+-- a visit gives what its constraint says
+pub visit-given : (c : Constraint) (sets : List ℕ) → visit c sets ≡ given (c .target) (c .gives sets) sets
+unfolding visit given
+visit-given c sets = refl
+
+pub visit-told : (c : Constraint) {now next : List ℕ} {target more : ℕ} {r : Bool} → target ≡ c .target → more ≡ c .gives now
+    → Told (given target more now) now next r → Told (visit c now) now next r
+visit-told c {now} e f told = rw (e, f, ← visit-given c now) at told
+
 -- by the union that was worked out: it is the set that stands there, or another
 module _ {sets : List ℕ} {new : ℕ} (target more : ℕ) (e : new ≡ union (setAt sets target) more) where
   pub given-same : new ≡ setAt sets target → Told (given target more sets) sets sets false
@@ -45,12 +54,6 @@ module _ {sets : List ℕ} {new : ℕ} (target more : ℕ) (e : new ≡ union (s
     where
       there : set sets target (union (setAt sets target) more) ≡ sets → new ≡ setAt sets target
       there q = e ∙ sym (getD-set-same sets target _ 0 (omega (arith, S .long))) ∙ ap (λ (l : List ℕ). setAt l target) q
-
--- a visit gives what its constraint says
-pub visit-told : (c : Constraint) {now next : List ℕ} {target more : ℕ} {r : Bool} → target ≡ c .target → more ≡ c .gives now
-    → Told (given target more now) now next r → Told (visit c now) now next r
-unfolding visit given
-visit-told c e f told = rw (e, f) at told
 
 -- ---- a pass
 

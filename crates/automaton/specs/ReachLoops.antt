@@ -1,18 +1,33 @@
 -- What the loops that find the reached sets keep true, over the arrays of null and FIRST of every rest.
 -- Assumes nothing.
-use Prim.Native.Nat.{ℕ, zero, suc, _+_, _*_, _-_, _≤_, _<_}
+use Prim.Native.Nat.{ℕ, _+_, _*_, _-_, _≤_, _<_}
 use mathlib.Core.Path.{_≡_, refl, sym, ap, _∙_, subst}
-use mathlib.Core.Bool.{Bool, true, false}
-use mathlib.Core.List.{List, [], _∷_}
+use mathlib.Core.Bool.{Bool}
+use mathlib.Core.List.{List, _∷_}
 use native.Mathlib.Omega.{arith}
 use lib.ListN.{getD, drop, length, set, replicate, length-set}
 use Rattle.grammar.specs.Limits.{MAX-RULES}
-use Rattle.grammar.specs.Symbol.{Symbol, Rule, rightOf}
+use Rattle.grammar.specs.Symbol.{Symbol, rightOf}
 use Rattle.grammar.specs.Fixpoint.{visit, least}
 use Rattle.grammar.specs.FirstSets.{Sets, nullable, setsOf, null, first}
 use Rattle.grammar.specs.ReachSets.{reachIn, reachRule, reachSets}
 use Rattle.automaton.specs.Arrays.{flag, SuffixesIn, ReachesIn}
-use Rattle.automaton.specs.GrammarOf.{symbolOf, leftWord, sizeWord, symbolWord, rightIn, grammarOf, rest-more, rest-none, grammar-size, left-is, right-is, right-size, RuleFits, GrammarFits}
+use Rattle.automaton.specs.GrammarOf.{
+  symbolOf,
+  leftWord,
+  sizeWord,
+  symbolWord,
+  rightIn,
+  grammarOf,
+  rest-more,
+  rest-none,
+  grammar-size,
+  left-is,
+  right-is,
+  right-size,
+  RuleFits,
+  GrammarFits,
+}
 use Rattle.automaton.specs.Passes.{Told, given, visit-told}
 use Rattle.automaton.specs.Rests.{nullsOf, RestIs, RestsIn}
 use Rattle.automaton.specs.Rows.{Filled, ofRest, RestsAre, RestsFilled, fill-none, fill-up, rests-end}

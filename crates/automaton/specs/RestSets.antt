@@ -1,7 +1,7 @@
 -- The sets of every rest of every rule, as arrays hold them, from the parts that were worked out one after the other.
 -- Assumes nothing.
 use Prim.Native.Nat.{ℕ}
-use mathlib.Core.Path.{_≡_, refl, sym, ap, _∙_, subst}
+use mathlib.Core.Path.{_≡_, subst}
 use mathlib.Core.List.{List}
 use Rattle.grammar.specs.Symbol.{Rule}
 use Rattle.grammar.specs.FirstSets.{Sets, sets, nullable, firstSets, setsOf}

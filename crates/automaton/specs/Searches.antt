@@ -1,8 +1,6 @@
 -- The constraints of nullable, FIRST and the reached sets, for a grammar that an array holds: they fit the laws of passes.
 -- Assumes nothing.
 use Prim.Native.Nat.{ℕ, zero, suc, _^_, _<_}
-use mathlib.Core.Path.{_≡_, refl}
-use mathlib.Core.Bool.{Bool, true, false}
 use mathlib.Core.List.{List, [], _∷_}
 use native.Mathlib.Omega.{arith}
 use lib.ListN.{length}
@@ -10,11 +8,10 @@ use Rattle.sets.specs.Sets.{bit, single, union}
 use Rattle.sets.specs.SetsLaws.{single-lt, union-lt}
 use Rattle.grammar.specs.TestLaws.{by-test}
 use Rattle.grammar.specs.Symbol.{Symbol, terminal, nonterminal, Rule, leftOf, rightOf}
-use Rattle.grammar.specs.Small.{Low, Small}
+use Rattle.grammar.specs.Small.{Low}
 use Rattle.grammar.specs.Fixpoint.{setAt}
 use Rattle.grammar.specs.LeastLaws.{Family, Fits}
 use Rattle.grammar.specs.FirstSets.{nullIn, firstIn, nullRule, firstRule, Sets, null, first}
-use Rattle.grammar.specs.FirstSetsLaws.{SetsRight}
 use Rattle.grammar.specs.ReachSets.{dead, reachIn, reachRule}
 use Rattle.automaton.specs.GrammarOf.{GrammarFits, grammarOf, grammar-size, grammar-small}
 

@@ -55,7 +55,8 @@ fn first_rest(rules: &[u32], p: usize, d: usize, nulls: u32, firsts: &[u32]) -> 
 // Gives each rule's left side what can begin its right side; whether anything changed.
 fn first_pass(rules: &[u32], count: u32, nulls: u32, firsts: &mut [u32]) -> bool
     requires { ⌜ GrammarFits (now rules) count × (length (now firsts) ≡ 32) ⌝ }
-    ensures { λ r. ⌜ Told (visits (firstRule (grammarOf (now (rules .entry)) count) nulls) count (now (firsts .entry))) (now (firsts .entry)) (now (firsts .exit)) r ⌝ }
+    ensures { λ r. ⌜ Told (visits (firstRule (grammarOf (now (rules .entry)) count) nulls) count (now (firsts .entry)))
+        (now (firsts .entry)) (now (firsts .exit)) r ⌝ }
 {
     let rules_count = count as usize;
     let mut changed = false;

@@ -1,7 +1,6 @@
 // A set of a family made larger: the one step of every search for a least family.
 ghost use Prim.Native.Nat.{_<_};
 ghost use lib.ListN.{length};
-ghost use Rattle.grammar.specs.LeastLaws.{Family};
 ghost use Rattle.automaton.specs.Passes.{Told, given};
 
 // Gives `more` to the set at `target`; whether that changed it.

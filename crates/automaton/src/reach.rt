@@ -35,7 +35,8 @@ fn dead_end(vanishes: u32, begins: u32) -> bool
 // What is reached of a symbol with a rest behind it.
 fn reach_step(word: u32, nulls: u32, vanishes: u32, begins: u32, reached: &[u32]) -> u32
     requires { ⌜ (word < 64) × (length (now reached) ≡ 32) ⌝ }
-    ensures { λ r. ⌜ ((F : Sets) (β : List Symbol) → nulls ≡ nullsOf F → RestIs F β vanishes begins → r ≡ reachIn F (now (reached .entry)) (symbolOf word ∷ β)) ⌝ }
+    ensures { λ r. ⌜ ((F : Sets) (β : List Symbol) → nulls ≡ nullsOf F → RestIs F β vanishes begins
+        → r ≡ reachIn F (now (reached .entry)) (symbolOf word ∷ β)) ⌝ }
 {
     if word < 32 {
         return sets::single(word);
@@ -62,7 +63,8 @@ fn reach_rest(
 ) -> u32
     requires { ⌜ RuleFits (now rules) p × (d ≤ sizeWord (now rules) p) × (length (now reached) ≡ 32) ⌝ }
     requires { ⌜ (length (now vanishes) ≡ 9 * MAX-RULES) × (length (now begins) ≡ 9 * MAX-RULES) ⌝ }
-    ensures { λ r. ⌜ ((F : Sets) → nulls ≡ nullsOf F → RestsIn F (rightIn (now (rules .entry)) p) (9 * p) (now (vanishes .entry)) (now (begins .entry)) → r ≡ reachIn F (now (reached .entry)) (drop d (rightIn (now (rules .entry)) p))) ⌝ }
+    ensures { λ r. ⌜ ((F : Sets) → nulls ≡ nullsOf F → RestsIn F (rightIn (now (rules .entry)) p) (9 * p) (now (vanishes .entry)) (now (begins .entry))
+        → r ≡ reachIn F (now (reached .entry)) (drop d (rightIn (now (rules .entry)) p))) ⌝ }
 {
     if d == size(rules, p) {
         return 0;
@@ -81,7 +83,9 @@ fn reach_pass(
     reached: &mut [u32],
 ) -> bool
     requires { ⌜ SetsIn (now rules) count nulls (now vanishes) (now begins) × (length (now reached) ≡ 32) ⌝ }
-    ensures { λ r. ⌜ Told (visits (reachRule (grammarOf (now (rules .entry)) count) (setsOf (grammarOf (now (rules .entry)) count))) count (now (reached .entry))) (now (reached .entry)) (now (reached .exit)) r ⌝ }
+    ensures { λ r. ⌜ Told
+        (visits (reachRule (grammarOf (now (rules .entry)) count) (setsOf (grammarOf (now (rules .entry)) count))) count (now (reached .entry)))
+        (now (reached .entry)) (now (reached .exit)) r ⌝ }
 {
     let rules_count = count as usize;
     let mut changed = false;
@@ -123,7 +127,8 @@ fn reach_row(
 )
     requires { ⌜ RuleFits (now rules) p × (length (now reached) ≡ 32) × (length (now reaches) ≡ 9 * MAX-RULES) ⌝ }
     requires { ⌜ (length (now vanishes) ≡ 9 * MAX-RULES) × (length (now begins) ≡ 9 * MAX-RULES) ⌝ }
-    ensures { λ _. ⌜ ((F : Sets) → nulls ≡ nullsOf F → RestsIn F (rightIn (now (rules .entry)) p) (9 * p) (now (vanishes .entry)) (now (begins .entry)) → RestsAre (reachIn F (now (reached .entry))) (now (rules .entry)) p (now (reaches .entry)) (now (reaches .exit))) ⌝ }
+    ensures { λ _. ⌜ ((F : Sets) → nulls ≡ nullsOf F → RestsIn F (rightIn (now (rules .entry)) p) (9 * p) (now (vanishes .entry)) (now (begins .entry))
+        → RestsAre (reachIn F (now (reached .entry))) (now (rules .entry)) p (now (reaches .entry)) (now (reaches .exit))) ⌝ }
 {
     let last = size(rules, p);
     let mut d = 0;
@@ -144,7 +149,8 @@ pub fn reaches(
     reaches: &mut [u32],
 )
     requires { ⌜ SetsIn (now rules) count nulls (now vanishes) (now begins) × (length (now reached) ≡ 32) × (length (now reaches) ≡ 9 * MAX-RULES) ⌝ }
-    ensures { λ _. ⌜ ReachesIn (grammarOf (now (rules .entry)) count) (setsOf (grammarOf (now (rules .entry)) count)) (now (reached .entry)) (now (reaches .exit)) ⌝ }
+    ensures { λ _. ⌜ ReachesIn (grammarOf (now (rules .entry)) count) (setsOf (grammarOf (now (rules .entry)) count))
+        (now (reached .entry)) (now (reaches .exit)) ⌝ }
 {
     let rules_count = count as usize;
     let mut p = 0;

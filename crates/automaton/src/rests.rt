@@ -23,7 +23,8 @@ pub fn rests(
 )
     requires { ⌜ ((G : List Rule) × GrammarHeld G (now rules) count) ⌝ }
     requires { ⌜ (length (now vanishes) ≡ 9 * MAX-RULES) × (length (now begins) ≡ 9 * MAX-RULES) × (length (now reached) ≡ 9 * MAX-RULES) ⌝ }
-    ensures { λ _. ⌜ ((G : List Rule) → GrammarHeld G (now (rules .entry)) count → RestSetsIn G (now (vanishes .exit)) (now (begins .exit)) (now (reached .exit))) ⌝ }
+    ensures { λ _. ⌜ ((G : List Rule) → GrammarHeld G (now (rules .entry)) count
+        → RestSetsIn G (now (vanishes .exit)) (now (begins .exit)) (now (reached .exit))) ⌝ }
 {
     let nulls = nullable(rules, count);
     let mut firsts = [0u32; 32];

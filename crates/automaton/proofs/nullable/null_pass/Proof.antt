@@ -1,18 +1,15 @@
-use Rattle.sets.specs.Sets.{with}
+-- `automaton::nullable::null_pass` meets its contract: the rules below p have been visited.
+-- Assumes nothing.
 use Prim.Native.Nat.{_-_}
 use mathlib.Core.Path.{_≡_, refl, ap, _∙_}
 use mathlib.Core.Logic.{⊎-elim}
 use native.Mathlib.Omega.{arith}
+use borrow.Author.Needs.{needs}
+use Rattle.sets.specs.Sets.{with}
 use Rattle.grammar.specs.Fixpoint.{visits}
 use Rattle.automaton.specs.NullableLoops.{NullPassing, null-found, null-left}
-use borrow.Author.Needs.{needs}
 use Rattle.automaton.proofs.nullable.null_pass.Statement.{statement}
 use Rattle.automaton.proofs.nullable.null_pass.Tie as tie
-use Rattle.automaton.proofs.nullable.null_pass.Reads as reads
-use Rattle.automaton.proofs.nullable.null_pass.Lts as lts
-use Rattle.automaton.proofs.nullable.null_right.Reads as null-right-reads
-use Rattle.automaton.proofs.rules.left.Reads as left-reads
-use Rattle.sets.proofs.with.Reads as with-reads
 
 abbrev Inv-loop : tie.InvT-loop
 Inv-loop rules count nulls rules-count found₀ p₀ found p = NullPassing rules count nulls found p
@@ -20,32 +17,29 @@ Inv-loop rules count nulls rules-count found₀ p₀ found p = NullPassing rules
 abbrev μ-loop : tie.MeasureT-loop
 μ-loop rules count nulls rules-count found₀ p₀ found p = count - p
 
--- src/nullable.rt:48:5
 loop-holds : tie.Need-loop-holds Inv-loop μ-loop
 unfolding visits
 loop-holds c = record { within = omega arith; low = c .before .fits .nulls .fits; found-is = refl }
 
--- src/nullable.rt:49:12
 null-right-requires : tie.Need-null-right-requires Inv-loop μ-loop
 null-right-requires c κs = c .before .before .before .pre .rule-fits (c .before .loop .p) (c .loop-test .taken)
 
--- src/nullable.rt:50:39
 left-requires : tie.Need-left-requires Inv-loop μ-loop
 left-requires c κs = c .before .before .before .before .before .pre .rule-fits (c .before .before .before .loop .p) (c .before .before .loop-test .taken)
 
--- src/nullable.rt:50:13
 with-requires : tie.Need-with-requires Inv-loop μ-loop
-with-requires c κs = rw (c .left .ensures) (c .before .before .before .before .before .before .pre .rule-fits (c .before .before .before .before .loop .p) (c .before .before .before .loop-test .taken) .left-low)
+with-requires c κs =
+    let start = c .before .before .before .before .before .before in
+    let at = c .before .before .before .before in
+    let turn = c .before .before .before in
+    rw (c .left .ensures) (start .pre .rule-fits (at .loop .p) (turn .loop-test .taken) .left-low)
 
--- src/nullable.rt:52:9
 add-p : tie.Need-add-p Inv-loop μ-loop
 add-p c = search needs
 
--- src/nullable.rt:48:5
 loop-less : tie.Need-loop-less Inv-loop μ-loop
 loop-less c = omega arith
 
--- src/nullable.rt:48:5
 loop-again : tie.Need-loop-again Inv-loop μ-loop
 loop-again c = let at = c .before .before .before in
     let h = c .before .before .loop-test .taken in
@@ -55,7 +49,6 @@ loop-again c = let at = c .before .before .before in
     (λ w. rw (w .1) (null-left (at .loop .inv) h told (w .0 .left)))
     (c .if1 .came)
 
--- src/nullable.rt:41:1
 returns : tie.Need-returns Inv-loop μ-loop
 returns c = let e : c .before .loop .p ≡ c .before .before .before .args .count = omega (arith, c .before .loop .inv .within, c .loop-test .left) in
     rw e at (c .before .loop .inv .found-is)

@@ -1,23 +1,19 @@
+-- `automaton::nullable::null_symbol` meets its contract: by the symbol's word.
+-- Assumes nothing.
 use mathlib.Core.Path.{sym, ap, _∙_}
+use borrow.Author.Needs.{needs}
 use Rattle.automaton.specs.GrammarOf.{terminal-of, nonterminal-of}
 use Rattle.automaton.specs.Rests.{nullSymbol}
-use borrow.Author.Needs.{needs}
 use Rattle.automaton.proofs.nullable.null_symbol.Statement.{statement}
 use Rattle.automaton.proofs.nullable.null_symbol.Tie as tie
-use Rattle.automaton.proofs.nullable.null_symbol.Reads as reads
-use Rattle.automaton.proofs.nullable.null_symbol.Lts as lts
-use Rattle.sets.proofs.has.Reads as has-reads
 
--- src/nullable.rt:19:9
 returns : tie.Need-returns
 unfolding nullSymbol
 returns c = sym (ap (nullSymbol _) (terminal-of _ (c .if1 .taken)))
 
--- src/nullable.rt:21:5
 has-requires : tie.Need-has-requires
 has-requires c κs = search needs
 
--- src/nullable.rt:14:1
 returns-2 : tie.Need-returns-2
 unfolding nullSymbol
 returns-2 c = c .has .ensures ∙ sym (ap (nullSymbol _) (nonterminal-of _ (c .before .if1 .left)))

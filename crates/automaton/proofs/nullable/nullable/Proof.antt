@@ -1,10 +1,8 @@
+-- `automaton::nullable::nullable` meets its contract: the passes still to come end at the same set.
+-- Assumes nothing.
 use Rattle.automaton.specs.NullableLoops.{NullClosing, nullLeft, null-begins, null-turn, null-less, null-ends}
-use borrow.Author.Needs.{needs}
 use Rattle.automaton.proofs.nullable.nullable.Statement.{statement}
 use Rattle.automaton.proofs.nullable.nullable.Tie as tie
-use Rattle.automaton.proofs.nullable.nullable.Reads as reads
-use Rattle.automaton.proofs.nullable.nullable.Lts as lts
-use Rattle.automaton.proofs.nullable.null_pass.Reads as null-pass-reads
 
 abbrev Inv-loop : tie.InvT-loop
 Inv-loop rules count nulls₀ next₀ nulls next = NullClosing rules count nulls next
@@ -12,27 +10,21 @@ Inv-loop rules count nulls₀ next₀ nulls next = NullClosing rules count nulls
 abbrev μ-loop : tie.MeasureT-loop
 μ-loop rules count nulls₀ next₀ nulls next = nullLeft nulls
 
--- src/nullable.rt:63:9
 null-pass-requires : tie.Need-null-pass-requires Inv-loop μ-loop
 null-pass-requires c κs = c .before .pre
 
--- src/nullable.rt:64:5
 loop-holds : tie.Need-loop-holds Inv-loop μ-loop
 loop-holds c = null-begins (c .before .before .pre) (c .null-pass .ensures)
 
--- src/nullable.rt:66:9
 null-pass-requires-2 : tie.Need-null-pass-requires-2 Inv-loop μ-loop
 null-pass-requires-2 c κs = c .before .before .before .before .pre
 
--- src/nullable.rt:64:5
 loop-less : tie.Need-loop-less Inv-loop μ-loop
 loop-less c = null-less (c .before .before .before .before .before .pre) (c .before .before .loop .inv) (c .before .loop-test .taken)
 
--- src/nullable.rt:64:5
 loop-again : tie.Need-loop-again Inv-loop μ-loop
 loop-again c = null-turn (c .before .before .before .before .before .pre) (c .before .before .loop .inv) (c .before .loop-test .taken) (c .null-pass2 .ensures)
 
--- src/nullable.rt:58:1
 returns : tie.Need-returns Inv-loop μ-loop
 returns c = null-ends (c .before .before .before .before .pre) (c .before .loop .inv) (c .loop-test .left)
 

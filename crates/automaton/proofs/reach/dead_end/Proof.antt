@@ -1,20 +1,16 @@
+-- `automaton::reach::dead_end` meets its contract: by the two words of the rest.
+-- Assumes nothing.
 use mathlib.Core.Path.{sym}
 use Rattle.automaton.specs.Rests.{dead-end, vanishing-end, beginning-end}
-use borrow.Author.Needs.{needs}
 use Rattle.automaton.proofs.reach.dead_end.Statement.{statement}
 use Rattle.automaton.proofs.reach.dead_end.Tie as tie
-use Rattle.automaton.proofs.reach.dead_end.Reads as reads
-use Rattle.automaton.proofs.reach.dead_end.Lts as lts
 
--- src/reach.rt:27:9
 returns : tie.Need-returns
 returns c = λ F β R. sym (vanishing-end R (c .if1 .taken))
 
--- src/reach.rt:30:9
 returns-2 : tie.Need-returns-2
 returns-2 c = λ F β R. sym (beginning-end R (c .if2 .taken))
 
--- src/reach.rt:23:1
 returns-3 : tie.Need-returns-3
 returns-3 c = λ F β R. sym (dead-end R (c .before .if1 .left) (c .if2 .left))
 

@@ -1,61 +1,68 @@
+-- `automaton::suffixes::suffixes` meets its contract: the words of the rules below p are right in both arrays.
+-- Assumes nothing.
 use Prim.Native.Nat.{_-_}
 use mathlib.Core.Path.{_∙_}
 use native.Mathlib.Omega.{arith}
+use borrow.Author.Needs.{needs}
 use Rattle.grammar.specs.FirstSets.{nullIn, firstIn}
 use Rattle.automaton.specs.Arrays.{flag}
 use Rattle.automaton.specs.Rows.{RestsFilled, rests-begin, rests-turn, suffixes-done}
-use borrow.Author.Needs.{needs}
 use Rattle.automaton.proofs.suffixes.suffixes.Statement.{statement}
 use Rattle.automaton.proofs.suffixes.suffixes.Tie as tie
-use Rattle.automaton.proofs.suffixes.suffixes.Reads as reads
-use Rattle.automaton.proofs.suffixes.suffixes.Lts as lts
-use Rattle.automaton.proofs.suffixes.first_row.Reads as first-row-reads
-use Rattle.automaton.proofs.suffixes.null_row.Reads as null-row-reads
 
 abbrev Inv-loop : tie.InvT-loop
-Inv-loop rules count nulls firsts vanishes₀ begins₀ rules-count p₀ vanishes begins p = RestsFilled (λ β. flag (nullIn nulls β)) rules count vanishes₀ vanishes p × RestsFilled (firstIn nulls firsts) rules count begins₀ begins p
+Inv-loop rules count nulls firsts vanishes₀ begins₀ rules-count p₀ vanishes begins p =
+    RestsFilled (λ β. flag (nullIn nulls β)) rules count vanishes₀ vanishes p × RestsFilled (firstIn nulls firsts) rules count begins₀ begins p
 
 abbrev μ-loop : tie.MeasureT-loop
 μ-loop rules count nulls firsts vanishes₀ begins₀ rules-count p₀ vanishes begins p = count - p
 
--- src/suffixes.rt:73:5
 loop-holds : tie.Need-loop-holds Inv-loop μ-loop
 loop-holds c = (rests-begin _, rests-begin _)
 
--- src/suffixes.rt:74:9
 null-row-requires : tie.Need-null-row-requires Inv-loop μ-loop
-null-row-requires c κs = (c .before .before .before .before .before .before .before .pre .0 .0 .rule-fits (c .before .before .loop .p) (c .before .loop-test .taken), c .before .before .loop .inv .0 .rows .long ∙ c .before .before .before .before .before .before .before .pre .1 .0)
+null-row-requires c κs =
+    let start = c .before .before .before .before .before .before .before in (
+      start .pre .0 .0 .rule-fits (c .before .before .loop .p) (c .before .loop-test .taken),
+      c .before .before .loop .inv .0 .rows .long
+          ∙ start .pre .1 .0,
+    )
 
--- src/suffixes.rt:75:9
 first-row-requires : tie.Need-first-row-requires Inv-loop μ-loop
-first-row-requires c κs = (c .before .before .before .before .before .before .before .before .before .before .before .pre .0 .0 .rule-fits (c .before .before .before .before .before .before .loop .p) (c .before .before .before .before .before .loop-test .taken), c .before .before .before .before .before .before .before .before .before .before .before .pre .0 .1, c .before .before .before .before .before .before .loop .inv .1 .rows .long ∙ c .before .before .before .before .before .before .before .before .before .before .before .pre .1 .1)
+first-row-requires c κs =
+    let start = c .before .before .before .before .before .before .before .before .before .before .before in
+    let at = c .before .before .before .before .before .before in
+    let turn = c .before .before .before .before .before in
+    (start .pre .0 .0 .rule-fits (at .loop .p) (turn .loop-test .taken), start .pre .0 .1, at .loop .inv .1 .rows .long ∙ start .pre .1 .1)
 
--- src/suffixes.rt:76:9
 add-p : tie.Need-add-p Inv-loop μ-loop
 add-p c = search needs
 
--- src/suffixes.rt:73:5
 loop-less : tie.Need-loop-less Inv-loop μ-loop
 loop-less c = omega arith
 
--- src/suffixes.rt:73:5
 loop-again : tie.Need-loop-again Inv-loop μ-loop
-loop-again c = let at = c .before .before .before .before .before .before .before .before .before in
-    let F = c .before .before .before .before .before .before .before .before .before .before .before .before .before .before .pre .0 .0 in
-    let h = c .before .before .before .before .before .before .before .before .loop-test .taken in
-    (rests-turn _ (at .loop .inv .0) F h (c .before .before .before .before .before .before .null-row .ensures), rests-turn _ (at .loop .inv .1) F h (c .before .before .first-row .ensures))
+loop-again c =
+    let start = c .before .before .before .before .before .before .before .before .before .before .before .before .before .before in
+    let turn = c .before .before .before .before .before .before .before .before in
+    let at = c .before .before .before .before .before .before .before .before .before in
+    let F = start .pre .0 .0 in
+    let h = turn .loop-test .taken in (
+      rests-turn _ (at .loop .inv .0) F h (c .before .before .before .before .before .before .null-row .ensures),
+      rests-turn _ (at .loop .inv .1) F h
+          (c .before .before .first-row .ensures),
+    )
 
--- src/suffixes.rt:59:1
 same-length : tie.Need-same-length Inv-loop μ-loop
 same-length c = c .before .loop .inv .0 .rows .long
 
--- src/suffixes.rt:59:1
 same-length-2 : tie.Need-same-length-2 Inv-loop μ-loop
 same-length-2 c = c .before .loop .inv .1 .rows .long
 
--- src/suffixes.rt:59:1
 returns : tie.Need-returns Inv-loop μ-loop
-returns c = suffixes-done _ _ (c .before .loop .inv .0) (c .before .loop .inv .1) (c .loop-test .left) (c .before .before .before .before .before .before .pre .1 .0) (c .before .before .before .before .before .before .pre .1 .1)
+returns c =
+    let start = c .before .before .before .before .before .before in
+    suffixes-done _ _ (c .before .loop .inv .0) (c .before .loop .inv .1) (c .loop-test .left) (start .pre .1 .0) (start .pre .1 .1)
 
 pub suffixes-spec : {M : Type 1} → statement M
 suffixes-spec =

@@ -69,7 +69,7 @@ first-told words count nulls {now} {p = p} h e f told =
 
 -- ---- over passes
 
--- as many passes as the grammar has rules, from empty sets
+-- all rules, from empty sets
 pub first-all : (words : List ℕ) (count nulls : ℕ) {first : List ℕ} → first ≡ replicate 32 0
     → least (firstRule (grammarOf words count) nulls) count first ≡ firstSets (grammarOf words count) nulls
 unfolding firstSets

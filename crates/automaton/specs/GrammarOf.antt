@@ -12,7 +12,10 @@ use lib.Seq.{drop-cons, ext-getD}
 use borrow.Author.Tests.{lt-ltb, le-ltb, ltb-true, ltb-false}
 use Rattle.grammar.specs.Limits.{MAX-RULES, MAX-RIGHT}
 use Rattle.grammar.specs.Symbol.{Symbol, terminal, nonterminal, Rule, ruleAt, leftOf, rightOf}
-use Rattle.grammar.specs.Small.{numberOf, Low, Small}
+use Rattle.grammar.specs.Book.{Book}
+use Rattle.grammar.specs.Conditions.{WithinLimits}
+use Rattle.grammar.specs.ConditionsLaws.{right-length}
+use Rattle.grammar.specs.Small.{numberOf, Low, Small, SmallBook}
 use Rattle.book.specs.Layout.{codeOf, symbolCode}
 use Rattle.book.specs.Held.{RulesIn}
 
@@ -66,6 +69,11 @@ pub record GrammarHeld (G : List Rule) (words : List ℕ) (count : ℕ) : Type 0
   pub counted : count ≡ length G
   pub small : Small G
   pub short : (P : ℕ) → P < length G → length (rightOf G P) ≤ MAX-RIGHT
+
+-- so are the rules of a book that keeps the limits
+pub book-grammar : {b : Book} {words : List ℕ} {count : ℕ} → WithinLimits b → SmallBook b → RulesIn (b .rules) words → count ≡ length (b .rules)
+    → GrammarHeld (b .rules) words count
+book-grammar w S R e = record { held = R; counted = e; small = S .small-rules; short = λ P h. right-length w P }
 
 -- ---- lists by place
 

@@ -1,4 +1,5 @@
 pub mod Arrays
+pub mod Filling
 pub mod FirstLoops
 pub mod GrammarOf
 pub mod NullableLoops
@@ -6,5 +7,4 @@ pub mod Passes
 pub mod ReachLoops
 pub mod RestSets
 pub mod Rests
-pub mod Rows
 pub mod Searches

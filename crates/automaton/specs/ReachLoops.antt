@@ -30,7 +30,7 @@ use Rattle.automaton.specs.GrammarOf.{
 }
 use Rattle.automaton.specs.Passes.{Told, given, visit-told}
 use Rattle.automaton.specs.Rests.{nullsOf, RestIs, RestsIn}
-use Rattle.automaton.specs.Rows.{Filled, ofRest, RestsAre, RestsFilled, fill-none, fill-up, rests-end}
+use Rattle.automaton.specs.Filling.{Filled, ofRest, RestsAre, RestsFilled, fill-none, fill-up, rests-end}
 
 -- ---- one rest of a rule
 
@@ -94,7 +94,7 @@ module _ {words : List ℕ} {count nulls : ℕ} {vanishes begins : List ℕ} (S 
       visit-told (reachRule (grammarOf words count) (setsOf (grammarOf words count)) p) (e ∙ sym (left-is words count p h))
       (f ∙ ap (reachIn (setsOf (grammarOf words count)) now) (sym (right-is words count p h))) told
 
--- as many passes as the grammar has rules, from empty sets
+-- all rules, from empty sets
 pub reach-all : (words : List ℕ) (count : ℕ) (F : Sets) {first : List ℕ} → first ≡ replicate 32 0
     → least (reachRule (grammarOf words count) F) count first ≡ reachSets (grammarOf words count) F
 unfolding reachSets
@@ -133,4 +133,4 @@ module _ {words : List ℕ} {P nulls : ℕ} {vanishes begins reached old : List 
 
 pub reaches-done : {words : List ℕ} {count p : ℕ} {F : Sets} {reached old now : List ℕ} → RestsFilled (reachIn F reached) words count old now p → count ≤ p
     → length old ≡ 9 * MAX-RULES → ReachesIn (grammarOf words count) F reached now
-reaches-done {F = F} {reached = reached} R h l = record { long = R .rows .long ∙ l; reach-is = rests-end (reachIn F reached) R h }
+reaches-done {F = F} {reached = reached} R h l = record { long = R .rules .long ∙ l; reach-is = rests-end (reachIn F reached) R h }

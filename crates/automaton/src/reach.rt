@@ -13,7 +13,7 @@ ghost use Rattle.automaton.specs.GrammarOf.{symbolOf, sizeWord, rightIn,
 ghost use Rattle.automaton.specs.Passes.{Told};
 ghost use Rattle.automaton.specs.ReachLoops.{SetsIn};
 ghost use Rattle.automaton.specs.Rests.{nullsOf, RestIs, RestsIn};
-ghost use Rattle.automaton.specs.Rows.{RestsAre};
+ghost use Rattle.automaton.specs.Filling.{RestsAre};
 use super::passes::give;
 use super::rules::left;
 use super::rules::size;
@@ -116,7 +116,7 @@ pub fn reach_sets(
 }
 
 // Rule p's words: what is reached of the rest after each dot.
-fn reach_row(
+fn reach_rests(
     rules: &[u32],
     p: usize,
     nulls: u32,
@@ -155,7 +155,7 @@ pub fn reaches(
     let rules_count = count as usize;
     let mut p = 0;
     while p < rules_count {
-        reach_row(rules, p, nulls, vanishes, begins, reached, reaches);
+        reach_rests(rules, p, nulls, vanishes, begins, reached, reaches);
         p += 1;
     }
 }

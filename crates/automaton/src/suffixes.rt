@@ -8,7 +8,7 @@ ghost use Rattle.grammar.specs.Symbol.{Symbol};
 ghost use Rattle.grammar.specs.FirstSets.{nullIn, firstIn, sets};
 ghost use Rattle.automaton.specs.Arrays.{flag, SuffixesIn};
 ghost use Rattle.automaton.specs.GrammarOf.{symbolOf, grammarOf, RuleFits, GrammarFits};
-ghost use Rattle.automaton.specs.Rows.{RestsAre};
+ghost use Rattle.automaton.specs.Filling.{RestsAre};
 use super::first::first_step;
 use super::nullable::null_symbol;
 use super::rules::size;
@@ -26,7 +26,7 @@ fn null_step(word: u32, nulls: u32, behind: u32) -> u32
 }
 
 // Rule p's words, from the last dot to the first: whether the rest vanishes.
-fn null_row(rules: &[u32], p: usize, nulls: u32, vanishes: &mut [u32])
+fn null_rests(rules: &[u32], p: usize, nulls: u32, vanishes: &mut [u32])
     requires { ⌜ RuleFits (now rules) p × (length (now vanishes) ≡ 9 * MAX-RULES) ⌝ }
     ensures { λ _. ⌜ RestsAre (λ β. flag (nullIn nulls β)) (now (rules .entry)) p (now (vanishes .entry)) (now (vanishes .exit)) ⌝ }
 {
@@ -41,7 +41,7 @@ fn null_row(rules: &[u32], p: usize, nulls: u32, vanishes: &mut [u32])
 }
 
 // What can begin the rest.
-fn first_row(rules: &[u32], p: usize, nulls: u32, firsts: &[u32], begins: &mut [u32])
+fn first_rests(rules: &[u32], p: usize, nulls: u32, firsts: &[u32], begins: &mut [u32])
     requires { ⌜ RuleFits (now rules) p × (length (now firsts) ≡ 32) × (length (now begins) ≡ 9 * MAX-RULES) ⌝ }
     ensures { λ _. ⌜ RestsAre (firstIn nulls (now (firsts .entry))) (now (rules .entry)) p (now (begins .entry)) (now (begins .exit)) ⌝ }
 {
@@ -71,8 +71,8 @@ pub fn suffixes(
     let rules_count = count as usize;
     let mut p = 0;
     while p < rules_count {
-        null_row(rules, p, nulls, vanishes);
-        first_row(rules, p, nulls, firsts, begins);
+        null_rests(rules, p, nulls, vanishes);
+        first_rests(rules, p, nulls, firsts, begins);
         p += 1;
     }
 }

@@ -8,7 +8,7 @@ use Rattle.grammar.specs.FirstSets.{setsOf}
 use Rattle.grammar.specs.ReachSets.{reachIn}
 use Rattle.automaton.specs.GrammarOf.{grammarOf}
 use Rattle.automaton.specs.ReachLoops.{nulls-of, rests-in, reaches-done}
-use Rattle.automaton.specs.Rows.{RestsFilled, rests-begin, rests-turn}
+use Rattle.automaton.specs.Filling.{RestsFilled, rests-begin, rests-turn}
 use Rattle.automaton.proofs.reach.reaches.Statement.{statement}
 use Rattle.automaton.proofs.reach.reaches.Tie as tie
 
@@ -22,12 +22,12 @@ abbrev μ-loop : tie.MeasureT-loop
 loop-holds : tie.Need-loop-holds Inv-loop μ-loop
 loop-holds c = rests-begin _
 
-reach-row-requires : tie.Need-reach-row-requires Inv-loop μ-loop
-reach-row-requires c κs =
+reach-rests-requires : tie.Need-reach-rests-requires Inv-loop μ-loop
+reach-rests-requires c κs =
     let start = c .before .before .before .before .before .before .before .before in
     let at = c .before .before in
     let S = start .pre .0 in (
-      (S .fits .rule-fits (at .loop .p) (c .before .loop-test .taken), start .pre .1, at .loop .inv .rows .long ∙ start .pre .2),
+      (S .fits .rule-fits (at .loop .p) (c .before .loop-test .taken), start .pre .1, at .loop .inv .rules .long ∙ start .pre .2),
       (S .suffixes-are .nulls-long, S .suffixes-are .firsts-long),
     )
 
@@ -41,10 +41,10 @@ loop-again : tie.Need-loop-again Inv-loop μ-loop
 loop-again c = let at = c .before .before .before .before .before in
     let S = c .before .before .before .before .before .before .before .before .before .before .before .pre .0 in
     let h = c .before .before .before .before .loop-test .taken in
-    rests-turn _ (at .loop .inv) (S .fits) h (c .before .before .reach-row .ensures _ (nulls-of S) (rests-in S (at .loop .p) h))
+    rests-turn _ (at .loop .inv) (S .fits) h (c .before .before .reach-rests .ensures _ (nulls-of S) (rests-in S (at .loop .p) h))
 
 same-length : tie.Need-same-length Inv-loop μ-loop
-same-length c = c .before .loop .inv .rows .long
+same-length c = c .before .loop .inv .rules .long
 
 returns : tie.Need-returns Inv-loop μ-loop
 returns c = reaches-done (c .before .loop .inv) (c .loop-test .left) (c .before .before .before .before .before .before .before .pre .2)
@@ -56,7 +56,7 @@ reaches-spec =
     Inv-loop
     μ-loop
     loop-holds
-    reach-row-requires
+    reach-rests-requires
     add-p
     loop-less
     loop-again

@@ -6,7 +6,7 @@ use native.Mathlib.Omega.{arith}
 use borrow.Author.Needs.{needs}
 use Rattle.grammar.specs.FirstSets.{nullIn, firstIn}
 use Rattle.automaton.specs.Arrays.{flag}
-use Rattle.automaton.specs.Rows.{RestsFilled, rests-begin, rests-turn, suffixes-done}
+use Rattle.automaton.specs.Filling.{RestsFilled, rests-begin, rests-turn, suffixes-done}
 use Rattle.automaton.proofs.suffixes.suffixes.Statement.{statement}
 use Rattle.automaton.proofs.suffixes.suffixes.Tie as tie
 
@@ -20,20 +20,20 @@ abbrev μ-loop : tie.MeasureT-loop
 loop-holds : tie.Need-loop-holds Inv-loop μ-loop
 loop-holds c = (rests-begin _, rests-begin _)
 
-null-row-requires : tie.Need-null-row-requires Inv-loop μ-loop
-null-row-requires c κs =
+null-rests-requires : tie.Need-null-rests-requires Inv-loop μ-loop
+null-rests-requires c κs =
     let start = c .before .before .before .before .before .before .before in (
       start .pre .0 .0 .rule-fits (c .before .before .loop .p) (c .before .loop-test .taken),
-      c .before .before .loop .inv .0 .rows .long
+      c .before .before .loop .inv .0 .rules .long
           ∙ start .pre .1 .0,
     )
 
-first-row-requires : tie.Need-first-row-requires Inv-loop μ-loop
-first-row-requires c κs =
+first-rests-requires : tie.Need-first-rests-requires Inv-loop μ-loop
+first-rests-requires c κs =
     let start = c .before .before .before .before .before .before .before .before .before .before .before in
     let at = c .before .before .before .before .before .before in
     let turn = c .before .before .before .before .before in
-    (start .pre .0 .0 .rule-fits (at .loop .p) (turn .loop-test .taken), start .pre .0 .1, at .loop .inv .1 .rows .long ∙ start .pre .1 .1)
+    (start .pre .0 .0 .rule-fits (at .loop .p) (turn .loop-test .taken), start .pre .0 .1, at .loop .inv .1 .rules .long ∙ start .pre .1 .1)
 
 add-p : tie.Need-add-p Inv-loop μ-loop
 add-p c = search needs
@@ -48,16 +48,16 @@ loop-again c =
     let at = c .before .before .before .before .before .before .before .before .before in
     let F = start .pre .0 .0 in
     let h = turn .loop-test .taken in (
-      rests-turn _ (at .loop .inv .0) F h (c .before .before .before .before .before .before .null-row .ensures),
+      rests-turn _ (at .loop .inv .0) F h (c .before .before .before .before .before .before .null-rests .ensures),
       rests-turn _ (at .loop .inv .1) F h
-          (c .before .before .first-row .ensures),
+          (c .before .before .first-rests .ensures),
     )
 
 same-length : tie.Need-same-length Inv-loop μ-loop
-same-length c = c .before .loop .inv .0 .rows .long
+same-length c = c .before .loop .inv .0 .rules .long
 
 same-length-2 : tie.Need-same-length-2 Inv-loop μ-loop
-same-length-2 c = c .before .loop .inv .1 .rows .long
+same-length-2 c = c .before .loop .inv .1 .rules .long
 
 returns : tie.Need-returns Inv-loop μ-loop
 returns c =
@@ -71,8 +71,8 @@ suffixes-spec =
     Inv-loop
     μ-loop
     loop-holds
-    null-row-requires
-    first-row-requires
+    null-rests-requires
+    first-rests-requires
     add-p
     loop-less
     loop-again

@@ -1,13 +1,13 @@
--- `automaton::suffixes::first_row` meets its contract: the loop keeps `Backward`.
+-- `automaton::suffixes::first_rests` meets its contract: the loop keeps `Backward`.
 -- Assumes nothing.
 use Prim.Native.Nat.{_-_}
 use mathlib.Core.Path.{refl}
 use native.Mathlib.Omega.{arith}
 use borrow.Author.Needs.{needs}
 use Rattle.grammar.specs.FirstSets.{firstIn}
-use Rattle.automaton.specs.Rows.{Backward, backward-begins, backward-turn, backward-ends}
-use Rattle.automaton.proofs.suffixes.first_row.Statement.{statement}
-use Rattle.automaton.proofs.suffixes.first_row.Tie as tie
+use Rattle.automaton.specs.Filling.{Backward, backward-begins, backward-turn, backward-ends}
+use Rattle.automaton.proofs.suffixes.first_rests.Statement.{statement}
+use Rattle.automaton.proofs.suffixes.first_rests.Tie as tie
 
 abbrev Inv-loop : tie.InvT-loop
 Inv-loop rules p nulls firsts begins₀ d₀ behind₀ begins d behind = Backward (firstIn nulls firsts) rules p begins₀ begins d behind
@@ -82,8 +82,8 @@ returns c =
     let start = c .before .before .before .before .before .before in
     backward-ends _ (start .pre .0) (start .pre .2) (c .before .loop .inv) (c .loop-test .left)
 
-pub first-row-spec : {M : Type 1} → statement M
-first-row-spec =
+pub first-rests-spec : {M : Type 1} → statement M
+first-rests-spec =
     tie.close
     (tie.spec
     Inv-loop

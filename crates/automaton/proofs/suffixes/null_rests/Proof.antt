@@ -1,14 +1,14 @@
--- `automaton::suffixes::null_row` meets its contract: the loop keeps `Backward`.
+-- `automaton::suffixes::null_rests` meets its contract: the loop keeps `Backward`.
 -- Assumes nothing.
 use Prim.Native.Nat.{_-_}
 use mathlib.Core.Path.{refl}
 use native.Mathlib.Omega.{arith}
 use borrow.Author.Needs.{needs}
 use Rattle.grammar.specs.FirstSets.{nullIn}
-use Rattle.automaton.specs.Rows.{Backward, backward-begins, backward-turn, backward-ends}
+use Rattle.automaton.specs.Filling.{Backward, backward-begins, backward-turn, backward-ends}
 use Rattle.automaton.specs.Arrays.{flag}
-use Rattle.automaton.proofs.suffixes.null_row.Statement.{statement}
-use Rattle.automaton.proofs.suffixes.null_row.Tie as tie
+use Rattle.automaton.proofs.suffixes.null_rests.Statement.{statement}
+use Rattle.automaton.proofs.suffixes.null_rests.Tie as tie
 
 abbrev Inv-loop : tie.InvT-loop
 Inv-loop rules p nulls vanishes₀ d₀ behind₀ vanishes d behind = Backward (λ β. flag (nullIn nulls β)) rules p vanishes₀ vanishes d behind
@@ -79,8 +79,8 @@ returns c =
     let start = c .before .before .before .before .before in
     backward-ends _ (start .pre .0) (start .pre .1) (c .before .loop .inv) (c .loop-test .left)
 
-pub null-row-spec : {M : Type 1} → statement M
-null-row-spec =
+pub null-rests-spec : {M : Type 1} → statement M
+null-rests-spec =
     tie.close
     (tie.spec
     Inv-loop

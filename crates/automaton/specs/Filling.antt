@@ -65,17 +65,17 @@ module _ {value : ℕ → ℕ} {place low high : ℕ} {old now : List ℕ} (F : 
   fill-up q = stored (λ D l m n. (omega arith, omega arith))
 
 -- the words of the rules below p, where rule P has dots 0 to `last P`
-pub record RowsFilled (value : ℕ → ℕ → ℕ) (last : ℕ → ℕ) (old now : List ℕ) (p : ℕ) : Type 0 where
+pub record RulesFilled (value : ℕ → ℕ → ℕ) (last : ℕ → ℕ) (old now : List ℕ) (p : ℕ) : Type 0 where
   pub long : length now ≡ length old
   pub word-is : (P D : ℕ) → P < p → D ≤ last P → getD now (9 * P + D) 0 ≡ value P D
 
 module _ {value : ℕ → ℕ → ℕ} {last : ℕ → ℕ} {old : List ℕ} where
-  rows-begin : RowsFilled value last old old 0
-  rows-begin = record { long = refl; word-is = λ P D h l. absurd (omega arith) }
+  rules-begin : RulesFilled value last old old 0
+  rules-begin = record { long = refl; word-is = λ P D h l. absurd (omega arith) }
 
-  rows-turn : {now next : List ℕ} {p : ℕ} → RowsFilled value last old now p → ((P : ℕ) → P < p → last P ≤ 8)
-      → Filled (value p) (9 * p) 0 (last p + 1) now next → RowsFilled value last old next (p + 1)
-  rows-turn {now} {next} {p} R short F = record {
+  rules-turn : {now next : List ℕ} {p : ℕ} → RulesFilled value last old now p → ((P : ℕ) → P < p → last P ≤ 8)
+      → Filled (value p) (9 * p) 0 (last p + 1) now next → RulesFilled value last old next (p + 1)
+  rules-turn {now} {next} {p} R short F = record {
     long = F .long ∙ R .long;
     word-is = λ P D h. below-suc (λ n. D ≤ last n → getD next (9 * n + D) 0 ≡ value n D) p P (rw (add-one p) at h)
         (λ q l. F .below (9 * P + D) (omega (arith, short P q)) ∙ R .word-is P D q l) (λ l. F .word-is D (omega arith) (omega arith));
@@ -105,7 +105,7 @@ module _ (f : List Symbol → ℕ) {words : List ℕ} {P : ℕ} {old : List ℕ}
     behind-is = q ∙ ap f (sym (rest-none words P last (omega arith)));
   }
 
-  module _ (R : RuleFits words P) (long : length old ≡ 576) {now : List ℕ} {d behind : ℕ} (B : Backward f words P old now d behind) where
+  module _ (R : RuleFits words P) (long : length old ≡ 9 * MAX-RULES) {now : List ℕ} {d behind : ℕ} (B : Backward f words P old now d behind) where
     kept : Filled (ofRest f words P) (9 * P) d (sizeWord words P + 1) old (set now (9 * P + d) behind)
     kept = fill-down (B .filled) d (omega (arith, R .below, R .size-low, B .within)) (B .behind-is) refl
 
@@ -129,15 +129,15 @@ module _ (f : List Symbol → ℕ) {words : List ℕ} {P : ℕ} {old : List ℕ}
 -- rule after rule
 pub record RestsFilled (f : List Symbol → ℕ) (words : List ℕ) (count : ℕ) (old now : List ℕ) (p : ℕ) : Type 0 where
   pub within : p ≤ count
-  pub rows : RowsFilled (ofRest f words) (sizeWord words) old now p
+  pub rules : RulesFilled (ofRest f words) (sizeWord words) old now p
 
 module _ (f : List Symbol → ℕ) {words : List ℕ} {count : ℕ} {old : List ℕ} where
   pub rests-begin : RestsFilled f words count old old 0
-  rests-begin = record { within = omega arith; rows = rows-begin }
+  rests-begin = record { within = omega arith; rules = rules-begin }
 
   module _ {now : List ℕ} {p : ℕ} (R : RestsFilled f words count old now p) where
     pub rests-turn : GrammarFits words count → p < count → {next : List ℕ} → RestsAre f words p now next → RestsFilled f words count old next (p + 1)
-    rests-turn G h F = record { within = omega arith; rows = rows-turn (R .rows) (λ P l. G .rule-fits P (omega (arith, R .within)) .size-low) F }
+    rests-turn G h F = record { within = omega arith; rules = rules-turn (R .rules) (λ P l. G .rule-fits P (omega (arith, R .within)) .size-low) F }
 
     pub rests-end : count ≤ p → (P D : ℕ) → P < length (grammarOf words count) → D ≤ length (rightOf (grammarOf words count) P)
         → getD now (9 * P + D) 0 ≡ f (after (grammarOf words count) P D)
@@ -145,7 +145,7 @@ module _ (f : List Symbol → ℕ) {words : List ℕ} {count : ℕ} {old : List 
         let i : P < count = rw (grammar-size words count) at l in
         let e : rightOf (grammarOf words count) P ≡ rightIn words P = right-is words count P i in
         let n : D ≤ sizeWord words P = rw (e, right-size words P) at m in
-        R .rows .word-is P D (omega arith) n ∙ ap (λ (β : List Symbol). f (drop D β)) (sym e)
+        R .rules .word-is P D (omega arith) n ∙ ap (λ (β : List Symbol). f (drop D β)) (sym e)
 
 -- both arrays, when all rules are done
 pub suffixes-done : (nulls : ℕ) (firsts : List ℕ) {words : List ℕ} {count p : ℕ} {old old₁ vanishes begins : List ℕ}
@@ -153,8 +153,8 @@ pub suffixes-done : (nulls : ℕ) (firsts : List ℕ) {words : List ℕ} {count 
     → length old ≡ 9 * MAX-RULES → length old₁ ≡ 9 * MAX-RULES → SuffixesIn (grammarOf words count) (sets nulls firsts) vanishes begins
 unfolding null first
 suffixes-done nulls firsts A B h l m = record {
-  nulls-long = A .rows .long ∙ l;
-  firsts-long = B .rows .long ∙ m;
+  nulls-long = A .rules .long ∙ l;
+  firsts-long = B .rules .long ∙ m;
   null-is = rests-end (λ β. flag (nullIn nulls β)) A h;
   first-is = rests-end (firstIn nulls firsts) B h;
 }

@@ -1,11 +1,11 @@
--- `automaton::reach::reach_row` meets its contract: the loop keeps `Reaching`.
+-- `automaton::reach::reach_rests` meets its contract: the loop keeps `Reaching`.
 -- Assumes nothing.
 use Prim.Native.Nat.{_+_, _-_}
 use native.Mathlib.Omega.{arith}
 use borrow.Author.Needs.{needs}
 use Rattle.automaton.specs.ReachLoops.{Reaching, reaching-begins, reaching-turn, reaching-ends}
-use Rattle.automaton.proofs.reach.reach_row.Statement.{statement}
-use Rattle.automaton.proofs.reach.reach_row.Tie as tie
+use Rattle.automaton.proofs.reach.reach_rests.Statement.{statement}
+use Rattle.automaton.proofs.reach.reach_rests.Tie as tie
 
 abbrev Inv-loop : tie.InvT-loop
 Inv-loop rules p nulls vanishes begins reached reaches₀ last d₀ reaches d = Reaching rules p nulls vanishes begins reached reaches₀ reaches d
@@ -64,8 +64,8 @@ same-length c = c .before .loop .inv .long
 returns : tie.Need-returns Inv-loop μ-loop
 returns c = reaching-ends (c .before .loop .inv) (omega (arith, c .before .before .size .ensures, c .loop-test .left))
 
-pub reach-row-spec : {M : Type 1} → statement M
-reach-row-spec =
+pub reach-rests-spec : {M : Type 1} → statement M
+reach-rests-spec =
     tie.close
     (tie.spec
     Inv-loop

@@ -1,1 +1,10 @@
 pub mod Arrays
+pub mod Filling
+pub mod FirstLoops
+pub mod GrammarOf
+pub mod NullableLoops
+pub mod Passes
+pub mod ReachLoops
+pub mod RestSets
+pub mod Rests
+pub mod Searches

@@ -1,1 +1,8 @@
 // The LR(1) side of a book: nullable and FIRST, closures, kernel rules (7), go rules (8), actions and conflicts (9).
+pub mod first;
+pub mod nullable;
+pub mod passes;
+pub mod reach;
+pub mod rests;
+pub mod rules;
+pub mod suffixes;

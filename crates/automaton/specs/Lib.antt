@@ -1,3 +1,4 @@
 pub mod Arrays
 pub mod Starts
 pub mod Passes
+pub mod Derives

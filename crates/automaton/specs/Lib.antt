@@ -2,3 +2,5 @@ pub mod Arrays
 pub mod Starts
 pub mod Passes
 pub mod Derives
+pub mod SymbolCodes
+pub mod GoTable

@@ -15,6 +15,7 @@ use Rattle.sets.specs.SetsLaws.{subset-union, subset-true}
 use Rattle.grammar.specs.Limits.{MAX-RULES, MAX-RIGHT}
 use Rattle.grammar.specs.Members.{none-in}
 use Rattle.grammar.specs.Symbol.{Symbol, terminal, nonterminal, Rule, rightOf, after}
+use Rattle.grammar.specs.Book.{Book}
 use Rattle.grammar.specs.Small.{numberOf, Low, Small, low-after}
 use Rattle.grammar.specs.Fixpoint.{Constraint, setAt, visit}
 use Rattle.grammar.specs.LeastLaws.{Family}
@@ -27,11 +28,11 @@ use Rattle.automaton.specs.Passes.{Told, told-same, given, visit-given}
 use Rattle.automaton.specs.SymbolCodes.{terminal-code, nonterminal-code, code-low}
 
 -- a grammar in arrays: its rules, and the sets of every rest of a rule
-pub record GrammarIn (G : List Rule) (F : Sets) (rules nulls firsts : List ℕ) : Type 0 where
-  pub rules-in : RulesIn G rules
-  pub rests-in : SuffixesIn G F nulls firsts
-  pub small : Small G
-  pub short : (P : ℕ) → P < length G → length (rightOf G P) ≤ MAX-RIGHT
+pub record GrammarIn (b : Book) (F : Sets) (rules nulls firsts : List ℕ) : Type 0 where
+  pub rules-in : RulesIn (b .rules) rules
+  pub rests-in : SuffixesIn (b .rules) F nulls firsts
+  pub small : Small (b .rules)
+  pub short : (P : ℕ) → P < length (b .rules) → length (rightOf (b .rules) P) ≤ MAX-RIGHT
   pub first-low : (β : List Symbol) → Low β → first F β < 2 ^ 32
 
 -- ---- a visit by what stands behind the dot
@@ -94,23 +95,23 @@ word-nonterminal : (X : Symbol) → numberOf X < 32 → 32 ≤ symbolCode X → 
 word-nonterminal (terminal K) h l = absurd (omega (arith, terminal-code K h))
 word-nonterminal (nonterminal K) h l = let e : symbolCode (nonterminal K) - 32 ≡ K = omega (arith, nonterminal-code K h) in rw e
 
-module _ {G : List Rule} {F : Sets} {rules nulls firsts : List ℕ} (H : GrammarIn G F rules nulls firsts) (P D : ℕ) (p : P < length G) where
+module _ {b : Book} {F : Sets} {rules nulls firsts : List ℕ} (H : GrammarIn b F rules nulls firsts) (P D : ℕ) (p : P < length (b .rules)) where
   -- the symbol, if there is one
   abbrev next : Symbol
-  next = getD (rightOf G P) D (terminal 0)
+  next = getD (rightOf (b .rules) P) D (terminal 0)
 
-  pub rest-none : getD rules (10 * P + 1) 0 ≤ D → after G P D ≡ []
-  rest-none h = drop-of-length-le (rightOf G P) {i = D} (omega (arith, H .rules-in .size-is P p))
+  pub rest-none : getD rules (10 * P + 1) 0 ≤ D → after (b .rules) P D ≡ []
+  rest-none h = drop-of-length-le (rightOf (b .rules) P) {i = D} (omega (arith, H .rules-in .size-is P p))
 
   module _ (d : D < getD rules (10 * P + 1) 0) where
-    inside : D < length (rightOf G P)
+    inside : D < length (rightOf (b .rules) P)
     inside = omega (arith, H .rules-in .size-is P p)
 
-    rest-next : after G P D ≡ next ∷ after G P (D + 1)
-    rest-next = rw (add-one D) (drop-cons (rightOf G P) D (terminal 0) inside)
+    rest-next : after (b .rules) P D ≡ next ∷ after (b .rules) P (D + 1)
+    rest-next = rw (add-one D) (drop-cons (rightOf (b .rules) P) D (terminal 0) inside)
 
     next-low : numberOf next < 32
-    next-low = low-at (rightOf G P) D (H .small .right-low P p)
+    next-low = low-at (rightOf (b .rules) P) D (H .small .right-low P p)
 
     next-word : getD rules (10 * P + 2 + D) 0 ≡ symbolCode next
     next-word = H .rules-in .symbol-is P D p inside (omega (arith, inside, H .short P p))
@@ -125,15 +126,15 @@ module _ {G : List Rule} {F : Sets} {rules nulls firsts : List ℕ} (H : Grammar
     pub rest-place : 9 * P + (D + 1) < 9 * MAX-RULES
     rest-place = omega (arith, inside, H .short P p, H .rules-in .fits)
 
-    pub rest-within : D + 1 ≤ length (rightOf G P)
+    pub rest-within : D + 1 ≤ length (rightOf (b .rules) P)
     rest-within = omega (arith, inside)
 
-    pub rest-terminal : getD rules (10 * P + 2 + D) 0 < 32 → after G P D ≡ terminal (getD rules (10 * P + 2 + D) 0) ∷ after G P (D + 1)
-    rest-terminal h = rest-next ∙ ap (λ (X : Symbol). X ∷ after G P (D + 1)) (word-terminal next next-low (omega (arith, next-word)) ∙ rw next-word)
+    pub rest-terminal : getD rules (10 * P + 2 + D) 0 < 32 → after (b .rules) P D ≡ terminal (getD rules (10 * P + 2 + D) 0) ∷ after (b .rules) P (D + 1)
+    rest-terminal h = rest-next ∙ ap (λ (X : Symbol). X ∷ after (b .rules) P (D + 1)) (word-terminal next next-low (omega (arith, next-word)) ∙ rw next-word)
 
-    pub rest-nonterminal : 32 ≤ getD rules (10 * P + 2 + D) 0 → after G P D ≡ nonterminal (getD rules (10 * P + 2 + D) 0 - 32) ∷ after G P (D + 1)
+    pub rest-nonterminal : 32 ≤ getD rules (10 * P + 2 + D) 0 → after (b .rules) P D ≡ nonterminal (getD rules (10 * P + 2 + D) 0 - 32) ∷ after (b .rules) P (D + 1)
     rest-nonterminal h =
-        rest-next ∙ ap (λ (X : Symbol). X ∷ after G P (D + 1)) (word-nonterminal next next-low (omega (arith, next-word)) ∙ rw next-word)
+        rest-next ∙ ap (λ (X : Symbol). X ∷ after (b .rules) P (D + 1)) (word-nonterminal next next-low (omega (arith, next-word)) ∙ rw next-word)
 
 -- what items with the lookaheads M give, by the words of a rest
 module _ {G : List Rule} {F : Sets} {nulls firsts : List ℕ} (R : SuffixesIn G F nulls firsts) (P D M : ℕ) (p : P < length G) (d : D ≤ length (rightOf G P)) where
@@ -155,14 +156,14 @@ module _ {G : List Rule} {F : Sets} {nulls firsts : List ℕ} (R : SuffixesIn G 
 
 -- ---- an item gives what it directly derives, by the words of its rule
 
-module _ {G : List Rule} {F : Sets} {rules nulls firsts sets : List ℕ} (H : GrammarIn G F rules nulls firsts) (S : Family 32 sets)
-    (P D M : ℕ) (p : P < length G) where
+module _ {b : Book} {F : Sets} {rules nulls firsts sets : List ℕ} (H : GrammarIn b F rules nulls firsts) (S : Family 32 sets)
+    (P D M : ℕ) (p : P < length (b .rules)) where
   -- the sets afterwards
   abbrev derived : List ℕ
-  derived = visit (derivesInto F (after G P D) (λ _. M)) sets
+  derived = visit (derivesInto F (after (b .rules) P D) (λ _. M)) sets
 
   pub told-none : M ≡ 0 → Told derived sets sets false
-  told-none e = told-same (rw e (derives-none S F (after G P D)))
+  told-none e = told-same (rw e (derives-none S F (after (b .rules) P D)))
 
   pub told-end : getD rules (10 * P + 1) 0 ≤ D → Told derived sets sets false
   told-end h = told-same (rw (rest-none H P D p h) (derives-end S F M))
@@ -172,5 +173,5 @@ module _ {G : List Rule} {F : Sets} {rules nulls firsts sets : List ℕ} (H : Gr
     told-terminal h = told-same (rw (rest-terminal H P D p d h) (derives-terminal S F M _ _))
 
     pub told-given : {next : List ℕ} {r : Bool} {more : ℕ} → (M ≡ 0 → ⊥) → 32 ≤ getD rules (10 * P + 2 + D) 0
-        → more ≡ firstWith F (after G P (D + 1)) M → Told (given (getD rules (10 * P + 2 + D) 0 - 32) more sets) sets next r → Told derived sets next r
+        → more ≡ firstWith F (after (b .rules) P (D + 1)) M → Told (given (getD rules (10 * P + 2 + D) 0 - 32) more sets) sets next r → Told derived sets next r
     told-given n h e t = rw (rest-nonterminal H P D p d h, derives-given F sets M _ _ n, ← e) t

@@ -4,3 +4,4 @@ pub mod Passes
 pub mod Derives
 pub mod SymbolCodes
 pub mod GoTable
+pub mod ClosurePasses

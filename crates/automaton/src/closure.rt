@@ -6,7 +6,7 @@ ghost use Prim.Native.Nat.{ℕ, _+_, _*_, _≤_, _<_};
 ghost use lib.ListN.{length};
 ghost use Rattle.grammar.specs.Symbol.{Rule, rightOf, after};
 ghost use Rattle.grammar.specs.Book.{Book};
-ghost use Rattle.grammar.specs.Fixpoint.{visit};
+ghost use Rattle.grammar.specs.Fixpoint.{visit, visits, least};
 ghost use Rattle.grammar.specs.FirstSets.{Sets, firstWith};
 ghost use Rattle.grammar.specs.ClosureSets.{derivesInto, closureRule};
 ghost use Rattle.automaton.specs.Arrays.{SuffixesIn};
@@ -40,10 +40,10 @@ fn derive(
     own: u32,
     looks: &mut [u32],
 ) -> bool
-    requires { ⌜ ((G : List Rule) × (F : Sets) × GrammarIn G F (now rules) (now «suffix_nulls») (now «suffix_firsts») × (rule < length G))
+    requires { ⌜ ((b : Book) × (F : Sets) × GrammarIn b F (now rules) (now «suffix_nulls») (now «suffix_firsts») × (rule < length (b .rules)))
         × (length (now looks) ≡ 32) ⌝ }
-    ensures { λ r. ⌜ ((G : List Rule) (F : Sets) → GrammarIn G F (now (rules .entry)) (now («suffix_nulls» .entry)) (now («suffix_firsts» .entry))
-        → rule < length G → Told (visit (derivesInto F (after G rule dot) (λ _. own)) (now (looks .entry))) (now (looks .entry)) (now (looks .exit)) r) ⌝ }
+    ensures { λ r. ⌜ ((b : Book) (F : Sets) → GrammarIn b F (now (rules .entry)) (now («suffix_nulls» .entry)) (now («suffix_firsts» .entry))
+        → rule < length (b .rules) → Told (visit (derivesInto F (after (b .rules) rule dot) (λ _. own)) (now (looks .entry))) (now (looks .entry)) (now (looks .exit)) r) ⌝ }
 {
     if own == 0 {
         return false;
@@ -60,4 +60,63 @@ fn derive(
         next - 32,
         first_with(suffix_nulls, suffix_firsts, rule, dot + 1, own),
     )
+}
+
+// A rule gives what its item with the dot in front, with the lookaheads of its left side, directly derives; whether that changed any.
+fn visit(
+    rules: &[u32],
+    suffix_nulls: &[u32],
+    suffix_firsts: &[u32],
+    rule: usize,
+    looks: &mut [u32],
+) -> bool
+    requires { ⌜ ((b : Book) × (F : Sets) × GrammarIn b F (now rules) (now «suffix_nulls») (now «suffix_firsts») × (rule < length (b .rules)))
+        × (length (now looks) ≡ 32) ⌝ }
+    ensures { λ r. ⌜ ((b : Book) (F : Sets) → GrammarIn b F (now (rules .entry)) (now («suffix_nulls» .entry)) (now («suffix_firsts» .entry))
+        → rule < length (b .rules) → Told (visit (closureRule b F rule) (now (looks .entry))) (now (looks .entry)) (now (looks .exit)) r) ⌝ }
+{
+    let left = word(rules, 10 * rule);
+    let own = looks[left];
+    derive(rules, suffix_nulls, suffix_firsts, rule, 0, own, looks)
+}
+
+// One pass over the rules; whether it changed any lookaheads.
+fn pass(
+    rules: &[u32],
+    count: usize,
+    suffix_nulls: &[u32],
+    suffix_firsts: &[u32],
+    looks: &mut [u32],
+) -> bool
+    requires { ⌜ ((b : Book) × (F : Sets) × GrammarIn b F (now rules) (now «suffix_nulls») (now «suffix_firsts») × (length (b .rules) ≡ count))
+        × (length (now looks) ≡ 32) ⌝ }
+    ensures { λ r. ⌜ ((b : Book) (F : Sets) → GrammarIn b F (now (rules .entry)) (now («suffix_nulls» .entry)) (now («suffix_firsts» .entry))
+        → length (b .rules) ≡ count
+        → Told (visits (closureRule b F) count (now (looks .entry))) (now (looks .entry)) (now (looks .exit)) r) ⌝ }
+{
+    let mut changed = false;
+    let mut rule = 0;
+    while rule < count {
+        if visit(rules, suffix_nulls, suffix_firsts, rule, looks) {
+            changed = true;
+        }
+        rule += 1;
+    }
+    changed
+}
+
+// Passes until one changes nothing.
+fn passes(
+    rules: &[u32],
+    count: usize,
+    suffix_nulls: &[u32],
+    suffix_firsts: &[u32],
+    looks: &mut [u32],
+)
+    requires { ⌜ ((b : Book) × (F : Sets) × GrammarIn b F (now rules) (now «suffix_nulls») (now «suffix_firsts») × (length (b .rules) ≡ count))
+        × (length (now looks) ≡ 32) ⌝ }
+    ensures { λ _. ⌜ ((b : Book) (F : Sets) → GrammarIn b F (now (rules .entry)) (now («suffix_nulls» .entry)) (now («suffix_firsts» .entry))
+        → length (b .rules) ≡ count → now (looks .exit) ≡ least (closureRule b F) count (now (looks .entry))) ⌝ }
+{
+    while pass(rules, count, suffix_nulls, suffix_firsts, looks) {}
 }

@@ -62,7 +62,7 @@ rule-derives b F P sets = derives-own F sets (rightOf (b .rules) P) (λ s. setAt
 
 -- ---- nothing to begin with
 
-none-at : (n i : ℕ) → setAt (replicate n 0) i ≡ 0
+pub none-at : (n i : ℕ) → setAt (replicate n 0) i ≡ 0
 none-at zero i = refl
 none-at (suc n) zero = refl
 none-at (suc n) (suc i) = none-at n i

@@ -5,3 +5,6 @@ pub mod Derives
 pub mod SymbolCodes
 pub mod GoTable
 pub mod ClosurePasses
+pub mod KernelLines
+pub mod Closures
+pub mod Part

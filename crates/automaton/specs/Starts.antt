@@ -103,7 +103,8 @@ sorted {ks} {kernels} {count} {states} L =
           (L .ascend i j h (omega (arith, L .counted)));
     }
 
-by-order : {C : Type 0} (m n : ℕ) → (m < n → C) → (n ≤ m → C) → C
+-- one number is below another, or is not
+pub by-order : {C : Type 0} (m n : ℕ) → (m < n → C) → (n ≤ m → C) → C
 by-order {C} m n f g = go (ltb m n) refl
   where
     go : (t : Bool) → ltb m n ≡ t → C

@@ -3,15 +3,16 @@
 ghost use mathlib.Core.Path.{_≡_};
 ghost use mathlib.Core.List.{List};
 ghost use Prim.Native.Nat.{ℕ, _+_, _*_, _≤_, _<_};
-ghost use lib.ListN.{length};
+ghost use lib.ListN.{length, replicate};
 ghost use Rattle.grammar.specs.Symbol.{Rule, rightOf, after};
 ghost use Rattle.grammar.specs.Book.{Book};
 ghost use Rattle.grammar.specs.Fixpoint.{visit, visits, least};
 ghost use Rattle.grammar.specs.FirstSets.{Sets, firstWith};
-ghost use Rattle.grammar.specs.ClosureSets.{derivesInto, closureRule};
+ghost use Rattle.grammar.specs.ClosureSets.{derivesInto, fromKernels, closureRule, closureSets};
 ghost use Rattle.automaton.specs.Arrays.{SuffixesIn};
 ghost use Rattle.automaton.specs.Passes.{Told};
 ghost use Rattle.automaton.specs.Derives.{GrammarIn};
+ghost use Rattle.automaton.specs.KernelLines.{lines, ItemsIn, StateIn, lineInto, Begun};
 use super::passes::give;
 use super::words::word;
 
@@ -119,4 +120,74 @@ fn passes(
         → length (b .rules) ≡ count → now (looks .exit) ≡ least (closureRule b F) count (now (looks .entry))) ⌝ }
 {
     while pass(rules, count, suffix_nulls, suffix_firsts, looks) {}
+}
+
+// Kernel line i gives the nonterminal behind its dot what it directly derives; whether that changed any lookaheads.
+fn line(
+    rules: &[u32],
+    kernels: &[u32],
+    suffix_nulls: &[u32],
+    suffix_firsts: &[u32],
+    i: usize,
+    looks: &mut [u32],
+) -> bool
+    requires { ⌜ ((b : Book) × (F : Sets) × ItemsIn b F (now rules) (now kernels) (now «suffix_nulls») (now «suffix_firsts») × (i < length (b .kernels)))
+        × (length (now looks) ≡ 32) ⌝ }
+    ensures { λ r. ⌜ ((b : Book) (F : Sets)
+        → ItemsIn b F (now (rules .entry)) (now (kernels .entry)) (now («suffix_nulls» .entry)) (now («suffix_firsts» .entry)) → i < length (b .kernels)
+        → Told (visit (lineInto b F i) (now (looks .entry))) (now (looks .entry)) (now (looks .exit)) r) ⌝ }
+{
+    let rule = word(kernels, 5 * i + 1);
+    let dot = word(kernels, 5 * i + 2);
+    let own = kernels[5 * i + 4];
+    derive(rules, suffix_nulls, suffix_firsts, rule, dot, own, looks)
+}
+
+// The kernel lines from one up to another, one after the other; whether they changed any lookaheads.
+fn begin(
+    rules: &[u32],
+    kernels: &[u32],
+    from: usize,
+    to: usize,
+    suffix_nulls: &[u32],
+    suffix_firsts: &[u32],
+    looks: &mut [u32],
+) -> bool
+    requires { ⌜ ((b : Book) × (F : Sets) × ItemsIn b F (now rules) (now kernels) (now «suffix_nulls») (now «suffix_firsts») × (to ≤ length (b .kernels)))
+        × (length (now looks) ≡ 32) ⌝ }
+    ensures { λ r. ⌜ ((b : Book) (F : Sets)
+        → ItemsIn b F (now (rules .entry)) (now (kernels .entry)) (now («suffix_nulls» .entry)) (now («suffix_firsts» .entry)) → to ≤ length (b .kernels)
+        → Begun (fromKernels b F (lines (b .kernels) from to) (now (looks .entry))) (now (looks .entry)) (now (looks .exit)) r) ⌝ }
+{
+    let mut changed = false;
+    let mut i = from;
+    while i < to {
+        if line(rules, kernels, suffix_nulls, suffix_firsts, i, looks) {
+            changed = true;
+        }
+        i += 1;
+    }
+    changed
+}
+
+// The closure of the state whose kernel lines stand from one up to another. Where these give no lookaheads, no pass is needed.
+pub fn closure(
+    rules: &[u32],
+    count: usize,
+    kernels: &[u32],
+    from: usize,
+    to: usize,
+    suffix_nulls: &[u32],
+    suffix_firsts: &[u32],
+    looks: &mut [u32],
+)
+    requires { ⌜ ((b : Book) × (F : Sets) × ItemsIn b F (now rules) (now kernels) (now «suffix_nulls») (now «suffix_firsts») × (length (b .rules) ≡ count)
+        × (to ≤ length (b .kernels))) × (now looks ≡ replicate 32 0) ⌝ }
+    ensures { λ _. ⌜ ((b : Book) (F : Sets) (S : ℕ)
+        → ItemsIn b F (now (rules .entry)) (now (kernels .entry)) (now («suffix_nulls» .entry)) (now («suffix_firsts» .entry)) → length (b .rules) ≡ count
+        → StateIn (b .kernels) S from to → now (looks .exit) ≡ closureSets b F S) ⌝ }
+{
+    if begin(rules, kernels, from, to, suffix_nulls, suffix_firsts, looks) {
+        passes(rules, count, suffix_nulls, suffix_firsts, looks);
+    }
 }

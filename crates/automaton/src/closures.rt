@@ -1,0 +1,48 @@
+// The closures of all states, 32 words each.
+ghost use mathlib.Core.Path.{_≡_};
+ghost use mathlib.Core.List.{List};
+ghost use Prim.Native.Nat.{ℕ, _≤_, _<_};
+ghost use lib.ListN.{length, replicate};
+ghost use Rattle.grammar.specs.Book.{Book};
+ghost use Rattle.grammar.specs.FirstSets.{Sets};
+ghost use Rattle.automaton.specs.Arrays.{ClosuresIn};
+ghost use Rattle.automaton.specs.Closures.{StatesIn};
+use super::closure::closure;
+use super::words::word;
+
+pub fn closures(
+    rules: &[u32],
+    count: u32,
+    kernels: &[u32],
+    starts: &[u32],
+    states: u32,
+    suffix_nulls: &[u32],
+    suffix_firsts: &[u32],
+    closures: &mut [u32],
+)
+    requires { ⌜ ((b : Book) × (F : Sets)
+        × StatesIn b F (now rules) count (now kernels) (now starts) states (now «suffix_nulls») (now «suffix_firsts»))
+        × (now closures ≡ replicate 4096 0) ⌝ }
+    ensures { λ _. ⌜ ((b : Book) (F : Sets)
+        → StatesIn b F (now (rules .entry)) count (now (kernels .entry)) (now (starts .entry)) states (now («suffix_nulls» .entry)) (now («suffix_firsts» .entry))
+        → ClosuresIn b F (now (closures .exit))) ⌝ }
+{
+    let mut s = 0;
+    while s < states as usize {
+        let from = word(starts, s);
+        let to = word(starts, s + 1);
+        let at = 32 * s;
+        let end = at + 32;
+        closure(
+            rules,
+            count as usize,
+            kernels,
+            from,
+            to,
+            suffix_nulls,
+            suffix_firsts,
+            &mut closures[at..end],
+        );
+        s += 1;
+    }
+}

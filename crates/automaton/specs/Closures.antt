@@ -57,17 +57,6 @@ pub record Closed (rules : List ℕ) (count : ℕ) (kernels starts : List ℕ) (
 
 -- ---- the array of all closures, state by state
 
-module _ {b : Book} {F : Sets} {rules : List ℕ} {count : ℕ} {kernels starts : List ℕ} {states : ℕ} {nulls firsts : List ℕ}
-    (H : StatesIn b F rules count kernels starts states nulls firsts) where
-  -- no start is past the last line
-  within-lines : (n S : ℕ) → S + n ≡ states → getD starts S 0 ≤ length (b .kernels)
-  within-lines zero S e = let s : S ≡ states = omega arith in omega (arith, ap (λ (k : ℕ). getD starts k 0) s, H .starts-in .last-is)
-  within-lines (suc n) S e = omega (arith, H .starts-in .ascend S (omega arith), within-lines n (S + 1) (omega arith))
-
-  -- the lines of a state
-  pub state-in : (S : ℕ) → S < states → StateIn (b .kernels) S (getD starts S 0) (getD starts (S + 1) 0)
-  state-in S h = record { within = within-lines (states - (S + 1)) (S + 1) (omega arith); lines-are = H .starts-in .lines-are S h }
-
 pub all-long : {closures : List ℕ} → closures ≡ replicate 4096 0 → length closures ≡ 32 * MAX-STATES
 all-long e = ap length e ∙ length-replicate {A = ℕ} 4096 0
 

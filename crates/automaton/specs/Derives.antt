@@ -81,7 +81,7 @@ derives-own F sets (nonterminal B ∷ β) own = refl
 
 -- ---- what stands behind the dot, by words
 
-low-at : (β : List Symbol) (D : ℕ) → Low β → numberOf (getD β D (terminal 0)) < 32
+pub low-at : (β : List Symbol) (D : ℕ) → Low β → numberOf (getD β D (terminal 0)) < 32
 low-at [] D l = omega arith
 low-at (X ∷ β) zero l = l .0
 low-at (X ∷ β) (suc D) l = low-at β D (l .1)

@@ -15,6 +15,7 @@ use Rattle.grammar.specs.Fixpoint.{Constraint, visit}
 use Rattle.grammar.specs.FirstSets.{Sets}
 use Rattle.grammar.specs.ClosureSets.{setOf, derivesInto, kernelsIn, fromKernels}
 use Rattle.book.specs.Held.{KernelsIn, kernelAt}
+use Rattle.automaton.specs.Arrays.{StartsIn}
 use Rattle.automaton.specs.Passes.{Told}
 use Rattle.automaton.specs.Derives.{GrammarIn}
 
@@ -41,6 +42,17 @@ pub record ItemsIn (b : Book) (F : Sets) (rules kernels nulls firsts : List ℕ)
 pub record StateIn (ks : List Kernel) (S from to : ℕ) : Type 0 where
   pub within : to ≤ length ks
   pub lines-are : kernelsIn ks S ≡ lines ks from to
+
+-- no start is past the last line
+within-lines : {ks : List Kernel} {states : ℕ} {starts : List ℕ} → StartsIn ks states starts → (n S : ℕ) → S + n ≡ states → getD starts S 0 ≤ length ks
+within-lines {states = states} {starts = starts} H zero S e =
+    let s : S ≡ states = omega arith in
+    omega (arith, ap (λ (k : ℕ). getD starts k 0) s, H .last-is)
+within-lines H (suc n) S e = omega (arith, H .ascend S (omega arith), within-lines H n (S + 1) (omega arith))
+
+pub state-in : {ks : List Kernel} {states : ℕ} {starts : List ℕ} → StartsIn ks states starts → (S : ℕ) → S < states
+    → StateIn ks S (getD starts S 0) (getD starts (S + 1) 0)
+state-in {states = states} H S h = record { within = within-lines H (states - (S + 1)) (S + 1) (omega arith); lines-are = H .lines-are S h }
 
 -- what line i gives
 unfoldable pub lineInto : Book → Sets → ℕ → Constraint

@@ -8,3 +8,4 @@ pub mod ClosurePasses
 pub mod KernelLines
 pub mod Closures
 pub mod Part
+pub mod KernelRules

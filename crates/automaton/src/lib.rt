@@ -2,6 +2,7 @@
 pub mod closure;
 pub mod closures;
 pub mod go_table;
+pub mod kernel_rules;
 pub mod passes;
 pub mod starts;
 pub mod words;

@@ -3,7 +3,8 @@
 use Prim.Native.Nat.{_-_}
 use native.Mathlib.Omega.{arith}
 use borrow.Author.Needs.{needs}
-use Rattle.automaton.specs.Closures.{Closed, all-long, state-in, closed-none, part-none, closed-more, closed-all}
+use Rattle.automaton.specs.KernelLines.{state-in}
+use Rattle.automaton.specs.Closures.{Closed, all-long, closed-none, part-none, closed-more, closed-all}
 use Rattle.automaton.proofs.closures.closures.Statement.{statement}
 use Rattle.automaton.proofs.closures.closures.Tie as tie
 
@@ -47,7 +48,7 @@ closure-requires : tie.Need-closure-requires Inv-loop μ-loop
 closure-requires c κs = let s = c .before .before .before .before .before .before .before .before .before .before .before in
     let g = s .pre .0 in
     let inv = c .before .before .before .before .loop .inv in (
-      (g .0, g .1, g .2 .items-in, g .2 .counted, omega (arith, c .before .word2 .ensures, state-in (g .2) (c .before .before .before .before .loop .s) (c .before .before .before .loop-test .taken) .within)),
+      (g .0, g .1, g .2 .items-in, g .2 .counted, omega (arith, c .before .word2 .ensures, state-in (g .2 .starts-in) (c .before .before .before .before .loop .s) (c .before .before .before .loop-test .taken) .within)),
       part-none inv (c .before .before .before .loop-test .taken) (g .2 .few),
     )
 
@@ -62,7 +63,7 @@ loop-again c = let s = c .before .before .before .before .before .before .before
     let g = s .pre .0 in
     let h = c .before .before .before .before .before .before .loop-test .taken in
     closed-more (c .before .before .before .before .before .before .before .loop .inv) _
-    (λ b F H. c .before .before .closure .ensures b F (c .before .before .before .before .before .before .before .loop .s) (H .items-in) (H .counted) (rw (c .before .before .before .before .before .word .ensures, c .before .before .before .before .word2 .ensures) (state-in H (c .before .before .before .before .before .before .before .loop .s) h)))
+    (λ b F H. c .before .before .closure .ensures b F (c .before .before .before .before .before .before .before .loop .s) (H .items-in) (H .counted) (rw (c .before .before .before .before .before .word .ensures, c .before .before .before .before .word2 .ensures) (state-in (H .starts-in) (c .before .before .before .before .before .before .before .loop .s) h)))
     h (g .2 .few) (search needs)
 
 same-length : tie.Need-same-length Inv-loop μ-loop

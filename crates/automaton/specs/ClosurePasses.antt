@@ -1,17 +1,17 @@
 -- The closure of a state by passes over the rules: the constraints fit, a state without lookaheads needs no pass.
 -- Assumes nothing.
-use Prim.Native.Nat.{ℕ, zero, suc, _+_, _*_, _-_, _^_, _<_, _≤_}
-use mathlib.Core.Path.{_≡_, refl, sym, ap, _∙_, subst}
-use mathlib.Core.Bool.{Bool, true, false}
+use Prim.Native.Nat.{ℕ, zero, suc, _*_, _-_, _^_, _<_}
+use mathlib.Core.Path.{_≡_, refl, ap, _∙_, subst}
+use mathlib.Core.Bool.{Bool}
 use mathlib.Core.List.{List, [], _∷_}
 use native.Mathlib.Omega.{arith}
 use lib.ListN.{length, getD, replicate}
 use Rattle.sets.specs.SetsLaws.{union-lt}
 use Rattle.grammar.specs.TestLaws.{by-test}
-use Rattle.grammar.specs.Symbol.{Symbol, terminal, nonterminal, Rule, leftOf, rightOf, after}
+use Rattle.grammar.specs.Symbol.{Symbol, terminal, nonterminal, leftOf, rightOf, after}
 use Rattle.grammar.specs.Book.{Book}
 use Rattle.grammar.specs.Small.{Low}
-use Rattle.grammar.specs.Fixpoint.{Constraint, setAt, visit, visits, least}
+use Rattle.grammar.specs.Fixpoint.{setAt, visit, visits, least}
 use Rattle.grammar.specs.LeastLaws.{Family, Fits, none-family, least-stays}
 use Rattle.grammar.specs.FirstSets.{Sets, null, first, firstWith}
 use Rattle.grammar.specs.ClosureSets.{derivesInto, closureRule}

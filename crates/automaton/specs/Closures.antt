@@ -1,27 +1,27 @@
 -- The closure of a state, from what its kernel lines give on; and the closures of all states in one array.
 -- Assumes nothing.
-use Prim.Native.Nat.{ℕ, zero, suc, _+_, _*_, _-_, _<_, _≤_}
-use mathlib.Core.Path.{_≡_, refl, sym, ap, _∙_}
-use mathlib.Core.Bool.{Bool, true, false}
-use mathlib.Core.List.{List, [], _∷_}
+use Prim.Native.Nat.{ℕ, _+_, _*_, _-_, _<_, _≤_}
+use mathlib.Core.Path.{_≡_, sym, ap, _∙_}
+use mathlib.Core.Bool.{Bool, false}
+use mathlib.Core.List.{List}
 use native.Mathlib.Omega.{arith}
 use lib.ListN.{length, getD, take, drop, replicate, length-replicate, length-drop}
 use lib.Seq.{length-take-le, getD-take, getD-drop, ext-getD}
 use Rattle.grammar.specs.Limits.{MAX-STATES}
-use Rattle.grammar.specs.Book.{Book, Kernel}
+use Rattle.grammar.specs.Book.{Book}
 use Rattle.grammar.specs.Fixpoint.{setAt, least}
 use Rattle.grammar.specs.FirstSets.{Sets}
-use Rattle.grammar.specs.ClosureSets.{kernelsIn, fromKernels, closureRule, closureSets}
+use Rattle.grammar.specs.ClosureSets.{fromKernels, closureRule, closureSets}
 use Rattle.automaton.specs.Arrays.{StartsIn, ClosuresIn}
 use Rattle.automaton.specs.Part.{putBack, back-long, back-before, back-within, back-behind}
 use Rattle.automaton.specs.Starts.{by-order}
 use Rattle.automaton.specs.ClosurePasses.{none-at, none-least}
-use Rattle.automaton.specs.KernelLines.{lines, ItemsIn, StateIn, Begun}
+use Rattle.automaton.specs.KernelLines.{lines, KernelItemsIn, StateIn, Begun}
 
 pub none-long : {sets : List ℕ} → sets ≡ replicate 32 0 → length sets ≡ 32
 none-long e = ap length e ∙ length-replicate {A = ℕ} 32 0
 
-module _ {b : Book} {F : Sets} {rules kernels nulls firsts : List ℕ} (H : ItemsIn b F rules kernels nulls firsts)
+module _ {b : Book} {F : Sets} {rules kernels nulls firsts : List ℕ} (H : KernelItemsIn b F rules kernels nulls firsts)
     {count S from to : ℕ} (e : length (b .rules) ≡ count) (L : StateIn (b .kernels) S from to)
     {first mid : List ℕ} {changed : Bool} (z : first ≡ replicate 32 0) (B : Begun (fromKernels b F (lines (b .kernels) from to) first) first mid changed) where
   -- the closure from the sets that the lines give
@@ -40,8 +40,8 @@ module _ {b : Book} {F : Sets} {rules kernels nulls firsts : List ℕ} (H : Item
       none ∙ sym (none-least (H .grammar-in) e) ∙ ap (least (closureRule b F) count) (sym none) ∙ after-lines
 
 -- a book's items in arrays, and where the kernel lines of each state begin
-pub record StatesIn (b : Book) (F : Sets) (rules : List ℕ) (count : ℕ) (kernels starts : List ℕ) (states : ℕ) (nulls firsts : List ℕ) : Type 0 where
-  pub items-in : ItemsIn b F rules kernels nulls firsts
+pub record StateItemsIn (b : Book) (F : Sets) (rules : List ℕ) (count : ℕ) (kernels starts : List ℕ) (states : ℕ) (nulls firsts : List ℕ) : Type 0 where
+  pub items-in : KernelItemsIn b F rules kernels nulls firsts
   pub starts-in : StartsIn (b .kernels) states starts
   pub counted : length (b .rules) ≡ count
   pub states-are : b .states ≡ states
@@ -52,7 +52,7 @@ pub record Closed (rules : List ℕ) (count : ℕ) (kernels starts : List ℕ) (
   pub within : s ≤ states
   pub long : length closures ≡ 32 * MAX-STATES
   pub rest : (i : ℕ) → 32 * s ≤ i → getD closures i 0 ≡ 0
-  pub done : (b : Book) (F : Sets) → StatesIn b F rules count kernels starts states nulls firsts
+  pub done : (b : Book) (F : Sets) → StateItemsIn b F rules count kernels starts states nulls firsts
       → (S B : ℕ) → S < s → B < 32 → getD closures (32 * S + B) 0 ≡ setAt (closureSets b F S) B
 
 -- ---- the array of all closures, state by state
@@ -86,7 +86,7 @@ module _ {rules : List ℕ} {count : ℕ} {kernels starts : List ℕ} {states : 
 
     -- and then they are its closure
     pub closed-more : (looks : List ℕ)
-        → ((b : Book) (F : Sets) → StatesIn b F rules count kernels starts states nulls firsts → looks ≡ closureSets b F s)
+        → ((b : Book) (F : Sets) → StateItemsIn b F rules count kernels starts states nulls firsts → looks ≡ closureSets b F s)
         → s < states → states ≤ MAX-STATES → length looks ≡ 32
         → Closed rules count kernels starts states nulls firsts (putBack (32 * s) (32 * s + 32 - 32 * s) closures looks) (s + 1)
     closed-more looks is h few long = record {
@@ -108,5 +108,5 @@ module _ {rules : List ℕ} {count : ℕ} {kernels starts : List ℕ} {states : 
         exact : length looks ≡ size
         exact = omega arith
 
-    pub closed-all : states ≤ s → (b : Book) (F : Sets) → StatesIn b F rules count kernels starts states nulls firsts → ClosuresIn b F closures
+    pub closed-all : states ≤ s → (b : Book) (F : Sets) → StateItemsIn b F rules count kernels starts states nulls firsts → ClosuresIn b F closures
     closed-all h b F H = record { long = C .long; set-is = λ S B m n. C .done b F H S B (omega (arith, H .states-are)) n }

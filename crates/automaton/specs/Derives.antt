@@ -1,27 +1,25 @@
 -- What an item gives the nonterminal behind its dot, from the words of its rule and the sets of every rest of a rule.
 -- Assumes nothing.
 use Prim.Native.Nat.{ℕ, zero, suc, _+_, _*_, _-_, _^_, _<_, _≤_}
-use mathlib.Core.Path.{_≡_, refl, sym, ap, _∙_}
+use mathlib.Core.Path.{_≡_, refl, ap, _∙_}
 use mathlib.Core.Bool.{Bool, true, false}
 use mathlib.Core.List.{List, [], _∷_}
 use native.Mathlib.Omega.{arith}
 use native.Mathlib.Numerals.{add-one}
-use lib.Dec.{ltb}
-use lib.ListN.{length, getD, drop, drop-of-length-le}
+use lib.ListN.{length, getD, drop-of-length-le}
 use lib.Seq.{drop-cons, set-getD}
-use borrow.Author.Tests.{lt-ltb, le-ltb, ltb-true, ltb-false}
-use Rattle.sets.specs.Sets.{bit, union}
+use Rattle.sets.specs.Sets.{union}
 use Rattle.sets.specs.SetsLaws.{subset-union, subset-true}
 use Rattle.grammar.specs.Limits.{MAX-RULES, MAX-RIGHT}
 use Rattle.grammar.specs.Members.{none-in}
 use Rattle.grammar.specs.Symbol.{Symbol, terminal, nonterminal, Rule, rightOf, after}
 use Rattle.grammar.specs.Book.{Book}
-use Rattle.grammar.specs.Small.{numberOf, Low, Small, low-after}
-use Rattle.grammar.specs.Fixpoint.{Constraint, setAt, visit}
+use Rattle.grammar.specs.Small.{numberOf, Low, Small}
+use Rattle.grammar.specs.Fixpoint.{setAt, visit}
 use Rattle.grammar.specs.LeastLaws.{Family}
 use Rattle.grammar.specs.FirstSets.{Sets, null, first, firstWith}
 use Rattle.grammar.specs.ClosureSets.{derivesInto}
-use Rattle.book.specs.Layout.{codeOf, symbolCode}
+use Rattle.book.specs.Layout.{symbolCode}
 use Rattle.book.specs.Held.{RulesIn}
 use Rattle.automaton.specs.Arrays.{flag, SuffixesIn}
 use Rattle.automaton.specs.Passes.{Told, told-same, given, visit-given}

@@ -33,7 +33,7 @@ lines-more ks i e h l =
     rw (add-one i, n, drop-cons ks i (record { state = 0; rule = 0; dot = 0; lookaheads = [] }))
 
 -- a book's rules and kernel lines in arrays, with the sets of every rest of a rule; each line names a rule
-pub record ItemsIn (b : Book) (F : Sets) (rules kernels nulls firsts : List ℕ) : Type 0 where
+pub record KernelItemsIn (b : Book) (F : Sets) (rules kernels nulls firsts : List ℕ) : Type 0 where
   pub grammar-in : GrammarIn b F rules nulls firsts
   pub kernels-in : KernelsIn (b .kernels) kernels
   pub rule-there : (i : ℕ) → i < length (b .kernels) → kernelAt (b .kernels) i .rule < length (b .rules)
@@ -59,7 +59,7 @@ unfoldable pub lineInto : Book → Sets → ℕ → Constraint
 lineInto b F i = let k : Kernel = kernelAt (b .kernels) i in derivesInto F (after (b .rules) (k .rule) (k .dot)) (λ _. setOf (k .lookaheads))
 
 -- by the words of the line
-module _ {b : Book} {F : Sets} {rules kernels nulls firsts : List ℕ} (H : ItemsIn b F rules kernels nulls firsts) (i : ℕ) (h : i < length (b .kernels)) where
+module _ {b : Book} {F : Sets} {rules kernels nulls firsts : List ℕ} (H : KernelItemsIn b F rules kernels nulls firsts) (i : ℕ) (h : i < length (b .kernels)) where
   pub line-rule : getD kernels (5 * i + 1) 0 < length (b .rules)
   line-rule = rw (H .kernels-in .rule-is i h) (H .rule-there i h)
 
@@ -83,7 +83,7 @@ pub record Begun (new old now : List ℕ) (changed : Bool) : Type 0 where
 pub record Beginning (rules kernels nulls firsts : List ℕ) (from to : ℕ) (first now : List ℕ) (changed : Bool) (i : ℕ) : Type 0 where
   pub long : length now ≡ length first
   pub same : changed ≡ false → now ≡ first
-  pub goes : (b : Book) (F : Sets) → ItemsIn b F rules kernels nulls firsts → to ≤ length (b .kernels)
+  pub goes : (b : Book) (F : Sets) → KernelItemsIn b F rules kernels nulls firsts → to ≤ length (b .kernels)
       → fromKernels b F (lines (b .kernels) i to) now ≡ fromKernels b F (lines (b .kernels) from to) first
 
 -- one line more
@@ -97,16 +97,16 @@ module _ {rules kernels nulls firsts : List ℕ} {from to : ℕ} {first : List �
   begin-first = record { long = refl; same = λ _. refl; goes = λ b F H l. refl }
 
   pub begin-ends : {now : List ℕ} {changed : Bool} {i : ℕ} → Beginning rules kernels nulls firsts from to first now changed i → to ≤ i
-      → (b : Book) (F : Sets) → ItemsIn b F rules kernels nulls firsts → to ≤ length (b .kernels)
+      → (b : Book) (F : Sets) → KernelItemsIn b F rules kernels nulls firsts → to ≤ length (b .kernels)
       → Begun (fromKernels b F (lines (b .kernels) from to) first) first now changed
   unfolding fromKernels
   begin-ends {i = i} B h b F H l =
       record { now-is = rw (lines-none (b .kernels) i to h) at (B .goes b F H l); same-is = B .same }
 
   module _ {now next : List ℕ} {changed r : Bool} {i : ℕ} (B : Beginning rules kernels nulls firsts from to first now changed i) (h : i < to)
-      (T : (b : Book) (F : Sets) → ItemsIn b F rules kernels nulls firsts → i < length (b .kernels) → Told (visit (lineInto b F i) now) now next r)
+      (T : (b : Book) (F : Sets) → KernelItemsIn b F rules kernels nulls firsts → i < length (b .kernels) → Told (visit (lineInto b F i) now) now next r)
       (l : length next ≡ length now) where
-    next-goes : (b : Book) (F : Sets) → ItemsIn b F rules kernels nulls firsts → to ≤ length (b .kernels)
+    next-goes : (b : Book) (F : Sets) → KernelItemsIn b F rules kernels nulls firsts → to ≤ length (b .kernels)
         → fromKernels b F (lines (b .kernels) (i + 1) to) next ≡ fromKernels b F (lines (b .kernels) from to) first
     next-goes b F H m =
         ap (fromKernels b F (lines (b .kernels) (i + 1) to)) (T b F H (omega arith) .now-is) ∙ sym (lines-visit b F i to now h m) ∙ B .goes b F H m

@@ -1,4 +1,4 @@
--- The kernel rules (7) by the words of the kernel lines.
+-- The kernel rules (7): state 0, the other states, rule 0's lines, each as a loop over kernel lines tests it.
 -- Assumes nothing.
 use Prim.Native.Nat.{ℕ, zero, suc, _+_, _*_, _-_, _<_, _≤_}
 use mathlib.Core.Path.{_≡_, refl, sym, ap, _∙_}
@@ -6,69 +6,31 @@ use mathlib.Core.Bool.{Bool, true, false, _&&_}
 use mathlib.Core.List.{List, [], _∷_}
 use native.Mathlib.Omega.{arith}
 use lib.Dec.{eqb, leb}
-use lib.ListN.{length, getD, take, drop}
+use lib.ListN.{length, getD}
 use lib.Seq.{take-length}
-use borrow.Author.Tests.{eq-eqb, ne-eqb, le-leb, lt-leb, eqb-true, eqb-false}
-use Rattle.grammar.specs.Limits.{MAX-RIGHT, MAX-STATES}
-use Rattle.grammar.specs.Symbol.{Symbol, terminal, Rule, rightOf, symbolAt}
+use borrow.Author.Tests.{eq-eqb, ne-eqb}
+use Rattle.grammar.specs.Limits.{MAX-STATES}
+use Rattle.grammar.specs.Symbol.{Symbol, Rule, symbolAt}
 use Rattle.grammar.specs.Book.{Book, Kernel}
-use Rattle.grammar.specs.Ordered.{before-less, Ascends, ascends-∷, lookaheadKey, Lookaheads}
-use Rattle.grammar.specs.Small.{numberOf, Low, Small}
+use Rattle.grammar.specs.Small.{numberOf}
 use Rattle.grammar.specs.States.{sameSymbol}
 use Rattle.grammar.specs.ClosureSets.{kernelsIn}
 use Rattle.grammar.specs.StatesCheck.{endAlone, startState, oneSymbol, otherState, otherStates, startLookaheads, kernelRules}
-use Rattle.book.specs.Layout.{symbolCode, lastOf}
-use Rattle.book.specs.Held.{RulesIn, KernelsIn, kernelAt}
+use Rattle.book.specs.Layout.{symbolCode}
+use Rattle.book.specs.Held.{kernelAt}
 use Rattle.automaton.specs.Arrays.{StartsIn}
 use Rattle.automaton.specs.Starts.{by-order}
-use Rattle.automaton.specs.SymbolCodes.{code-low, code-test}
-use Rattle.automaton.specs.Derives.{low-at}
+use Rattle.automaton.specs.SymbolCodes.{code-low}
 use Rattle.automaton.specs.KernelLines.{lines, lines-none, lines-more}
+use Rattle.automaton.specs.KernelWords.{SpelledIn, NamedIn, startOrOther, hasBefore, wordBefore, before-low, behind-front, has-before}
 
--- kernel lines in an array, each with "one or more lookaheads, strictly ascending"
-pub record SpelledIn (ks : List Kernel) (kernels : List ℕ) : Type 0 where
-  pub kernels-in : KernelsIn ks kernels
-  pub lookaheads : (i : ℕ) → i < length ks → Lookaheads (kernelAt ks i)
-
--- a book's rules and kernel lines in arrays; each line names a rule and has its dot within
-pub record NamedIn (b : Book) (rules kernels : List ℕ) : Type 0 where
-  pub spelled-in : SpelledIn (b .kernels) kernels
-  pub rules-in : RulesIn (b .rules) rules
-  pub small : Small (b .rules)
-  pub short : (P : ℕ) → P < length (b .rules) → length (rightOf (b .rules) P) ≤ MAX-RIGHT
-  pub rule-there : (i : ℕ) → i < length (b .kernels) → kernelAt (b .kernels) i .rule < length (b .rules)
-  pub dot-there : (i : ℕ) → i < length (b .kernels) → kernelAt (b .kernels) i .dot ≤ length (rightOf (b .rules) (kernelAt (b .kernels) i .rule))
-
--- and where the lines of each state begin
+-- a book's rules and kernel lines in arrays, and where the lines of each state begin
 pub record RuledIn (b : Book) (rules kernels starts : List ℕ) (states : ℕ) : Type 0 where
   pub named-in : NamedIn b rules kernels
   pub starts-in : StartsIn (b .kernels) states starts
   pub states-are : b .states ≡ states
   pub some : 1 ≤ states
   pub few : states ≤ MAX-STATES
-
--- ---- t0 alone
-
-last-above : (a c : ℕ) (rest : List ℕ) → Ascends lookaheadKey (a ∷ []) (c ∷ rest) → a < lastOf (c ∷ rest)
-unfolding lookaheadKey lastOf
-last-above a c [] (ascends-∷ (before-less h) r) = h
-last-above a c (d ∷ rest) (ascends-∷ (before-less h) r) = omega (arith, last-above c d rest r)
-
--- ascending lookaheads are t0 alone if the last is t0
-end-last : (k : Kernel) → Lookaheads k → endAlone (k .lookaheads) ≡ eqb (lastOf (k .lookaheads)) 0
-end-last k L = go (k .lookaheads) (L .some) (L .ascend)
-  where
-    go : (l : List ℕ) → 0 < length l → Ascends lookaheadKey [] l → endAlone l ≡ eqb (lastOf l) 0
-    go [] h a = absurd (omega arith)
-    go (t ∷ []) h a = unfold endAlone lastOf in refl
-    go (t ∷ c ∷ rest) h (ascends-∷ b r) = unfold endAlone lastOf lookaheadKey in sym (ne-eqb (lastOf (c ∷ rest)) 0 (λ e. omega (arith, last-above t c rest r)))
-
-module _ {ks : List Kernel} {kernels : List ℕ} (H : SpelledIn ks kernels) (i : ℕ) (h : i < length ks) where
-  pub line-long : 5 * i + 4 < length kernels
-  line-long = omega (arith, H .kernels-in .long, H .kernels-in .fits)
-
-  pub end-word : endAlone (kernelAt ks i .lookaheads) ≡ eqb (getD kernels (5 * i + 3) 0) 0
-  end-word = end-last (kernelAt ks i) (H .lookaheads i h) ∙ rw (H .kernels-in .last-is i h)
 
 -- ---- state 0: one line, of rule 0 with the dot in front, t0 alone
 
@@ -136,23 +98,12 @@ behind false e = refl
 
 -- ---- one symbol before every dot
 
--- the dot is not in front, and the symbol before it is X
-unfoldable pub hasBefore : List Rule → Symbol → Kernel → Bool
-hasBefore G X k = leb 1 (k .dot) && sameSymbol (symbolAt G (k .rule) (k .dot)) X
-
 pub one-symbol : (G : List Rule) (X : Symbol) (ks : List Kernel) → oneSymbol G X ks ≡ allLines (hasBefore G X) ks
 unfolding oneSymbol allLines hasBefore
 one-symbol G X [] = refl
 one-symbol G X (k ∷ ks) = behind (leb 1 (k .dot) && sameSymbol (symbolAt G (k .rule) (k .dot)) X) (one-symbol G X ks)
 
--- the word of the symbol before the dot; 64, which no symbol has, where the dot is in front
-unfoldable pub wordBefore : List Rule → Kernel → ℕ
-wordBefore G k = elim (k .dot) [ zero ↦ 64 | suc D ↦ symbolCode (symbolAt G (k .rule) (suc D)) ]
-
 -- ---- rule 0's lookaheads
-
-unfoldable pub startOrOther : Kernel → Bool
-startOrOther k = elim (k .rule) [ zero ↦ endAlone (k .lookaheads) | suc P ↦ true ]
 
 pub start-lookaheads : (ks : List Kernel) → startLookaheads ks ≡ allLines startOrOther ks
 unfolding startLookaheads allLines startOrOther
@@ -165,84 +116,6 @@ start-lookaheads (k ∷ ks) = go (k .rule) (start-lookaheads ks)
         (elim (elim P as (λ _. Bool) [ zero ↦ endAlone (k .lookaheads) | suc Q ↦ true ]) [ true ↦ allLines startOrOther ks | false ↦ false ])
     go zero e = behind (endAlone (k .lookaheads)) e
     go (suc Q) e = e
-
--- a line by its words
-module _ {ks : List Kernel} {kernels : List ℕ} (H : SpelledIn ks kernels) (i : ℕ) (h : i < length ks) where
-  pub line-other : (getD kernels (5 * i + 1) 0 ≡ 0 → ⊥) → true ≡ startOrOther (kernelAt ks i)
-  unfolding startOrOther
-  line-other n = go (kernelAt ks i .rule) refl
-    where
-      go : (P : ℕ) → kernelAt ks i .rule ≡ P → true ≡ startOrOther (kernelAt ks i)
-      go zero e = absurd (n (H .kernels-in .rule-is i h ∙ e))
-      go (suc P) e = rw (e, startOrOther)
-
-  pub line-start : getD kernels (5 * i + 1) 0 ≡ 0 → endAlone (kernelAt ks i .lookaheads) ≡ startOrOther (kernelAt ks i)
-  unfolding startOrOther
-  line-start z = let e : kernelAt ks i .rule ≡ 0 = sym (H .kernels-in .rule-is i h) ∙ z in rw (e, startOrOther)
-
--- ---- the symbol before a line's dot, by words
-
-module _ {b : Book} {rules kernels : List ℕ} (H : NamedIn b rules kernels) (i : ℕ) (h : i < length (b .kernels)) where
-  abbrev line : Kernel
-  line = kernelAt (b .kernels) i
-
-  -- the symbol before its dot
-  abbrev pub before : Symbol
-  before = symbolAt (b .rules) (line .rule) (line .dot)
-
-  pub before-low : numberOf before < 32
-  unfolding symbolAt
-  before-low = low-at (rightOf (b .rules) (line .rule)) (line .dot - 1) (H .small .right-low (line .rule) (H .rule-there i h))
-
-  -- where the dot is in front
-  pub word-front : {D : ℕ} → D ≡ getD kernels (5 * i + 2) 0 → D ≡ 0 → 64 ≡ wordBefore (b .rules) line
-  unfolding wordBefore
-  word-front d z = let e : line .dot ≡ 0 = sym (H .spelled-in .kernels-in .dot-is i h) ∙ sym d ∙ z in rw (e, wordBefore)
-
-  -- and where it is not
-  behind-front : (line .dot ≡ 0 → ⊥) → symbolCode before ≡ wordBefore (b .rules) line
-  unfolding wordBefore
-  behind-front n = go (line .dot) refl
-    where
-      go : (D : ℕ) → line .dot ≡ D → symbolCode before ≡ wordBefore (b .rules) line
-      go zero e = absurd (n e)
-      go (suc D) e = rw (e, wordBefore)
-
-  module _ (P D : ℕ) (p : P ≡ getD kernels (5 * i + 1) 0) (d : D ≡ getD kernels (5 * i + 2) 0) (n : D ≡ 0 → ⊥) where
-    rule-is : P ≡ line .rule
-    rule-is = p ∙ H .spelled-in .kernels-in .rule-is i h
-
-    dot-is : D ≡ line .dot
-    dot-is = d ∙ H .spelled-in .kernels-in .dot-is i h
-
-    position : D - 1 < length (rightOf (b .rules) (line .rule))
-    position = omega (arith, H .dot-there i h, dot-is)
-
-    few : D ≤ MAX-RIGHT
-    few = omega (arith, H .dot-there i h, dot-is, H .short (line .rule) (H .rule-there i h))
-
-    pub before-place : 10 * P + 1 + D < length rules
-    before-place = omega (arith, few, rule-is, H .rule-there i h, H .rules-in .long, H .rules-in .fits)
-
-    pub word-before : getD rules (10 * P + 1 + D) 0 ≡ wordBefore (b .rules) line
-    unfolding symbolAt
-    word-before =
-        let at : 10 * P + 1 + D ≡ 10 * line .rule + 2 + (D - 1) = omega (arith, rule-is) in
-        ap (λ (k : ℕ). getD rules k 0) at
-        ∙ H .rules-in .symbol-is (line .rule) (D - 1) (H .rule-there i h) position (omega (arith, few))
-        ∙ ap (λ (k : ℕ). symbolCode (getD (rightOf (b .rules) (line .rule)) (k - 1) (terminal 0))) dot-is
-        ∙ behind-front (λ z. n (dot-is ∙ z))
-
-  -- the test of a line is the test of its word
-  pub has-before : (X : Symbol) → numberOf X < 32 → hasBefore (b .rules) X line ≡ eqb (wordBefore (b .rules) line) (symbolCode X)
-  unfolding hasBefore wordBefore
-  has-before X l = go (line .dot) refl
-    where
-      go : (D : ℕ) → line .dot ≡ D → hasBefore (b .rules) X line ≡ eqb (wordBefore (b .rules) line) (symbolCode X)
-      go zero e = rw (e, hasBefore, wordBefore) (sym (ne-eqb 64 (symbolCode X) (λ q. omega (arith, code-low X l))))
-      go (suc D) e =
-          ap (λ (t : Bool). t && sameSymbol before X) (le-leb 1 (line .dot) (omega arith)) ∙ code-test before X before-low l
-          ∙ ap (λ (w : ℕ). eqb w (symbolCode X)) (behind-front (λ z. omega arith))
 
 -- ---- the two loops over lines: those that are left answer for all
 
@@ -364,3 +237,8 @@ module _ {b : Book} {rules kernels starts : List ℕ} {states : ℕ} (H : RuledI
     pub rules-all : true ≡ otherStates b (b .states - 1) → startLookaheads (b .kernels) ≡ kernelRules b
     unfolding kernelRules
     rules-all e = sym (rw (zero-lines, ← s, ← e))
+
+-- opens every definition of this module
+unfoldable pub opens : Unit {0}
+unfolding allLines
+opens = tt

@@ -8,4 +8,5 @@ pub mod ClosurePasses
 pub mod KernelLines
 pub mod Closures
 pub mod Part
+pub mod KernelWords
 pub mod KernelRules

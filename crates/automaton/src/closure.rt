@@ -12,7 +12,7 @@ ghost use Rattle.grammar.specs.ClosureSets.{derivesInto, fromKernels, closureRu
 ghost use Rattle.automaton.specs.Arrays.{SuffixesIn};
 ghost use Rattle.automaton.specs.Passes.{Told};
 ghost use Rattle.automaton.specs.Derives.{GrammarIn};
-ghost use Rattle.automaton.specs.KernelLines.{lines, ItemsIn, StateIn, lineInto, Begun};
+ghost use Rattle.automaton.specs.KernelLines.{lines, KernelItemsIn, StateIn, lineInto, Begun};
 use super::passes::give;
 use super::words::word;
 
@@ -131,10 +131,10 @@ fn line(
     i: usize,
     looks: &mut [u32],
 ) -> bool
-    requires { ⌜ ((b : Book) × (F : Sets) × ItemsIn b F (now rules) (now kernels) (now «suffix_nulls») (now «suffix_firsts») × (i < length (b .kernels)))
+    requires { ⌜ ((b : Book) × (F : Sets) × KernelItemsIn b F (now rules) (now kernels) (now «suffix_nulls») (now «suffix_firsts») × (i < length (b .kernels)))
         × (length (now looks) ≡ 32) ⌝ }
     ensures { λ r. ⌜ ((b : Book) (F : Sets)
-        → ItemsIn b F (now (rules .entry)) (now (kernels .entry)) (now («suffix_nulls» .entry)) (now («suffix_firsts» .entry)) → i < length (b .kernels)
+        → KernelItemsIn b F (now (rules .entry)) (now (kernels .entry)) (now («suffix_nulls» .entry)) (now («suffix_firsts» .entry)) → i < length (b .kernels)
         → Told (visit (lineInto b F i) (now (looks .entry))) (now (looks .entry)) (now (looks .exit)) r) ⌝ }
 {
     let rule = word(kernels, 5 * i + 1);
@@ -153,10 +153,10 @@ fn begin(
     suffix_firsts: &[u32],
     looks: &mut [u32],
 ) -> bool
-    requires { ⌜ ((b : Book) × (F : Sets) × ItemsIn b F (now rules) (now kernels) (now «suffix_nulls») (now «suffix_firsts») × (to ≤ length (b .kernels)))
+    requires { ⌜ ((b : Book) × (F : Sets) × KernelItemsIn b F (now rules) (now kernels) (now «suffix_nulls») (now «suffix_firsts») × (to ≤ length (b .kernels)))
         × (length (now looks) ≡ 32) ⌝ }
     ensures { λ r. ⌜ ((b : Book) (F : Sets)
-        → ItemsIn b F (now (rules .entry)) (now (kernels .entry)) (now («suffix_nulls» .entry)) (now («suffix_firsts» .entry)) → to ≤ length (b .kernels)
+        → KernelItemsIn b F (now (rules .entry)) (now (kernels .entry)) (now («suffix_nulls» .entry)) (now («suffix_firsts» .entry)) → to ≤ length (b .kernels)
         → Begun (fromKernels b F (lines (b .kernels) from to) (now (looks .entry))) (now (looks .entry)) (now (looks .exit)) r) ⌝ }
 {
     let mut changed = false;
@@ -181,10 +181,10 @@ pub fn closure(
     suffix_firsts: &[u32],
     looks: &mut [u32],
 )
-    requires { ⌜ ((b : Book) × (F : Sets) × ItemsIn b F (now rules) (now kernels) (now «suffix_nulls») (now «suffix_firsts») × (length (b .rules) ≡ count)
+    requires { ⌜ ((b : Book) × (F : Sets) × KernelItemsIn b F (now rules) (now kernels) (now «suffix_nulls») (now «suffix_firsts») × (length (b .rules) ≡ count)
         × (to ≤ length (b .kernels))) × (now looks ≡ replicate 32 0) ⌝ }
     ensures { λ _. ⌜ ((b : Book) (F : Sets) (S : ℕ)
-        → ItemsIn b F (now (rules .entry)) (now (kernels .entry)) (now («suffix_nulls» .entry)) (now («suffix_firsts» .entry)) → length (b .rules) ≡ count
+        → KernelItemsIn b F (now (rules .entry)) (now (kernels .entry)) (now («suffix_nulls» .entry)) (now («suffix_firsts» .entry)) → length (b .rules) ≡ count
         → StateIn (b .kernels) S from to → now (looks .exit) ≡ closureSets b F S) ⌝ }
 {
     if begin(rules, kernels, from, to, suffix_nulls, suffix_firsts, looks) {

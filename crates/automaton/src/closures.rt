@@ -1,12 +1,11 @@
 // The closures of all states, 32 words each.
 ghost use mathlib.Core.Path.{_≡_};
-ghost use mathlib.Core.List.{List};
-ghost use Prim.Native.Nat.{ℕ, _≤_, _<_};
-ghost use lib.ListN.{length, replicate};
+ghost use Prim.Native.Nat.{_<_};
+ghost use lib.ListN.{replicate};
 ghost use Rattle.grammar.specs.Book.{Book};
 ghost use Rattle.grammar.specs.FirstSets.{Sets};
 ghost use Rattle.automaton.specs.Arrays.{ClosuresIn};
-ghost use Rattle.automaton.specs.Closures.{StatesIn};
+ghost use Rattle.automaton.specs.Closures.{StateItemsIn};
 use super::closure::closure;
 use super::words::word;
 
@@ -21,10 +20,10 @@ pub fn closures(
     closures: &mut [u32],
 )
     requires { ⌜ ((b : Book) × (F : Sets)
-        × StatesIn b F (now rules) count (now kernels) (now starts) states (now «suffix_nulls») (now «suffix_firsts»))
+        × StateItemsIn b F (now rules) count (now kernels) (now starts) states (now «suffix_nulls») (now «suffix_firsts»))
         × (now closures ≡ replicate 4096 0) ⌝ }
     ensures { λ _. ⌜ ((b : Book) (F : Sets)
-        → StatesIn b F (now (rules .entry)) count (now (kernels .entry)) (now (starts .entry)) states (now («suffix_nulls» .entry)) (now («suffix_firsts» .entry))
+        → StateItemsIn b F (now (rules .entry)) count (now (kernels .entry)) (now (starts .entry)) states (now («suffix_nulls» .entry)) (now («suffix_firsts» .entry))
         → ClosuresIn b F (now (closures .exit))) ⌝ }
 {
     let mut s = 0;

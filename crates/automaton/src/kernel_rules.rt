@@ -11,7 +11,8 @@ ghost use Rattle.grammar.specs.StatesCheck.{endAlone, startState, oneSymbol, ot
 ghost use Rattle.book.specs.Layout.{symbolCode};
 ghost use Rattle.book.specs.Held.{kernelAt};
 ghost use Rattle.automaton.specs.KernelLines.{lines};
-ghost use Rattle.automaton.specs.KernelRules.{SpelledIn, NamedIn, RuledIn, wordBefore, startOrOther};
+ghost use Rattle.automaton.specs.KernelWords.{SpelledIn, NamedIn, wordBefore, startOrOther};
+ghost use Rattle.automaton.specs.KernelRules.{RuledIn};
 use super::words::word;
 
 // Whether kernel line i has t0 alone. Lookaheads ascend, so the largest tells.

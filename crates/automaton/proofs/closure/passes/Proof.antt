@@ -4,7 +4,6 @@ use native.Mathlib.Omega.{arith}
 use Rattle.grammar.specs.LeastLaws.{Family}
 use Rattle.automaton.specs.Passes.{left, closing-begins, closing-turn, closing-ends, closing-less}
 use Rattle.automaton.specs.ClosurePasses.{Settling, closure-fits}
-use borrow.Author.Needs.{needs}
 use Rattle.automaton.proofs.closure.passes.Statement.{statement}
 use Rattle.automaton.proofs.closure.passes.Tie as tie
 

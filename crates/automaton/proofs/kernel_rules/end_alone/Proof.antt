@@ -1,7 +1,7 @@
 -- `automaton::kernel_rules::end_alone` meets its contract: ascending lookaheads are t0 alone if the largest is t0.
 -- Assumes nothing.
 use mathlib.Core.Path.{sym}
-use Rattle.automaton.specs.KernelRules.{end-word}
+use Rattle.automaton.specs.KernelWords.{end-word}
 use borrow.Author.Needs.{needs}
 use Rattle.automaton.proofs.kernel_rules.end_alone.Statement.{statement}
 use Rattle.automaton.proofs.kernel_rules.end_alone.Tie as tie

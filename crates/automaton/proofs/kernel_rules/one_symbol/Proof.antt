@@ -5,7 +5,8 @@ use mathlib.Core.Path.{refl, sym, _∙_}
 use native.Mathlib.Omega.{arith}
 use borrow.Author.Tests.{eq-eqb, ne-eqb}
 use Rattle.automaton.specs.KernelLines.{lines}
-use Rattle.automaton.specs.KernelRules.{hasBefore, one-symbol, has-before, all-none, all-more, all-fails, OneSymbol}
+use Rattle.automaton.specs.KernelWords.{hasBefore, has-before}
+use Rattle.automaton.specs.KernelRules.{one-symbol, all-none, all-more, all-fails, OneSymbol}
 use borrow.Author.Needs.{needs}
 use Rattle.automaton.proofs.kernel_rules.one_symbol.Statement.{statement}
 use Rattle.automaton.proofs.kernel_rules.one_symbol.Tie as tie

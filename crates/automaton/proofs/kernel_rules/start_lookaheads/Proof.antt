@@ -4,7 +4,8 @@ use Prim.Native.Nat.{_-_}
 use mathlib.Core.Path.{refl, sym, _∙_}
 use native.Mathlib.Omega.{arith}
 use borrow.Author.Tests.{not-true, not-false}
-use Rattle.automaton.specs.KernelRules.{startOrOther, start-all, all-none, all-more, all-fails, StartLines}
+use Rattle.automaton.specs.KernelWords.{startOrOther}
+use Rattle.automaton.specs.KernelRules.{start-all, all-none, all-more, all-fails, StartLines}
 use borrow.Author.Needs.{needs}
 use Rattle.automaton.proofs.kernel_rules.start_lookaheads.Statement.{statement}
 use Rattle.automaton.proofs.kernel_rules.start_lookaheads.Tie as tie

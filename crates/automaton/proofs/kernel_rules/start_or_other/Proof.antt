@@ -1,7 +1,7 @@
 -- `automaton::kernel_rules::start_or_other` meets its contract: a line of rule 0 is asked for t0 alone.
 -- Assumes nothing.
 use mathlib.Core.Path.{_∙_}
-use Rattle.automaton.specs.KernelRules.{line-other, line-start}
+use Rattle.automaton.specs.KernelWords.{line-other, line-start}
 use borrow.Author.Needs.{needs}
 use Rattle.automaton.proofs.kernel_rules.start_or_other.Statement.{statement}
 use Rattle.automaton.proofs.kernel_rules.start_or_other.Tie as tie

@@ -3,7 +3,7 @@
 use Prim.Native.Nat.{_+_, _*_, _<_}
 use native.Mathlib.Omega.{arith}
 use lib.ListN.{length}
-use Rattle.automaton.specs.KernelRules.{word-front, word-before, before-place}
+use Rattle.automaton.specs.KernelWords.{word-front, word-before, before-place}
 use borrow.Author.Needs.{needs}
 use Rattle.automaton.proofs.kernel_rules.symbol_before.Statement.{statement}
 use Rattle.automaton.proofs.kernel_rules.symbol_before.Tie as tie

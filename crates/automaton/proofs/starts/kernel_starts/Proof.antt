@@ -1,7 +1,6 @@
 -- `automaton::starts::kernel_starts` meets its contract: the starts of the states up to s cut the lines by their states.
 -- Assumes nothing.
 use Prim.Native.Nat.{_-_}
-use native.Mathlib.Omega.{arith}
 use borrow.Author.Needs.{needs}
 use Rattle.automaton.specs.Starts.{Starting, room, starting-at, sorted, starting-none, starting-more, starting-done}
 use Rattle.automaton.proofs.starts.kernel_starts.Statement.{statement}

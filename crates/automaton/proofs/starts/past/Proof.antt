@@ -1,9 +1,8 @@
 -- `automaton::starts::past` meets its contract: up to the line looked at, all lines are of the state.
 -- Assumes nothing.
 use Prim.Native.Nat.{_-_}
-use native.Mathlib.Omega.{arith}
 use borrow.Author.Needs.{needs}
-use Rattle.automaton.specs.Starts.{Run, Passes, run-none, run-more}
+use Rattle.automaton.specs.Starts.{Run, run-more}
 use Rattle.automaton.proofs.starts.past.Statement.{statement}
 use Rattle.automaton.proofs.starts.past.Tie as tie
 

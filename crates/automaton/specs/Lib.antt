@@ -10,3 +10,4 @@ pub mod Closures
 pub mod Part
 pub mod KernelWords
 pub mod KernelRules
+pub mod BookHeld

@@ -143,7 +143,7 @@ fn line(
     derive(rules, suffix_nulls, suffix_firsts, rule, dot, own, looks)
 }
 
-// The kernel lines from one up to another, one after the other; whether they changed any lookaheads.
+// The kernel lines from one up to another, one after the other; whether they gave any lookaheads.
 fn begin(
     rules: &[u32],
     kernels: &[u32],
@@ -159,15 +159,15 @@ fn begin(
         → KernelItemsIn b F (now (rules .entry)) (now (kernels .entry)) (now («suffix_nulls» .entry)) (now («suffix_firsts» .entry)) → to ≤ length (b .kernels)
         → Begun (fromKernels b F (lines (b .kernels) from to) (now (looks .entry))) (now (looks .entry)) (now (looks .exit)) r) ⌝ }
 {
-    let mut changed = false;
+    let mut given = false;
     let mut i = from;
     while i < to {
         if line(rules, kernels, suffix_nulls, suffix_firsts, i, looks) {
-            changed = true;
+            given = true;
         }
         i += 1;
     }
-    changed
+    given
 }
 
 // The closure of the state whose kernel lines stand from one up to another. Where these give no lookaheads, no pass is needed.

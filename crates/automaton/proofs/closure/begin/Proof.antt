@@ -9,10 +9,10 @@ use Rattle.automaton.proofs.closure.begin.Statement.{statement}
 use Rattle.automaton.proofs.closure.begin.Tie as tie
 
 abbrev Inv-loop : tie.InvT-loop
-Inv-loop rules kernels from to suffix-nulls suffix-firsts looks₀ changed₀ i₀ looks changed i = Beginning rules kernels suffix-nulls suffix-firsts from to looks₀ looks changed i
+Inv-loop rules kernels from to suffix-nulls suffix-firsts looks₀ given₀ i₀ looks given i = Beginning rules kernels suffix-nulls suffix-firsts from to looks₀ looks given i
 
 abbrev μ-loop : tie.MeasureT-loop
-μ-loop rules kernels from to suffix-nulls suffix-firsts looks₀ changed₀ i₀ looks changed i = to - i
+μ-loop rules kernels from to suffix-nulls suffix-firsts looks₀ given₀ i₀ looks given i = to - i
 
 loop-holds : tie.Need-loop-holds Inv-loop μ-loop
 loop-holds c = begin-first

@@ -1,11 +1,10 @@
 -- A book that is spelled right (2), within the limits (3) and declared (4), in arrays: what functions over its kernel lines and closures ask of them.
 -- Assumes nothing.
 use Prim.Native.Nat.{ℕ, zero, suc, _<_, _≤_}
-use mathlib.Core.Path.{_≡_, refl}
+use mathlib.Core.Path.{refl}
 use mathlib.Core.List.{List, [], _∷_, List·Memᴰ as Mem, List·Memᴰ·head as in-head, List·Memᴰ·tail as in-tail}
 use native.Mathlib.Omega.{arith}
 use lib.ListN.{length}
-use Rattle.grammar.specs.Symbol.{rightOf}
 use Rattle.grammar.specs.Book.{Book, Kernel}
 use Rattle.grammar.specs.Ordered.{Before, before-less, before-same, Ascends, ascends-∷, Every, every-∷, kernelKey, Lookaheads, Ordered}
 use Rattle.grammar.specs.OrderLaws.{ascends-above}
@@ -21,7 +20,6 @@ use Rattle.automaton.specs.Starts.{LinesIn}
 use Rattle.automaton.specs.Derives.{GrammarIn}
 use Rattle.automaton.specs.KernelLines.{KernelItemsIn}
 use Rattle.automaton.specs.Closures.{StateItemsIn}
-use Rattle.automaton.specs.KernelWords.{SpelledIn, NamedIn}
 use Rattle.automaton.specs.KernelRules.{RuledIn}
 
 line-member : (ks : List Kernel) (i : ℕ) → i < length ks → Mem (kernelAt ks i) ks

@@ -128,14 +128,17 @@ module _ {b : Book} {F : Sets} {rules nulls firsts : List ℕ} (H : GrammarIn b 
     rest-within = omega (arith, inside)
 
     pub rest-terminal : getD rules (10 * P + 2 + D) 0 < 32 → after (b .rules) P D ≡ terminal (getD rules (10 * P + 2 + D) 0) ∷ after (b .rules) P (D + 1)
-    rest-terminal h = rest-next ∙ ap (λ (X : Symbol). X ∷ after (b .rules) P (D + 1)) (word-terminal next next-low (omega (arith, next-word)) ∙ rw next-word)
+    rest-terminal h =
+        rest-next ∙ ap (λ (X : Symbol). X ∷ after (b .rules) P (D + 1)) (word-terminal next next-low (omega (arith, next-word)) ∙ rw next-word)
 
-    pub rest-nonterminal : 32 ≤ getD rules (10 * P + 2 + D) 0 → after (b .rules) P D ≡ nonterminal (getD rules (10 * P + 2 + D) 0 - 32) ∷ after (b .rules) P (D + 1)
+    pub rest-nonterminal : 32 ≤ getD rules (10 * P + 2 + D) 0
+        → after (b .rules) P D ≡ nonterminal (getD rules (10 * P + 2 + D) 0 - 32) ∷ after (b .rules) P (D + 1)
     rest-nonterminal h =
         rest-next ∙ ap (λ (X : Symbol). X ∷ after (b .rules) P (D + 1)) (word-nonterminal next next-low (omega (arith, next-word)) ∙ rw next-word)
 
 -- what items with the lookaheads M give, by the words of a rest
-module _ {G : List Rule} {F : Sets} {nulls firsts : List ℕ} (R : SuffixesIn G F nulls firsts) (P D M : ℕ) (p : P < length G) (d : D ≤ length (rightOf G P)) where
+module _ {G : List Rule} {F : Sets} {nulls firsts : List ℕ} (R : SuffixesIn G F nulls firsts) (P D M : ℕ) (p : P < length G)
+    (d : D ≤ length (rightOf G P)) where
   pub first-null : (getD nulls (9 * P + D) 0 ≡ 0 → ⊥) → firstWith F (after G P D) M ≡ union (getD firsts (9 * P + D) 0) M
   unfolding firstWith flag
   first-null h = go (null F (after G P D)) refl

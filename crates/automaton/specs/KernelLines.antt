@@ -54,12 +54,18 @@ pub state-in : {ks : List Kernel} {states : ℕ} {starts : List ℕ} → StartsI
     → StateIn ks S (getD starts S 0) (getD starts (S + 1) 0)
 state-in {states = states} H S h = record { within = within-lines H (states - (S + 1)) (S + 1) (omega arith); lines-are = H .lines-are S h }
 
+-- by words read from the starts
+pub state-words : {ks : List Kernel} {states : ℕ} {starts : List ℕ} → StartsIn ks states starts → (S : ℕ) {from to : ℕ} → S < states
+    → from ≡ getD starts S 0 → to ≡ getD starts (S + 1) 0 → StateIn ks S from to
+state-words H S h p q = rw (p, q) (state-in H S h)
+
 -- what line i gives
 unfoldable pub lineInto : Book → Sets → ℕ → Constraint
 lineInto b F i = let k : Kernel = kernelAt (b .kernels) i in derivesInto F (after (b .rules) (k .rule) (k .dot)) (λ _. setOf (k .lookaheads))
 
 -- by the words of the line
-module _ {b : Book} {F : Sets} {rules kernels nulls firsts : List ℕ} (H : KernelItemsIn b F rules kernels nulls firsts) (i : ℕ) (h : i < length (b .kernels)) where
+module _ {b : Book} {F : Sets} {rules kernels nulls firsts : List ℕ} (H : KernelItemsIn b F rules kernels nulls firsts) (i : ℕ)
+    (h : i < length (b .kernels)) where
   pub line-rule : getD kernels (5 * i + 1) 0 < length (b .rules)
   line-rule = rw (H .kernels-in .rule-is i h) (H .rule-there i h)
 

@@ -21,7 +21,7 @@ use Rattle.book.specs.Held.{kernelAt}
 use Rattle.automaton.specs.Arrays.{StartsIn}
 use Rattle.automaton.specs.Starts.{by-order}
 use Rattle.automaton.specs.SymbolCodes.{code-low}
-use Rattle.automaton.specs.KernelLines.{lines, lines-none, lines-more}
+use Rattle.automaton.specs.KernelLines.{lines, lines-none, lines-more, state-words}
 use Rattle.automaton.specs.KernelWords.{SpelledIn, NamedIn, startOrOther, hasBefore, wordBefore, before-low, behind-front, has-before}
 
 -- a book's rules and kernel lines in arrays, and where the lines of each state begin
@@ -166,6 +166,12 @@ module _ {b : Book} {rules kernels : List ℕ} (H : NamedIn b rules kernels) (fr
         go : (D : ℕ) → kernelAt (b .kernels) from .dot ≡ D → symbolCode firstBefore ≡ w
         go zero z = absurd (n (e ∙ rw (z, wordBefore)))
         go (suc D) z = behind-front H from there (λ q. omega arith) ∙ sym e
+
+-- an answer for the lines of state S, by words read from the starts
+pub state-told : {b : Book} {rules kernels starts : List ℕ} {states : ℕ} → RuledIn b rules kernels starts states → (f : List Kernel → Bool) (S : ℕ)
+    {from to : ℕ} {answer r : Bool} → S < states → from ≡ getD starts S 0 → to ≡ getD starts (S + 1) 0 → r ≡ answer
+    → (to ≤ length (b .kernels) → r ≡ f (lines (b .kernels) from to)) → answer ≡ f (lines (b .kernels) (getD starts S 0) (getD starts (S + 1) 0))
+state-told H f S h p q e told = sym e ∙ told (state-words (H .starts-in) S h p q .within) ∙ rw (p, q)
 
 -- ---- the states from the last down to 1
 

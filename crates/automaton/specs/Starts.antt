@@ -184,11 +184,16 @@ starting-done {ks} {kernels} {starts} {count} {states} {at} {s} L D h =
     word i l = L .kernels-in .state-is i (omega (arith, L .counted))
 
     ordered : (S : ℕ) → S < states → getD starts S 0 ≤ getD starts (S + 1) 0
-    ordered S l =
-        by-order (getD starts (S + 1) 0) (getD starts S 0)
-        (λ b. absurd (let z : ⊥ =
-        omega (arith, cut S (omega arith) .lower (getD starts (S + 1) 0) b, cut (S + 1) (omega arith) .upper (getD starts (S + 1) 0) (omega arith) (omega (arith, cut S (omega arith) .within))) in z))
-        (λ b. b)
+    ordered S l = by-order next (getD starts S 0) (λ b. absurd (let z : ⊥ = omega (arith, here .lower next b, there b) in z)) (λ b. b)
+      where
+        next : ℕ
+        next = getD starts (S + 1) 0
+
+        here : Cut kernels count S (getD starts S 0)
+        here = cut S (omega arith)
+
+        there : next < getD starts S 0 → S + 1 ≤ getD kernels (5 * next) 0
+        there b = cut (S + 1) (omega arith) .upper next (omega arith) (omega (arith, here .within))
 
     own : (S : ℕ) → S < states → (i : ℕ) → getD starts S 0 ≤ i → i < getD starts (S + 1) 0 → kernelAt ks i .state ≡ S
     own S l i p q =
@@ -196,7 +201,11 @@ starting-done {ks} {kernels} {starts} {count} {states} {at} {s} L D h =
         omega (arith, cut S (omega arith) .upper i p low, cut (S + 1) (omega arith) .lower i q, word i low)
 
     all : getD starts states 0 ≡ length ks
-    all =
-        by-order (getD starts states 0) count
-        (λ b. absurd (let z : ⊥ = omega (arith, cut states (omega arith) .upper (getD starts states 0) (omega arith) b, sorted L .below (getD starts states 0) b) in z))
-        (λ b. omega (arith, cut states (omega arith) .within, L .counted))
+    all = by-order last count (λ b. absurd (let z : ⊥ = omega (arith, whole .upper last (omega arith) b, sorted L .below last b) in z))
+        (λ b. omega (arith, whole .within, L .counted))
+      where
+        last : ℕ
+        last = getD starts states 0
+
+        whole : Cut kernels count states last
+        whole = cut states (omega arith)

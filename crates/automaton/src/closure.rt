@@ -17,14 +17,14 @@ use super::passes::give;
 use super::words::word;
 
 // What can begin the rest of a rule after `dot` symbols, with the lookaheads `own` behind it.
-fn first_with(suffix_nulls: &[u32], suffix_firsts: &[u32], rule: usize, dot: usize, own: u32) -> u32
-    requires { ⌜ (9 * rule + dot < length (now «suffix_nulls»)) × (9 * rule + dot < length (now «suffix_firsts»)) ⌝ }
-    ensures { λ r. ⌜ ((G : List Rule) (F : Sets) → SuffixesIn G F (now («suffix_nulls» .entry)) (now («suffix_firsts» .entry))
+fn first_with(nulls: &[u32], firsts: &[u32], rule: usize, dot: usize, own: u32) -> u32
+    requires { ⌜ (9 * rule + dot < length (now nulls)) × (9 * rule + dot < length (now firsts)) ⌝ }
+    ensures { λ r. ⌜ ((G : List Rule) (F : Sets) → SuffixesIn G F (now (nulls .entry)) (now (firsts .entry))
         → rule < length G → dot ≤ length (rightOf G rule) → r ≡ firstWith F (after G rule dot) own) ⌝ }
 {
     let place = 9 * rule + dot;
-    let first = suffix_firsts[place];
-    if suffix_nulls[place] == 0 {
+    let first = firsts[place];
+    if nulls[place] == 0 {
         return first;
     }
     sets::union(first, own)
@@ -34,17 +34,18 @@ fn first_with(suffix_nulls: &[u32], suffix_firsts: &[u32], rule: usize, dot: usi
 // that it directly derives; whether that changed any.
 fn derive(
     rules: &[u32],
-    suffix_nulls: &[u32],
-    suffix_firsts: &[u32],
+    nulls: &[u32],
+    firsts: &[u32],
     rule: usize,
     dot: usize,
     own: u32,
     looks: &mut [u32],
 ) -> bool
-    requires { ⌜ ((b : Book) × (F : Sets) × GrammarIn b F (now rules) (now «suffix_nulls») (now «suffix_firsts») × (rule < length (b .rules)))
+    requires { ⌜ ((b : Book) × (F : Sets) × GrammarIn b F (now rules) (now nulls) (now firsts) × (rule < length (b .rules)))
         × (length (now looks) ≡ 32) ⌝ }
-    ensures { λ r. ⌜ ((b : Book) (F : Sets) → GrammarIn b F (now (rules .entry)) (now («suffix_nulls» .entry)) (now («suffix_firsts» .entry))
-        → rule < length (b .rules) → Told (visit (derivesInto F (after (b .rules) rule dot) (λ _. own)) (now (looks .entry))) (now (looks .entry)) (now (looks .exit)) r) ⌝ }
+    ensures { λ r. ⌜ ((b : Book) (F : Sets) → GrammarIn b F (now (rules .entry)) (now (nulls .entry)) (now (firsts .entry))
+        → rule < length (b .rules)
+        → Told (visit (derivesInto F (after (b .rules) rule dot) (λ _. own)) (now (looks .entry))) (now (looks .entry)) (now (looks .exit)) r) ⌝ }
 {
     if own == 0 {
         return false;
@@ -59,46 +60,34 @@ fn derive(
     give(
         looks,
         next - 32,
-        first_with(suffix_nulls, suffix_firsts, rule, dot + 1, own),
+        first_with(nulls, firsts, rule, dot + 1, own),
     )
 }
 
 // A rule gives what its item with the dot in front, with the lookaheads of its left side, directly derives; whether that changed any.
-fn visit(
-    rules: &[u32],
-    suffix_nulls: &[u32],
-    suffix_firsts: &[u32],
-    rule: usize,
-    looks: &mut [u32],
-) -> bool
-    requires { ⌜ ((b : Book) × (F : Sets) × GrammarIn b F (now rules) (now «suffix_nulls») (now «suffix_firsts») × (rule < length (b .rules)))
+fn visit(rules: &[u32], nulls: &[u32], firsts: &[u32], rule: usize, looks: &mut [u32]) -> bool
+    requires { ⌜ ((b : Book) × (F : Sets) × GrammarIn b F (now rules) (now nulls) (now firsts) × (rule < length (b .rules)))
         × (length (now looks) ≡ 32) ⌝ }
-    ensures { λ r. ⌜ ((b : Book) (F : Sets) → GrammarIn b F (now (rules .entry)) (now («suffix_nulls» .entry)) (now («suffix_firsts» .entry))
+    ensures { λ r. ⌜ ((b : Book) (F : Sets) → GrammarIn b F (now (rules .entry)) (now (nulls .entry)) (now (firsts .entry))
         → rule < length (b .rules) → Told (visit (closureRule b F rule) (now (looks .entry))) (now (looks .entry)) (now (looks .exit)) r) ⌝ }
 {
     let left = word(rules, 10 * rule);
     let own = looks[left];
-    derive(rules, suffix_nulls, suffix_firsts, rule, 0, own, looks)
+    derive(rules, nulls, firsts, rule, 0, own, looks)
 }
 
 // One pass over the rules; whether it changed any lookaheads.
-fn pass(
-    rules: &[u32],
-    count: usize,
-    suffix_nulls: &[u32],
-    suffix_firsts: &[u32],
-    looks: &mut [u32],
-) -> bool
-    requires { ⌜ ((b : Book) × (F : Sets) × GrammarIn b F (now rules) (now «suffix_nulls») (now «suffix_firsts») × (length (b .rules) ≡ count))
+fn pass(rules: &[u32], count: usize, nulls: &[u32], firsts: &[u32], looks: &mut [u32]) -> bool
+    requires { ⌜ ((b : Book) × (F : Sets) × GrammarIn b F (now rules) (now nulls) (now firsts) × (length (b .rules) ≡ count))
         × (length (now looks) ≡ 32) ⌝ }
-    ensures { λ r. ⌜ ((b : Book) (F : Sets) → GrammarIn b F (now (rules .entry)) (now («suffix_nulls» .entry)) (now («suffix_firsts» .entry))
+    ensures { λ r. ⌜ ((b : Book) (F : Sets) → GrammarIn b F (now (rules .entry)) (now (nulls .entry)) (now (firsts .entry))
         → length (b .rules) ≡ count
         → Told (visits (closureRule b F) count (now (looks .entry))) (now (looks .entry)) (now (looks .exit)) r) ⌝ }
 {
     let mut changed = false;
     let mut rule = 0;
     while rule < count {
-        if visit(rules, suffix_nulls, suffix_firsts, rule, looks) {
+        if visit(rules, nulls, firsts, rule, looks) {
             changed = true;
         }
         rule += 1;
@@ -107,40 +96,34 @@ fn pass(
 }
 
 // Passes until one changes nothing.
-fn passes(
-    rules: &[u32],
-    count: usize,
-    suffix_nulls: &[u32],
-    suffix_firsts: &[u32],
-    looks: &mut [u32],
-)
-    requires { ⌜ ((b : Book) × (F : Sets) × GrammarIn b F (now rules) (now «suffix_nulls») (now «suffix_firsts») × (length (b .rules) ≡ count))
+fn passes(rules: &[u32], count: usize, nulls: &[u32], firsts: &[u32], looks: &mut [u32])
+    requires { ⌜ ((b : Book) × (F : Sets) × GrammarIn b F (now rules) (now nulls) (now firsts) × (length (b .rules) ≡ count))
         × (length (now looks) ≡ 32) ⌝ }
-    ensures { λ _. ⌜ ((b : Book) (F : Sets) → GrammarIn b F (now (rules .entry)) (now («suffix_nulls» .entry)) (now («suffix_firsts» .entry))
+    ensures { λ _. ⌜ ((b : Book) (F : Sets) → GrammarIn b F (now (rules .entry)) (now (nulls .entry)) (now (firsts .entry))
         → length (b .rules) ≡ count → now (looks .exit) ≡ least (closureRule b F) count (now (looks .entry))) ⌝ }
 {
-    while pass(rules, count, suffix_nulls, suffix_firsts, looks) {}
+    while pass(rules, count, nulls, firsts, looks) {}
 }
 
 // Kernel line i gives the nonterminal behind its dot what it directly derives; whether that changed any lookaheads.
 fn line(
     rules: &[u32],
     kernels: &[u32],
-    suffix_nulls: &[u32],
-    suffix_firsts: &[u32],
+    nulls: &[u32],
+    firsts: &[u32],
     i: usize,
     looks: &mut [u32],
 ) -> bool
-    requires { ⌜ ((b : Book) × (F : Sets) × KernelItemsIn b F (now rules) (now kernels) (now «suffix_nulls») (now «suffix_firsts») × (i < length (b .kernels)))
+    requires { ⌜ ((b : Book) × (F : Sets) × KernelItemsIn b F (now rules) (now kernels) (now nulls) (now firsts) × (i < length (b .kernels)))
         × (length (now looks) ≡ 32) ⌝ }
     ensures { λ r. ⌜ ((b : Book) (F : Sets)
-        → KernelItemsIn b F (now (rules .entry)) (now (kernels .entry)) (now («suffix_nulls» .entry)) (now («suffix_firsts» .entry)) → i < length (b .kernels)
+        → KernelItemsIn b F (now (rules .entry)) (now (kernels .entry)) (now (nulls .entry)) (now (firsts .entry)) → i < length (b .kernels)
         → Told (visit (lineInto b F i) (now (looks .entry))) (now (looks .entry)) (now (looks .exit)) r) ⌝ }
 {
     let rule = word(kernels, 5 * i + 1);
     let dot = word(kernels, 5 * i + 2);
     let own = kernels[5 * i + 4];
-    derive(rules, suffix_nulls, suffix_firsts, rule, dot, own, looks)
+    derive(rules, nulls, firsts, rule, dot, own, looks)
 }
 
 // The kernel lines from one up to another, one after the other; whether they gave any lookaheads.
@@ -149,20 +132,20 @@ fn begin(
     kernels: &[u32],
     from: usize,
     to: usize,
-    suffix_nulls: &[u32],
-    suffix_firsts: &[u32],
+    nulls: &[u32],
+    firsts: &[u32],
     looks: &mut [u32],
 ) -> bool
-    requires { ⌜ ((b : Book) × (F : Sets) × KernelItemsIn b F (now rules) (now kernels) (now «suffix_nulls») (now «suffix_firsts») × (to ≤ length (b .kernels)))
+    requires { ⌜ ((b : Book) × (F : Sets) × KernelItemsIn b F (now rules) (now kernels) (now nulls) (now firsts) × (to ≤ length (b .kernels)))
         × (length (now looks) ≡ 32) ⌝ }
     ensures { λ r. ⌜ ((b : Book) (F : Sets)
-        → KernelItemsIn b F (now (rules .entry)) (now (kernels .entry)) (now («suffix_nulls» .entry)) (now («suffix_firsts» .entry)) → to ≤ length (b .kernels)
+        → KernelItemsIn b F (now (rules .entry)) (now (kernels .entry)) (now (nulls .entry)) (now (firsts .entry)) → to ≤ length (b .kernels)
         → Begun (fromKernels b F (lines (b .kernels) from to) (now (looks .entry))) (now (looks .entry)) (now (looks .exit)) r) ⌝ }
 {
     let mut given = false;
     let mut i = from;
     while i < to {
-        if line(rules, kernels, suffix_nulls, suffix_firsts, i, looks) {
+        if line(rules, kernels, nulls, firsts, i, looks) {
             given = true;
         }
         i += 1;
@@ -177,17 +160,17 @@ pub fn closure(
     kernels: &[u32],
     from: usize,
     to: usize,
-    suffix_nulls: &[u32],
-    suffix_firsts: &[u32],
+    nulls: &[u32],
+    firsts: &[u32],
     looks: &mut [u32],
 )
-    requires { ⌜ ((b : Book) × (F : Sets) × KernelItemsIn b F (now rules) (now kernels) (now «suffix_nulls») (now «suffix_firsts») × (length (b .rules) ≡ count)
+    requires { ⌜ ((b : Book) × (F : Sets) × KernelItemsIn b F (now rules) (now kernels) (now nulls) (now firsts) × (length (b .rules) ≡ count)
         × (to ≤ length (b .kernels))) × (now looks ≡ replicate 32 0) ⌝ }
     ensures { λ _. ⌜ ((b : Book) (F : Sets) (S : ℕ)
-        → KernelItemsIn b F (now (rules .entry)) (now (kernels .entry)) (now («suffix_nulls» .entry)) (now («suffix_firsts» .entry)) → length (b .rules) ≡ count
+        → KernelItemsIn b F (now (rules .entry)) (now (kernels .entry)) (now (nulls .entry)) (now (firsts .entry)) → length (b .rules) ≡ count
         → StateIn (b .kernels) S from to → now (looks .exit) ≡ closureSets b F S) ⌝ }
 {
-    if begin(rules, kernels, from, to, suffix_nulls, suffix_firsts, looks) {
-        passes(rules, count, suffix_nulls, suffix_firsts, looks);
+    if begin(rules, kernels, from, to, nulls, firsts, looks) {
+        passes(rules, count, nulls, firsts, looks);
     }
 }

@@ -15,15 +15,15 @@ pub fn closures(
     kernels: &[u32],
     starts: &[u32],
     states: u32,
-    suffix_nulls: &[u32],
-    suffix_firsts: &[u32],
+    nulls: &[u32],
+    firsts: &[u32],
     closures: &mut [u32],
 )
     requires { ⌜ ((b : Book) × (F : Sets)
-        × StateItemsIn b F (now rules) count (now kernels) (now starts) states (now «suffix_nulls») (now «suffix_firsts»))
+        × StateItemsIn b F (now rules) count (now kernels) (now starts) states (now nulls) (now firsts))
         × (now closures ≡ replicate 4096 0) ⌝ }
     ensures { λ _. ⌜ ((b : Book) (F : Sets)
-        → StateItemsIn b F (now (rules .entry)) count (now (kernels .entry)) (now (starts .entry)) states (now («suffix_nulls» .entry)) (now («suffix_firsts» .entry))
+        → StateItemsIn b F (now (rules .entry)) count (now (kernels .entry)) (now (starts .entry)) states (now (nulls .entry)) (now (firsts .entry))
         → ClosuresIn b F (now (closures .exit))) ⌝ }
 {
     let mut s = 0;
@@ -38,8 +38,8 @@ pub fn closures(
             kernels,
             from,
             to,
-            suffix_nulls,
-            suffix_firsts,
+            nulls,
+            firsts,
             &mut closures[at..end],
         );
         s += 1;

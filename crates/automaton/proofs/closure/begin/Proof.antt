@@ -9,16 +9,20 @@ use Rattle.automaton.proofs.closure.begin.Statement.{statement}
 use Rattle.automaton.proofs.closure.begin.Tie as tie
 
 abbrev Inv-loop : tie.InvT-loop
-Inv-loop rules kernels from to suffix-nulls suffix-firsts looks₀ given₀ i₀ looks given i = Beginning rules kernels suffix-nulls suffix-firsts from to looks₀ looks given i
+Inv-loop rules kernels from to nulls firsts looks₀ given₀ i₀ looks given i =
+    Beginning rules kernels nulls firsts from to looks₀ looks given i
 
 abbrev μ-loop : tie.MeasureT-loop
-μ-loop rules kernels from to suffix-nulls suffix-firsts looks₀ given₀ i₀ looks given i = to - i
+μ-loop rules kernels from to nulls firsts looks₀ given₀ i₀ looks given i = to - i
 
 loop-holds : tie.Need-loop-holds Inv-loop μ-loop
 loop-holds c = begin-first
 
 line-requires : tie.Need-line-requires Inv-loop μ-loop
-line-requires c κs = let s = c .before .before .before .before .before .before .before .before in let g = s .pre .0 in ((g .0, g .1, g .2, omega (arith, g .3, c .before .loop-test .taken)), omega (arith, c .before .before .loop .inv .long, s .pre .1))
+line-requires c κs =
+    let s = c .before .before .before .before .before .before .before .before in
+    let g = s .pre .0 in
+    ((g .0, g .1, g .2, omega (arith, g .3, c .before .loop-test .taken)), omega (arith, c .before .before .loop .inv .long, s .pre .1))
 
 add-i : tie.Need-add-i Inv-loop μ-loop
 add-i c = search needs

@@ -19,7 +19,9 @@ same-length c = search needs
 
 returns : tie.Need-returns
 returns c = let s = c .before .before .before .before .before .before .before .before .before .before .before .before .before .before in
-    λ b F S H e L. closure-done H e L (s .pre .1) (c .before .before .before .before .before .before .before .begin .ensures b F H (L .within)) (c .before .before .passes .ensures b F (H .grammar-in) e)
+    λ b F S H e L.
+    closure-done H e L (s .pre .1) (c .before .before .before .before .before .before .before .begin .ensures b F H (L .within))
+    (c .before .before .passes .ensures b F (H .grammar-in) e)
 
 same-length-2 : tie.Need-same-length-2
 same-length-2 c = search needs

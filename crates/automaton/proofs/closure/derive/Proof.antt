@@ -41,7 +41,9 @@ word-requires : tie.Need-word-requires
 word-requires c κs = search needs
 
 returns-2 : tie.Need-returns-2
-returns-2 c = let a = c .before .before .before .before .before .before .before .args in λ b F H p. told-end H (family (c .before .before .before)) (a .rule) (a .dot) (a .own) p (omega (arith, c .before .word .ensures))
+returns-2 c =
+    let a = c .before .before .before .before .before .before .before .args in
+    λ b F H p. told-end H (family (c .before .before .before)) (a .rule) (a .dot) (a .own) p (omega (arith, c .before .word .ensures))
 
 mul-next : tie.Need-mul-next
 mul-next c = search needs
@@ -59,16 +61,31 @@ shared-slice-read-next : tie.Need-shared-slice-read-next
 shared-slice-read-next c = place (c .before .before) (c .before .if2 .left)
 
 returns-3 : tie.Need-returns-3
-returns-3 c = let a = c .before .before .before .before .before .before .before .before .before .args in λ b F H p. told-terminal H (family (c .before .before .before .before .before)) (a .rule) (a .dot) (a .own) p (omega (arith, c .before .before .before .word .ensures, c .before .before .if2 .left)) (c .if3 .taken)
+returns-3 c =
+    let a = c .before .before .before .before .before .before .before .before .before .args in
+    λ b F H p.
+    told-terminal H (family (c .before .before .before .before .before)) (a .rule) (a .dot) (a .own) p
+    (omega (arith, c .before .before .before .word .ensures, c .before .before .if2 .left)) (c .if3 .taken)
 
 add-first-with : tie.Need-add-first-with
 add-first-with c = search needs
 
 first-with-requires : tie.Need-first-with-requires
-first-with-requires c κs = let h = rest (c .before .before .before .before) (c .before .before .before .if2 .left) in let R = c .before .before .before .before .before .before .before .before .before .before .pre .0 .2 .rests-in in (omega (arith, R .nulls-long), omega (arith, R .firsts-long))
+first-with-requires c κs =
+    let h = rest (c .before .before .before .before) (c .before .before .before .if2 .left) in
+    let R = c .before .before .before .before .before .before .before .before .before .before .pre .0 .2 .rests-in in
+    (omega (arith, R .nulls-long), omega (arith, R .firsts-long))
 
 give-requires : tie.Need-give-requires
-give-requires c κs = let s = c .before .before .before .before .before .before .before .before .before .before .before in omega (arith, s .pre .1, c .before .before .if3 .left, word-low (s .pre .0 .2) (s .args .rule) (s .args .dot) (s .pre .0 .3) (omega (arith, c .before .before .before .before .before .word .ensures, c .before .before .before .before .if2 .left)))
+give-requires c κs =
+    let s = c .before .before .before .before .before .before .before .before .before .before .before in
+    omega (
+      arith,
+      s .pre .1,
+      c .before .before .if3 .left,
+      word-low (s .pre .0 .2) (s .args .rule) (s .args .dot) (s .pre .0 .3)
+          (omega (arith, c .before .before .before .before .before .word .ensures, c .before .before .before .before .if2 .left)),
+    )
 
 same-length : tie.Need-same-length
 same-length c = search needs
@@ -76,8 +93,13 @@ same-length c = search needs
 returns-4 : tie.Need-returns-4
 returns-4 c = let a = c .before .before .before .before .before .before .before .before .before .before .before .before .before .before .args in
     λ b F H p.
-    let d : a .dot < getD (a .rules .now) (10 * a .rule + 1) 0 = omega (arith, c .before .before .before .before .before .before .before .before .word .ensures, c .before .before .before .before .before .before .before .if2 .left) in
-    told-given H (family (c .before .before .before .before .before .before .before .before .before .before)) (a .rule) (a .dot) (a .own) p d (c .before .before .before .before .before .before .before .before .before .if1 .left) (c .before .before .before .before .before .if3 .left)
+    let d : a .dot < getD (a .rules .now) (10 * a .rule + 1) 0 = omega (
+      arith,
+      c .before .before .before .before .before .before .before .before .word .ensures,
+      c .before .before .before .before .before .before .before .if2 .left,
+    ) in
+    told-given H (family (c .before .before .before .before .before .before .before .before .before .before)) (a .rule) (a .dot) (a .own) p d
+    (c .before .before .before .before .before .before .before .before .before .if1 .left) (c .before .before .before .before .before .if3 .left)
     (c .before .before .before .first-with .ensures (b .rules) F (H .rests-in) p (rest-within H (a .rule) (a .dot) p d)) (c .before .before .give .ensures)
 
 pub derive-spec : {M : Type 1} → statement M

@@ -31,7 +31,9 @@ union-requires : tie.Need-union-requires
 union-requires c κs = search needs
 
 returns-2 : tie.Need-returns-2
-returns-2 c = let a = c .before .before .before .before .before .before .args in λ G F R p d. c .union .ensures ∙ sym (first-null R (a .rule) (a .dot) (a .own) p d (c .before .if1 .left))
+returns-2 c =
+    let a = c .before .before .before .before .before .before .args in
+    λ G F R p d. c .union .ensures ∙ sym (first-null R (a .rule) (a .dot) (a .own) p d (c .before .if1 .left))
 
 pub first-with-spec : {M : Type 1} → statement M
 first-with-spec =

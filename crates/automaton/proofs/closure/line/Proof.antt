@@ -38,7 +38,10 @@ shared-slice-read-own : tie.Need-shared-slice-read-own
 shared-slice-read-own c = search needs
 
 derive-requires : tie.Need-derive-requires
-derive-requires c κs = let s = c .before .before .before .before .before .before .before .before .before in let g = s .pre .0 in ((g .0, g .1, g .2 .grammar-in, omega (arith, c .before .before .before .word .ensures, line-rule (g .2) (s .args .i) (g .3))), s .pre .1)
+derive-requires c κs =
+    let s = c .before .before .before .before .before .before .before .before .before in
+    let g = s .pre .0 in
+    ((g .0, g .1, g .2 .grammar-in, omega (arith, c .before .before .before .word .ensures, line-rule (g .2) (s .args .i) (g .3))), s .pre .1)
 
 same-length : tie.Need-same-length
 same-length c = search needs
@@ -46,8 +49,10 @@ same-length c = search needs
 returns : tie.Need-returns
 returns c = let a = c .before .before .before .before .before .before .before .before .before .before .before .before .args in
     λ b F H h.
-    line-told H (a .i) h _ _ _ (c .before .before .before .before .before .before .word .ensures) (c .before .before .before .before .before .word2 .ensures) refl
-    (c .before .before .derive .ensures b F (H .grammar-in) (omega (arith, c .before .before .before .before .before .before .word .ensures, line-rule H (a .i) h)))
+    line-told H (a .i) h _ _ _ (c .before .before .before .before .before .before .word .ensures)
+    (c .before .before .before .before .before .word2 .ensures) refl
+    (c .before .before .derive .ensures b F (H .grammar-in)
+    (omega (arith, c .before .before .before .before .before .before .word .ensures, line-rule H (a .i) h)))
 
 pub line-spec : {M : Type 1} → statement M
 line-spec =

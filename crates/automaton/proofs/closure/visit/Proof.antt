@@ -16,7 +16,9 @@ mul-own : tie.Need-mul-own
 mul-own c = let s = c .before .before .before .before .before in omega (arith, c .word .ensures, left-low (s .pre .0 .2) (s .args .rule) (s .pre .0 .3))
 
 slice-read-own : tie.Need-slice-read-own
-slice-read-own c = let s = c .before .before .before .before .before .before in omega (arith, c .before .word .ensures, left-low (s .pre .0 .2) (s .args .rule) (s .pre .0 .3))
+slice-read-own c =
+    let s = c .before .before .before .before .before .before in
+    omega (arith, c .before .word .ensures, left-low (s .pre .0 .2) (s .args .rule) (s .pre .0 .3))
 
 derive-requires : tie.Need-derive-requires
 derive-requires c κs = search needs
@@ -25,7 +27,11 @@ same-length : tie.Need-same-length
 same-length c = search needs
 
 returns : tie.Need-returns
-returns c = λ b F H p. rule-told H (c .before .before .before .before .before .before .before .before .before .before .args .rule) p (c .before .before .before .before .before .word .result) (c .before .before .before .before .before .word .ensures) (c .before .before .derive .ensures b F H p)
+returns c =
+    λ b F H p.
+    rule-told H (c .before .before .before .before .before .before .before .before .before .before .args .rule) p
+    (c .before .before .before .before .before .word .result) (c .before .before .before .before .before .word .ensures)
+    (c .before .before .derive .ensures b F H p)
 
 pub visit-spec : {M : Type 1} → statement M
 visit-spec =

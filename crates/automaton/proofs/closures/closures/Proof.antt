@@ -3,16 +3,17 @@
 use Prim.Native.Nat.{_-_}
 use native.Mathlib.Omega.{arith}
 use borrow.Author.Needs.{needs}
-use Rattle.automaton.specs.KernelLines.{state-in}
+use Rattle.automaton.specs.KernelLines.{state-words}
 use Rattle.automaton.specs.Closures.{Closed, all-long, closed-none, part-none, closed-more, closed-all}
 use Rattle.automaton.proofs.closures.closures.Statement.{statement}
 use Rattle.automaton.proofs.closures.closures.Tie as tie
 
 abbrev Inv-loop : tie.InvT-loop
-Inv-loop rules count kernels starts states suffix-nulls suffix-firsts closures₀ s₀ closures s = Closed rules count kernels starts states suffix-nulls suffix-firsts closures s
+Inv-loop rules count kernels starts states nulls firsts closures₀ s₀ closures s =
+    Closed rules count kernels starts states nulls firsts closures s
 
 abbrev μ-loop : tie.MeasureT-loop
-μ-loop rules count kernels starts states suffix-nulls suffix-firsts closures₀ s₀ closures s = states - s
+μ-loop rules count kernels starts states nulls firsts closures₀ s₀ closures s = states - s
 
 loop-holds : tie.Need-loop-holds Inv-loop μ-loop
 loop-holds c = closed-none (c .before .before .before .before .before .before .pre .1)
@@ -45,11 +46,12 @@ part-closure-end : tie.Need-part-closure-end Inv-loop μ-loop
 part-closure-end c = search needs
 
 closure-requires : tie.Need-closure-requires Inv-loop μ-loop
-closure-requires c κs = let s = c .before .before .before .before .before .before .before .before .before .before .before in
-    let g = s .pre .0 in
-    let inv = c .before .before .before .before .loop .inv in (
-      (g .0, g .1, g .2 .items-in, g .2 .counted, omega (arith, c .before .word2 .ensures, state-in (g .2 .starts-in) (c .before .before .before .before .loop .s) (c .before .before .before .loop-test .taken) .within)),
-      part-none inv (c .before .before .before .loop-test .taken) (g .2 .few),
+closure-requires c κs =
+    let g = c .before .before .before .before .before .before .before .before .before .before .before .pre .0 in
+    let loop = c .before .before .before .before .loop in
+    let h = c .before .before .before .loop-test .taken in (
+      (g .0, g .1, g .2 .items-in, g .2 .counted, state-words (g .2 .starts-in) (loop .s) h (c .before .before .word .ensures) (c .before .word2 .ensures) .within),
+      part-none (loop .inv) h (g .2 .few),
     )
 
 add-s : tie.Need-add-s Inv-loop μ-loop
@@ -59,11 +61,13 @@ loop-less : tie.Need-loop-less Inv-loop μ-loop
 loop-less c = search needs
 
 loop-again : tie.Need-loop-again Inv-loop μ-loop
-loop-again c = let s = c .before .before .before .before .before .before .before .before .before .before .before .before .before .before in
-    let g = s .pre .0 in
+loop-again c =
+    let g = c .before .before .before .before .before .before .before .before .before .before .before .before .before .before .pre .0 in
+    let loop = c .before .before .before .before .before .before .before .loop in
     let h = c .before .before .before .before .before .before .loop-test .taken in
-    closed-more (c .before .before .before .before .before .before .before .loop .inv) _
-    (λ b F H. c .before .before .closure .ensures b F (c .before .before .before .before .before .before .before .loop .s) (H .items-in) (H .counted) (rw (c .before .before .before .before .before .word .ensures, c .before .before .before .before .word2 .ensures) (state-in (H .starts-in) (c .before .before .before .before .before .before .before .loop .s) h)))
+    closed-more (loop .inv) _
+    (λ b F H. c .before .before .closure .ensures b F (loop .s) (H .items-in) (H .counted)
+    (state-words (H .starts-in) (loop .s) h (c .before .before .before .before .before .word .ensures) (c .before .before .before .before .word2 .ensures)))
     h (g .2 .few) (search needs)
 
 same-length : tie.Need-same-length Inv-loop μ-loop

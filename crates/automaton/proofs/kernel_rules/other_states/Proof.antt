@@ -1,15 +1,10 @@
 -- `automaton::kernel_rules::other_states` meets its contract: the states from n down answer for all.
 -- Assumes nothing.
-use Prim.Native.Nat.{_+_}
-use mathlib.Core.Path.{_≡_, sym, _∙_}
-use mathlib.Core.Bool.{Bool}
 use native.Mathlib.Omega.{arith}
-use lib.ListN.{getD}
 use borrow.Author.Tests.{not-true, not-false}
-use Rattle.grammar.specs.Book.{Book}
 use Rattle.grammar.specs.StatesCheck.{otherState}
-use Rattle.automaton.specs.KernelLines.{lines, state-in}
-use Rattle.automaton.specs.KernelRules.{RuledIn, Testing, test-first, test-more, test-fails, test-all}
+use Rattle.automaton.specs.KernelLines.{state-words}
+use Rattle.automaton.specs.KernelRules.{state-told, Testing, test-first, test-more, test-fails, test-all}
 use borrow.Author.Needs.{needs}
 use Rattle.automaton.proofs.kernel_rules.other_states.Statement.{statement}
 use Rattle.automaton.proofs.kernel_rules.other_states.Tie as tie
@@ -19,14 +14,6 @@ Inv-loop rules kernels starts states n₀ n = Testing rules kernels starts state
 
 abbrev μ-loop : tie.MeasureT-loop
 μ-loop rules kernels starts states n₀ n = n
-
--- the answer for state n
-tested : (c : tie.After-other-state Inv-loop μ-loop) (b : Book)
-    → RuledIn b (c .before .before .before .before .before .before .before .before .args .rules .now) (c .before .before .before .before .before .before .before .before .args .kernels .now) (c .before .before .before .before .before .before .before .before .args .starts .now) (c .before .before .before .before .before .before .before .before .args .states) → {t : Bool} → c .other-state .result ≡ t
-    → t ≡ otherState (b .rules) (lines (b .kernels) (getD (c .before .before .before .before .before .before .before .before .args .starts .now) (c .before .before .before .before .loop .n) 0) (getD (c .before .before .before .before .before .before .before .before .args .starts .now) (c .before .before .before .before .loop .n + 1) 0))
-tested c b H e =
-    sym e ∙ c .other-state .ensures b (H .named-in) (omega (arith, c .before .word2 .ensures, state-in (H .starts-in) (c .before .before .before .before .loop .n) (c .before .before .before .before .loop .inv .within) .within))
-    ∙ rw (c .before .before .word .ensures, c .before .word2 .ensures)
 
 sub-n : tie.Need-sub-n Inv-loop μ-loop
 sub-n c = omega (arith, c .before .before .before .pre .1 .some)
@@ -41,15 +28,23 @@ add-word : tie.Need-add-word Inv-loop μ-loop
 add-word c = let H = c .before .before .before .before .before .before .pre .1 in omega (arith, c .before .before .loop .inv .within, H .few)
 
 word-requires-2 : tie.Need-word-requires-2 Inv-loop μ-loop
-word-requires-2 c κs = let H = c .before .before .before .before .before .before .pre .1 in omega (arith, c .before .before .loop .inv .within, H .few, H .starts-in .long)
+word-requires-2 c κs =
+    let H = c .before .before .before .before .before .before .pre .1 in
+    omega (arith, c .before .before .loop .inv .within, H .few, H .starts-in .long)
 
 other-state-requires : tie.Need-other-state-requires Inv-loop μ-loop
-other-state-requires c κs = let g = c .before .before .before .before .before .before .before .pre in
-    (g .0, g .1 .named-in, omega (arith, c .word2 .ensures, state-in (g .1 .starts-in) (c .before .before .before .loop .n) (c .before .before .before .loop .inv .within) .within))
+other-state-requires c κs =
+    let g = c .before .before .before .before .before .before .before .pre in
+    let loop = c .before .before .before .loop in
+    (g .0, g .1 .named-in, state-words (g .1 .starts-in) (loop .n) (loop .inv .within) (c .before .word .ensures) (c .word2 .ensures) .within)
 
 returns : tie.Need-returns Inv-loop μ-loop
-returns c = λ b H.
-    test-fails (c .before .before .before .before .before .loop .inv) (c .before .before .before .before .loop-test .taken) b H (tested (c .before) b H (not-true _ (c .if1 .taken)))
+returns c =
+    let loop = c .before .before .before .before .before .loop in
+    λ b H.
+    test-fails (loop .inv) (c .before .before .before .before .loop-test .taken) b H
+    (state-told H (otherState (b .rules)) (loop .n) (loop .inv .within) (c .before .before .before .word .ensures) (c .before .before .word2 .ensures)
+    (not-true _ (c .if1 .taken)) (c .before .other-state .ensures b (H .named-in)))
 
 sub-n-2 : tie.Need-sub-n-2 Inv-loop μ-loop
 sub-n-2 c = search needs
@@ -58,7 +53,11 @@ loop-less : tie.Need-loop-less Inv-loop μ-loop
 loop-less c = search needs
 
 loop-again : tie.Need-loop-again Inv-loop μ-loop
-loop-again c = test-more (c .before .before .before .before .before .loop .inv) (c .before .before .before .before .loop-test .taken) (λ b H. tested (c .before) b H (not-false _ (c .if1 .left)))
+loop-again c =
+    let loop = c .before .before .before .before .before .loop in
+    test-more (loop .inv) (c .before .before .before .before .loop-test .taken)
+    (λ b H. state-told H (otherState (b .rules)) (loop .n) (loop .inv .within) (c .before .before .before .word .ensures) (c .before .before .word2 .ensures)
+    (not-false _ (c .if1 .left)) (c .before .other-state .ensures b (H .named-in)))
 
 returns-2 : tie.Need-returns-2 Inv-loop μ-loop
 returns-2 c = λ b H. test-all (c .before .loop .inv) (c .loop-test .left) b H

@@ -25,7 +25,8 @@ start-or-other-requires c κs = let g = c .before .before .before .pre in (g .0,
 returns : tie.Need-returns Inv-loop μ-loop
 returns c = let a = c .before .before .before .before .before .args in
     λ ks H e.
-    all-fails startOrOther ks (c .before .before .before .loop .i) (a .count) (c .before .before .loop-test .taken) (omega arith) (sym (c .before .start-or-other .ensures ks H (omega arith)) ∙ not-true _ (c .if1 .taken))
+    all-fails startOrOther ks (c .before .before .before .loop .i) (a .count) (c .before .before .loop-test .taken) (omega arith)
+    (sym (c .before .start-or-other .ensures ks H (omega arith)) ∙ not-true _ (c .if1 .taken))
     ∙ c .before .before .before .loop .inv ks H e ∙ start-all ks e
 
 add-i : tie.Need-add-i Inv-loop μ-loop
@@ -37,12 +38,14 @@ loop-less c = search needs
 loop-again : tie.Need-loop-again Inv-loop μ-loop
 loop-again c = let a = c .before .before .before .before .before .args in
     λ ks H e.
-    all-more startOrOther ks (c .before .before .before .loop .i) (a .count) (c .before .before .loop-test .taken) (omega arith) (sym (c .before .start-or-other .ensures ks H (omega arith)) ∙ not-false _ (c .if1 .left))
+    all-more startOrOther ks (c .before .before .before .loop .i) (a .count) (c .before .before .loop-test .taken) (omega arith)
+    (sym (c .before .start-or-other .ensures ks H (omega arith)) ∙ not-false _ (c .if1 .left))
     ∙ c .before .before .before .loop .inv ks H e
 
 returns-2 : tie.Need-returns-2 Inv-loop μ-loop
 returns-2 c = λ ks H e.
-    sym (all-none startOrOther ks (c .before .loop .i) (c .before .before .before .args .count) (c .loop-test .left)) ∙ c .before .loop .inv ks H e ∙ start-all ks e
+    sym (all-none startOrOther ks (c .before .loop .i) (c .before .before .before .args .count) (c .loop-test .left)) ∙ c .before .loop .inv ks H e
+    ∙ start-all ks e
 
 pub start-lookaheads-spec : {M : Type 1} → statement M
 start-lookaheads-spec =

@@ -44,13 +44,19 @@ shared-slice-read-if4 : tie.Need-shared-slice-read-if4
 shared-slice-read-if4 c = search needs
 
 returns-4 : tie.Need-returns-4
-returns-4 c = let a = c .before .before .before .before .before .before .before .args in λ ks H h. start-dot H (a .from) (a .to) (omega arith) h (c .before .before .if3 .left) (c .if4 .taken)
+returns-4 c =
+    let a = c .before .before .before .before .before .before .before .args in
+    λ ks H h. start-dot H (a .from) (a .to) (omega arith) h (c .before .before .if3 .left) (c .if4 .taken)
 
 end-alone-requires : tie.Need-end-alone-requires
 end-alone-requires c κs = let g = c .before .before .before .before .before .before .before .pre in (g .0, g .1, omega (arith, g .2))
 
 returns-5 : tie.Need-returns-5
-returns-5 c = let a = c .before .before .before .before .before .before .before .before .args in λ ks H h. c .end-alone .ensures ks H (omega arith) ∙ start-end H (a .from) (a .to) (omega arith) h (c .before .before .before .if3 .left) (c .before .if4 .left)
+returns-5 c =
+    let a = c .before .before .before .before .before .before .before .before .args in
+    λ ks H h.
+    c .end-alone .ensures ks H (omega arith) ∙ start-end H (a .from) (a .to) (omega arith) h (c .before .before .before .if3 .left)
+    (c .before .if4 .left)
 
 pub start-state-spec : {M : Type 1} → statement M
 start-state-spec =

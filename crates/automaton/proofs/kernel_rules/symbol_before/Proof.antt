@@ -9,10 +9,12 @@ use Rattle.automaton.proofs.kernel_rules.symbol_before.Statement.{state
 use Rattle.automaton.proofs.kernel_rules.symbol_before.Tie as tie
 
 -- the symbol's place
-place : (c : tie.After-word2) → 10 * c .word2 .result + 1 + c .before .before .word .result < length (c .before .before .before .before .before .args .rules .now)
+place : (c : tie.After-word2)
+    → 10 * c .word2 .result + 1 + c .before .before .word .result < length (c .before .before .before .before .before .args .rules .now)
 place c =
     let s = c .before .before .before .before .before in
-    before-place (s .pre .1) (s .args .i) (s .pre .2) (c .word2 .result) (c .before .before .word .result) (c .word2 .ensures) (c .before .before .word .ensures) (c .before .if1 .left)
+    before-place (s .pre .1) (s .args .i) (s .pre .2) (c .word2 .result) (c .before .before .word .result) (c .word2 .ensures)
+    (c .before .before .word .ensures) (c .before .if1 .left)
 
 mul-word : tie.Need-mul-word
 mul-word c = search needs
@@ -51,7 +53,10 @@ shared-slice-read-result : tie.Need-shared-slice-read-result
 shared-slice-read-result c = place (c .before)
 
 returns-2 : tie.Need-returns-2
-returns-2 c = λ b H h. word-before H (c .before .before .before .before .before .before .args .i) h (c .before .word2 .result) (c .before .before .before .word .result) (c .before .word2 .ensures) (c .before .before .before .word .ensures) (c .before .before .if1 .left)
+returns-2 c =
+    λ b H h.
+    word-before H (c .before .before .before .before .before .before .args .i) h (c .before .word2 .result) (c .before .before .before .word .result)
+    (c .before .word2 .ensures) (c .before .before .before .word .ensures) (c .before .before .if1 .left)
 
 pub symbol-before-spec : {M : Type 1} → statement M
 symbol-before-spec =

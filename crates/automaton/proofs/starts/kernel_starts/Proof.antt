@@ -40,7 +40,9 @@ loop-less : tie.Need-loop-less Inv-loop μ-loop
 loop-less c = search needs
 
 loop-again : tie.Need-loop-again Inv-loop μ-loop
-loop-again c = let L = c .before .before .before .before .before .pre .0 .1 in starting-more (L .few) (sorted L) (c .before .before .loop .inv) (c .before .loop-test .taken) (c .past .ensures)
+loop-again c =
+    let L = c .before .before .before .before .before .pre .0 .1 in
+    starting-more (L .few) (sorted L) (c .before .before .loop .inv) (c .before .loop-test .taken) (c .past .ensures)
 
 same-length : tie.Need-same-length Inv-loop μ-loop
 same-length c = search needs

@@ -1,5 +1,6 @@
 // The closure of a state: for each nonterminal, the lookaheads with which its rules stand in it. The kernel lines of the state give their next
 // nonterminals what they directly derive, then so do the rules, in passes, until a pass changes nothing.
+// A contract asks that the arrays hold some book, and says its equation of every book that they hold.
 ghost use mathlib.Core.Path.{_≡_};
 ghost use mathlib.Core.List.{List};
 ghost use Prim.Native.Nat.{ℕ, _+_, _*_, _≤_, _<_};

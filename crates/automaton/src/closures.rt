@@ -1,6 +1,5 @@
-// The closures of all states, 32 words each.
+// The closures of all states, 32 words each. The array is lent with zeros; each state fills its part.
 ghost use mathlib.Core.Path.{_≡_};
-ghost use Prim.Native.Nat.{_<_};
 ghost use lib.ListN.{replicate};
 ghost use Rattle.grammar.specs.Book.{Book};
 ghost use Rattle.grammar.specs.FirstSets.{Sets};

@@ -1,5 +1,6 @@
 // The kernel rules (7): state 0 has the one kernel (0, 0) with t0 alone; any other state has a kernel, all dots at least 1, one and the same symbol
 // before every dot; rule 0's kernels have t0 alone.
+// A contract asks that the arrays hold some book, and says its equation of every book that they hold.
 ghost use mathlib.Core.Path.{_≡_};
 ghost use mathlib.Core.List.{List};
 ghost use Prim.Native.Nat.{_-_, _≤_, _<_};

@@ -49,10 +49,9 @@ closure-requires : tie.Need-closure-requires Inv-loop μ-loop
 closure-requires c κs =
     let g = c .before .before .before .before .before .before .before .before .before .before .before .pre .0 in
     let loop = c .before .before .before .before .loop in
-    let h = c .before .before .before .loop-test .taken in (
-      (g .0, g .1, g .2 .items-in, g .2 .counted, state-words (g .2 .starts-in) (loop .s) h (c .before .before .word .ensures) (c .before .word2 .ensures) .within),
-      part-none (loop .inv) h (g .2 .few),
-    )
+    let h = c .before .before .before .loop-test .taken in
+    let here = state-words (g .2 .starts-in) (loop .s) h (c .before .before .word .ensures) (c .before .word2 .ensures) in
+    ((g .0, g .1, g .2 .items-in, g .2 .counted, here .within), part-none (loop .inv) h (g .2 .few))
 
 add-s : tie.Need-add-s Inv-loop μ-loop
 add-s c = search needs

@@ -34,8 +34,8 @@ returns-2 : tie.Need-returns-2
 returns-2 c =
     λ b H.
     rules-others H
-    (state-told H startState 0 (H .some) (c .before .before .before .before .before .word .ensures) (c .before .before .before .before .word2 .ensures) (not-false _ (c .before .before .if1 .left))
-    (c .before .before .before .start-state .ensures (b .kernels) (H .named-in .spelled-in)))
+    (state-told H startState 0 (H .some) (c .before .before .before .before .before .word .ensures) (c .before .before .before .before .word2 .ensures)
+    (not-false _ (c .before .before .if1 .left)) (c .before .before .before .start-state .ensures (b .kernels) (H .named-in .spelled-in)))
     (sym (not-true _ (c .if2 .taken)) ∙ c .before .other-states .ensures b H)
 
 word-requires-3 : tie.Need-word-requires-3
@@ -51,7 +51,8 @@ returns-3 c =
     λ b H.
     c .start-lookaheads .ensures (b .kernels) (H .named-in .spelled-in) (sym (c .before .word3 .ensures ∙ H .starts-in .last-is))
     ∙ rules-all H
-    (state-told H startState 0 (H .some) (c .before .before .before .before .before .before .before .word .ensures) (c .before .before .before .before .before .before .word2 .ensures) (not-false _ (c .before .before .before .before .if1 .left))
+    (state-told H startState 0 (H .some) (c .before .before .before .before .before .before .before .word .ensures)
+    (c .before .before .before .before .before .before .word2 .ensures) (not-false _ (c .before .before .before .before .if1 .left))
     (c .before .before .before .before .before .start-state .ensures (b .kernels) (H .named-in .spelled-in)))
     (sym (not-false _ (c .before .before .if2 .left)) ∙ c .before .before .before .other-states .ensures b H)
 

@@ -1,0 +1,108 @@
+-- A book that is spelled right (2), within the limits (3) and declared (4), in arrays: what functions over its kernel lines and closures ask of them.
+-- Assumes nothing.
+use Prim.Native.Nat.{ℕ, zero, suc, _<_, _≤_}
+use mathlib.Core.Path.{refl}
+use mathlib.Core.List.{List, [], _∷_, List·Memᴰ as Mem, List·Memᴰ·head as in-head, List·Memᴰ·tail as in-tail}
+use native.Mathlib.Omega.{arith}
+use lib.ListN.{length}
+use Rattle.grammar.specs.Book.{Book, Kernel}
+use Rattle.grammar.specs.Ordered.{Before, before-less, before-same, Ascends, ascends-∷, Every, every-∷, kernelKey, Lookaheads, Ordered}
+use Rattle.grammar.specs.OrderLaws.{ascends-above}
+use Rattle.grammar.specs.Conditions.{WithinLimits, Declared, DeclaredKernel}
+use Rattle.grammar.specs.ConditionsLaws.{right-length}
+use Rattle.grammar.specs.Small.{Small}
+use Rattle.grammar.specs.BookFacts.{small-book}
+use Rattle.grammar.specs.FirstSets.{setsOf}
+use Rattle.grammar.specs.FirstSetsLaws.{sets-right}
+use Rattle.book.specs.Held.{RulesIn, KernelsIn, kernelAt}
+use Rattle.automaton.specs.Arrays.{SuffixesIn, StartsIn}
+use Rattle.automaton.specs.Starts.{LinesIn}
+use Rattle.automaton.specs.Derives.{GrammarIn}
+use Rattle.automaton.specs.KernelLines.{KernelItemsIn}
+use Rattle.automaton.specs.Closures.{StateItemsIn}
+use Rattle.automaton.specs.KernelRules.{RuledIn}
+
+line-member : (ks : List Kernel) (i : ℕ) → i < length ks → Mem (kernelAt ks i) ks
+line-member [] i h = absurd (omega arith)
+line-member (k ∷ ks) zero h = in-head refl
+line-member (k ∷ ks) (suc i) h = in-tail (line-member ks i (omega arith))
+
+-- ---- lines that ascend strictly ascend by their states
+
+first-number : {x y : ℕ} {xs ys : List ℕ} → Before (x ∷ xs) (y ∷ ys) → x ≤ y
+first-number (before-less h) = omega arith
+first-number (before-same h) = omega arith
+
+key-state : (k l : Kernel) → Before (kernelKey k) (kernelKey l) → k .state ≤ l .state
+unfolding kernelKey
+key-state k l h = first-number h
+
+states-ascend : {last : List ℕ} (ks : List Kernel) → Ascends kernelKey last ks → (i j : ℕ) → i ≤ j → j < length ks
+    → kernelAt ks i .state ≤ kernelAt ks j .state
+states-ascend [] a i j h l = absurd (omega arith)
+states-ascend (k ∷ ks) (ascends-∷ b a) zero zero h l = omega arith
+states-ascend (k ∷ ks) (ascends-∷ b a) zero (suc j) h l =
+    key-state k (kernelAt ks j) (ascends-above a (line-member ks j (omega arith)))
+states-ascend (k ∷ ks) (ascends-∷ b a) (suc i) zero h l = absurd (omega arith)
+states-ascend (k ∷ ks) (ascends-∷ b a) (suc i) (suc j) h l = states-ascend ks a i j (omega arith) (omega arith)
+
+every-line : (ks : List Kernel) → Every Lookaheads ks → (i : ℕ) → i < length ks → Lookaheads (kernelAt ks i)
+every-line [] e i h = absurd (omega arith)
+every-line (k ∷ ks) (every-∷ p e) zero h = p
+every-line (k ∷ ks) (every-∷ p e) (suc i) h = every-line ks e i (omega arith)
+
+module _ {b : Book} (ordered : Ordered b) (limits : WithinLimits b) (declared : Declared b) where
+  line-declared : (i : ℕ) → i < length (b .kernels) → DeclaredKernel b (kernelAt (b .kernels) i)
+  line-declared i h = declared .kernels-declared (kernelAt (b .kernels) i) (line-member (b .kernels) i h)
+
+  small : Small (b .rules)
+  small = small-book ordered limits declared .small-rules
+
+  -- for where the lines of each state begin
+  pub lines-in : {kernels : List ℕ} → KernelsIn (b .kernels) kernels → LinesIn (b .kernels) (length (b .kernels)) (b .states) kernels
+  lines-in K = record {
+    kernels-in = K;
+    counted = refl;
+    few = limits .states-limit .high;
+    below = λ i h. line-declared i h .state-there;
+    ascend = states-ascend (b .kernels) (ordered .kernels);
+  }
+
+  module _ {rules nulls firsts : List ℕ} (R : RulesIn (b .rules) rules) (S : SuffixesIn (b .rules) (setsOf (b .rules)) nulls firsts) where
+    pub grammar-in : GrammarIn b (setsOf (b .rules)) rules nulls firsts
+    grammar-in = record {
+      rules-in = R;
+      rests-in = S;
+      small = small;
+      short = λ P h. right-length limits P;
+      first-low = sets-right (b .rules) small .first-low;
+    }
+
+    module _ {kernels : List ℕ} (K : KernelsIn (b .kernels) kernels) where
+      -- for the closure of a state
+      pub kernel-items-in : KernelItemsIn b (setsOf (b .rules)) rules kernels nulls firsts
+      kernel-items-in = record { grammar-in = grammar-in; kernels-in = K; rule-there = λ i h. line-declared i h .rule-there }
+
+      -- and of all states
+      pub state-items-in : {starts : List ℕ} → StartsIn (b .kernels) (b .states) starts
+          → StateItemsIn b (setsOf (b .rules)) rules (length (b .rules)) kernels starts (b .states) nulls firsts
+      state-items-in T =
+          record { items-in = kernel-items-in; starts-in = T; counted = refl; states-are = refl; few = limits .states-limit .high }
+
+  -- for the kernel rules
+  pub ruled-in : {rules kernels starts : List ℕ} → RulesIn (b .rules) rules → KernelsIn (b .kernels) kernels → StartsIn (b .kernels) (b .states) starts
+      → RuledIn b rules kernels starts (b .states)
+  ruled-in R K T = record {
+    named-in = record {
+      spelled-in = record { kernels-in = K; lookaheads = every-line (b .kernels) (ordered .lookaheads) };
+      rules-in = R;
+      small = small;
+      short = λ P h. right-length limits P;
+      rule-there = λ i h. line-declared i h .rule-there;
+      dot-there = λ i h. line-declared i h .dot-there;
+    };
+    starts-in = T;
+    states-are = refl;
+    some = limits .states-limit .low;
+    few = limits .states-limit .high;
+  }

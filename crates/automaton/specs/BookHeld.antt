@@ -5,15 +5,15 @@ use mathlib.Core.Path.{refl}
 use mathlib.Core.List.{List, [], _∷_, List·Memᴰ as Mem, List·Memᴰ·head as in-head, List·Memᴰ·tail as in-tail}
 use native.Mathlib.Omega.{arith}
 use lib.ListN.{length}
-use Rattle.grammar.specs.Book.{Book, Kernel}
-use Rattle.grammar.specs.Ordered.{Before, before-less, before-same, Ascends, ascends-∷, Every, every-∷, kernelKey, Lookaheads, Ordered}
-use Rattle.grammar.specs.OrderLaws.{ascends-above}
-use Rattle.grammar.specs.Conditions.{WithinLimits, Declared, DeclaredKernel}
-use Rattle.grammar.specs.ConditionsLaws.{right-length}
-use Rattle.grammar.specs.Small.{Small}
+use Rattle.grammar.specs.Data.Book.{Book, Kernel}
+use Rattle.grammar.specs.Format.Ordered.{Before, before-less, before-same, Ascends, ascends-∷, Every, every-∷, kernelKey, Lookaheads, Ordered}
+use Rattle.grammar.specs.Format.OrderLaws.{ascends-above}
+use Rattle.grammar.specs.Conditions.Meaning.{WithinLimits, Declared, DeclaredKernel}
+use Rattle.grammar.specs.Conditions.MeaningLaws.{right-length}
+use Rattle.grammar.specs.Automaton.Small.{Small}
 use Rattle.grammar.specs.BookFacts.{small-book}
-use Rattle.grammar.specs.FirstSets.{setsOf}
-use Rattle.grammar.specs.FirstSetsLaws.{sets-right}
+use Rattle.grammar.specs.Automaton.FirstSets.{setsOf}
+use Rattle.grammar.specs.Automaton.FirstSetsLaws.{sets-right}
 use Rattle.book.specs.Held.{RulesIn, KernelsIn, kernelAt}
 use Rattle.automaton.specs.Arrays.{SuffixesIn, StartsIn}
 use Rattle.automaton.specs.Starts.{LinesIn}

@@ -7,14 +7,14 @@ use mathlib.Core.List.{List, [], _∷_}
 use native.Mathlib.Omega.{arith}
 use lib.ListN.{length, getD, replicate}
 use Rattle.sets.specs.SetsLaws.{union-lt}
-use Rattle.grammar.specs.TestLaws.{by-test}
-use Rattle.grammar.specs.Symbol.{Symbol, terminal, nonterminal, leftOf, rightOf, after}
-use Rattle.grammar.specs.Book.{Book}
-use Rattle.grammar.specs.Small.{Low}
-use Rattle.grammar.specs.Fixpoint.{setAt, visit, visits, least}
-use Rattle.grammar.specs.LeastLaws.{Family, Fits, none-family, least-stays}
-use Rattle.grammar.specs.FirstSets.{Sets, null, first, firstWith}
-use Rattle.grammar.specs.ClosureSets.{derivesInto, closureRule}
+use Rattle.grammar.specs.Automaton.TestLaws.{by-test}
+use Rattle.grammar.specs.Data.Symbol.{Symbol, terminal, nonterminal, leftOf, rightOf, after}
+use Rattle.grammar.specs.Data.Book.{Book}
+use Rattle.grammar.specs.Automaton.Small.{Low}
+use Rattle.grammar.specs.Automaton.Fixpoint.{setAt, visit, visits, least}
+use Rattle.grammar.specs.Automaton.LeastLaws.{Family, Fits, none-family, least-stays}
+use Rattle.grammar.specs.Automaton.FirstSets.{Sets, null, first, firstWith}
+use Rattle.grammar.specs.Automaton.ClosureSets.{derivesInto, closureRule}
 use Rattle.automaton.specs.Derives.{GrammarIn, derives-none, derives-own}
 use Rattle.automaton.specs.Passes.{Told, Passing, Closing}
 

@@ -8,10 +8,10 @@ use native.Mathlib.Omega.{arith}
 use lib.ListN.{length, getD, take, drop, replicate, length-replicate, length-drop}
 use lib.Seq.{length-take-le, getD-take, getD-drop, ext-getD}
 use Rattle.grammar.specs.Limits.{MAX-STATES}
-use Rattle.grammar.specs.Book.{Book}
-use Rattle.grammar.specs.Fixpoint.{setAt, least}
-use Rattle.grammar.specs.FirstSets.{Sets}
-use Rattle.grammar.specs.ClosureSets.{fromKernels, closureRule, closureSets}
+use Rattle.grammar.specs.Data.Book.{Book}
+use Rattle.grammar.specs.Automaton.Fixpoint.{setAt, least}
+use Rattle.grammar.specs.Automaton.FirstSets.{Sets}
+use Rattle.grammar.specs.Automaton.ClosureSets.{fromKernels, closureRule, closureSets}
 use Rattle.automaton.specs.Arrays.{StartsIn, ClosuresIn}
 use Rattle.automaton.specs.Part.{putBack, back-long, back-before, back-within, back-behind}
 use Rattle.automaton.specs.Starts.{by-order}

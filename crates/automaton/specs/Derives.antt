@@ -11,14 +11,14 @@ use lib.Seq.{drop-cons, set-getD}
 use Rattle.sets.specs.Sets.{union}
 use Rattle.sets.specs.SetsLaws.{subset-union, subset-true}
 use Rattle.grammar.specs.Limits.{MAX-RULES, MAX-RIGHT}
-use Rattle.grammar.specs.Members.{none-in}
-use Rattle.grammar.specs.Symbol.{Symbol, terminal, nonterminal, Rule, rightOf, after}
-use Rattle.grammar.specs.Book.{Book}
-use Rattle.grammar.specs.Small.{numberOf, Low, Small}
-use Rattle.grammar.specs.Fixpoint.{setAt, visit}
-use Rattle.grammar.specs.LeastLaws.{Family}
-use Rattle.grammar.specs.FirstSets.{Sets, null, first, firstWith}
-use Rattle.grammar.specs.ClosureSets.{derivesInto}
+use Rattle.grammar.specs.Automaton.Members.{none-in}
+use Rattle.grammar.specs.Data.Symbol.{Symbol, terminal, nonterminal, Rule, rightOf, after}
+use Rattle.grammar.specs.Data.Book.{Book}
+use Rattle.grammar.specs.Automaton.Small.{numberOf, Low, Small}
+use Rattle.grammar.specs.Automaton.Fixpoint.{setAt, visit}
+use Rattle.grammar.specs.Automaton.LeastLaws.{Family}
+use Rattle.grammar.specs.Automaton.FirstSets.{Sets, null, first, firstWith}
+use Rattle.grammar.specs.Automaton.ClosureSets.{derivesInto}
 use Rattle.book.specs.Layout.{symbolCode}
 use Rattle.book.specs.Held.{RulesIn}
 use Rattle.automaton.specs.Arrays.{flag, SuffixesIn}

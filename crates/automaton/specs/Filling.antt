@@ -10,10 +10,10 @@ use lib.Dec.{eqb}
 use lib.ListN.{length, getD, set, drop, length-set}
 use lib.Seq.{getD-set-same, getD-set-other}
 use borrow.Author.Tests.{eqb-true, eqb-false}
-use Rattle.grammar.specs.LeastLaws.{below-suc}
+use Rattle.grammar.specs.Automaton.LeastLaws.{below-suc}
 use Rattle.grammar.specs.Limits.{MAX-RULES}
-use Rattle.grammar.specs.Symbol.{Symbol, rightOf, after}
-use Rattle.grammar.specs.FirstSets.{nullIn, firstIn, sets, null, first}
+use Rattle.grammar.specs.Data.Symbol.{Symbol, rightOf, after}
+use Rattle.grammar.specs.Automaton.FirstSets.{nullIn, firstIn, sets, null, first}
 use Rattle.automaton.specs.Arrays.{flag, SuffixesIn}
 use Rattle.automaton.specs.GrammarOf.{
   symbolOf,

@@ -6,9 +6,9 @@ use mathlib.Core.Bool.{Bool}
 use mathlib.Core.List.{List, _∷_}
 use native.Mathlib.Omega.{arith}
 use lib.ListN.{drop, replicate}
-use Rattle.grammar.specs.Symbol.{Symbol}
-use Rattle.grammar.specs.Fixpoint.{visit, least}
-use Rattle.grammar.specs.FirstSets.{firstIn, firstRule, firstSets}
+use Rattle.grammar.specs.Data.Symbol.{Symbol}
+use Rattle.grammar.specs.Automaton.Fixpoint.{visit, least}
+use Rattle.grammar.specs.Automaton.FirstSets.{firstIn, firstRule, firstSets}
 use Rattle.automaton.specs.GrammarOf.{
   symbolOf,
   leftWord,

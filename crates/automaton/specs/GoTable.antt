@@ -11,13 +11,13 @@ use lib.Dec.{eqb}
 use lib.ListN.{length, getD, drop, set, replicate, length-set, length-append, length-replicate, length-drop, getD-replicate, List·getD-append}
 use lib.Seq.{drop-cons, drop-length, getD-set-same, getD-set-other}
 use Rattle.grammar.specs.Limits.{MAX-STATES, MAX-GOES}
-use Rattle.grammar.specs.Symbol.{Symbol, terminal, nonterminal}
-use Rattle.grammar.specs.Book.{Book, Go}
-use Rattle.grammar.specs.Conditions.{WithinLimits, Declared, DeclaredGo, GoSymbol}
-use Rattle.grammar.specs.Small.{numberOf}
-use Rattle.grammar.specs.States.{sameSymbol, goIn}
-use Rattle.grammar.specs.Decides.{Decides, eq-decides, and-decides, refutes}
-use Rattle.grammar.specs.GoLines.{sameSymbol-decides}
+use Rattle.grammar.specs.Data.Symbol.{Symbol, terminal, nonterminal}
+use Rattle.grammar.specs.Data.Book.{Book, Go}
+use Rattle.grammar.specs.Conditions.Meaning.{WithinLimits, Declared, DeclaredGo, GoSymbol}
+use Rattle.grammar.specs.Automaton.Small.{numberOf}
+use Rattle.grammar.specs.Automaton.States.{sameSymbol, goIn}
+use Rattle.grammar.specs.Conditions.Decides.{Decides, eq-decides, and-decides, refutes}
+use Rattle.grammar.specs.Automaton.GoLines.{sameSymbol-decides}
 use Rattle.book.specs.Layout.{symbolCode}
 use Rattle.book.specs.Held.{GoesIn, goAt}
 use Rattle.automaton.specs.Arrays.{targetCode, GoTableIn}

@@ -11,11 +11,11 @@ use lib.ListN.{length, getD, drop, drop-of-length-le}
 use lib.Seq.{drop-cons, ext-getD}
 use borrow.Author.Tests.{lt-ltb, le-ltb, ltb-true, ltb-false}
 use Rattle.grammar.specs.Limits.{MAX-RULES, MAX-RIGHT}
-use Rattle.grammar.specs.Symbol.{Symbol, terminal, nonterminal, Rule, ruleAt, leftOf, rightOf}
-use Rattle.grammar.specs.Book.{Book}
-use Rattle.grammar.specs.Conditions.{WithinLimits}
-use Rattle.grammar.specs.ConditionsLaws.{right-length}
-use Rattle.grammar.specs.Small.{numberOf, Low, Small, SmallBook}
+use Rattle.grammar.specs.Data.Symbol.{Symbol, terminal, nonterminal, Rule, ruleAt, leftOf, rightOf}
+use Rattle.grammar.specs.Data.Book.{Book}
+use Rattle.grammar.specs.Conditions.Meaning.{WithinLimits}
+use Rattle.grammar.specs.Conditions.MeaningLaws.{right-length}
+use Rattle.grammar.specs.Automaton.Small.{numberOf, Low, Small, SmallBook}
 use Rattle.book.specs.Layout.{codeOf, symbolCode}
 use Rattle.book.specs.Held.{RulesIn}
 

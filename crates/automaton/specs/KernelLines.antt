@@ -8,12 +8,12 @@ use native.Mathlib.Omega.{arith}
 use native.Mathlib.Numerals.{add-one}
 use lib.ListN.{length, getD, take, drop}
 use lib.Seq.{drop-cons}
-use Rattle.grammar.specs.TestLaws.{true-false}
-use Rattle.grammar.specs.Symbol.{after}
-use Rattle.grammar.specs.Book.{Book, Kernel}
-use Rattle.grammar.specs.Fixpoint.{Constraint, visit}
-use Rattle.grammar.specs.FirstSets.{Sets}
-use Rattle.grammar.specs.ClosureSets.{setOf, derivesInto, kernelsIn, fromKernels}
+use Rattle.grammar.specs.Automaton.TestLaws.{true-false}
+use Rattle.grammar.specs.Data.Symbol.{after}
+use Rattle.grammar.specs.Data.Book.{Book, Kernel}
+use Rattle.grammar.specs.Automaton.Fixpoint.{Constraint, visit}
+use Rattle.grammar.specs.Automaton.FirstSets.{Sets}
+use Rattle.grammar.specs.Automaton.ClosureSets.{setOf, derivesInto, kernelsIn, fromKernels}
 use Rattle.book.specs.Held.{KernelsIn, kernelAt}
 use Rattle.automaton.specs.Arrays.{StartsIn}
 use Rattle.automaton.specs.Passes.{Told}

@@ -10,12 +10,12 @@ use lib.ListN.{length, getD}
 use lib.Seq.{take-length}
 use borrow.Author.Tests.{eq-eqb, ne-eqb}
 use Rattle.grammar.specs.Limits.{MAX-STATES}
-use Rattle.grammar.specs.Symbol.{Symbol, Rule, symbolAt}
-use Rattle.grammar.specs.Book.{Book, Kernel}
-use Rattle.grammar.specs.Small.{numberOf}
-use Rattle.grammar.specs.States.{sameSymbol}
-use Rattle.grammar.specs.ClosureSets.{kernelsIn}
-use Rattle.grammar.specs.StatesCheck.{endAlone, startState, oneSymbol, otherState, otherStates, startLookaheads, kernelRules}
+use Rattle.grammar.specs.Data.Symbol.{Symbol, Rule, symbolAt}
+use Rattle.grammar.specs.Data.Book.{Book, Kernel}
+use Rattle.grammar.specs.Automaton.Small.{numberOf}
+use Rattle.grammar.specs.Automaton.States.{sameSymbol}
+use Rattle.grammar.specs.Automaton.ClosureSets.{kernelsIn}
+use Rattle.grammar.specs.Automaton.StatesCheck.{endAlone, startState, oneSymbol, otherState, otherStates, startLookaheads, kernelRules}
 use Rattle.book.specs.Layout.{symbolCode}
 use Rattle.book.specs.Held.{kernelAt}
 use Rattle.automaton.specs.Arrays.{StartsIn}

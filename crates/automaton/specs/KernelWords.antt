@@ -9,12 +9,12 @@ use lib.Dec.{eqb, leb}
 use lib.ListN.{length, getD}
 use borrow.Author.Tests.{ne-eqb, le-leb}
 use Rattle.grammar.specs.Limits.{MAX-RIGHT}
-use Rattle.grammar.specs.Symbol.{Symbol, terminal, Rule, rightOf, symbolAt}
-use Rattle.grammar.specs.Book.{Book, Kernel}
-use Rattle.grammar.specs.Ordered.{before-less, Ascends, ascends-∷, lookaheadKey, Lookaheads}
-use Rattle.grammar.specs.Small.{numberOf, Small}
-use Rattle.grammar.specs.States.{sameSymbol}
-use Rattle.grammar.specs.StatesCheck.{endAlone}
+use Rattle.grammar.specs.Data.Symbol.{Symbol, terminal, Rule, rightOf, symbolAt}
+use Rattle.grammar.specs.Data.Book.{Book, Kernel}
+use Rattle.grammar.specs.Format.Ordered.{before-less, Ascends, ascends-∷, lookaheadKey, Lookaheads}
+use Rattle.grammar.specs.Automaton.Small.{numberOf, Small}
+use Rattle.grammar.specs.Automaton.States.{sameSymbol}
+use Rattle.grammar.specs.Automaton.StatesCheck.{endAlone}
 use Rattle.book.specs.Layout.{symbolCode, lastOf}
 use Rattle.book.specs.Held.{RulesIn, KernelsIn, kernelAt}
 use Rattle.automaton.specs.SymbolCodes.{code-low, code-test}

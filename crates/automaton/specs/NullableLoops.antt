@@ -9,11 +9,11 @@ use native.Mathlib.Numerals.{add-one}
 use lib.ListN.{drop}
 use Rattle.sets.specs.Sets.{union, with}
 use Rattle.sets.specs.SetsLaws.{union-lt, subset-true, subset-union}
-use Rattle.grammar.specs.Members.{none-in}
-use Rattle.grammar.specs.Symbol.{rightOf}
-use Rattle.grammar.specs.Fixpoint.{setAt, visit, visits, least}
-use Rattle.grammar.specs.FirstSets.{nullIn, nullRule, nullable}
-use Rattle.grammar.specs.LeastLaws.{Fits}
+use Rattle.grammar.specs.Automaton.Members.{none-in}
+use Rattle.grammar.specs.Data.Symbol.{rightOf}
+use Rattle.grammar.specs.Automaton.Fixpoint.{setAt, visit, visits, least}
+use Rattle.grammar.specs.Automaton.FirstSets.{nullIn, nullRule, nullable}
+use Rattle.grammar.specs.Automaton.LeastLaws.{Fits}
 use Rattle.automaton.specs.GrammarOf.{
   symbolOf,
   leftWord,

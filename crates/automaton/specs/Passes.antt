@@ -10,9 +10,9 @@ use native.Mathlib.Numerals.{add-one}
 use lib.ListN.{length, set}
 use lib.Seq.{getD-set-same, set-getD}
 use Rattle.sets.specs.Sets.{union}
-use Rattle.grammar.specs.TestLaws.{true-false}
-use Rattle.grammar.specs.Fixpoint.{setAt, Constraint, visit, visits, least}
-use Rattle.grammar.specs.LeastLaws.{Family, total, Fits, visit-family, visit-grows, growing, least-again, least-stays}
+use Rattle.grammar.specs.Automaton.TestLaws.{true-false}
+use Rattle.grammar.specs.Automaton.Fixpoint.{setAt, Constraint, visit, visits, least}
+use Rattle.grammar.specs.Automaton.LeastLaws.{Family, total, Fits, visit-family, visit-grows, growing, least-again, least-stays}
 
 -- what a visit and a pass tell: the sets are the new ones afterwards, and the flag says whether they are other than the old ones
 pub record Told (new old now : List ℕ) (changed : Bool) : Type 0 where

@@ -7,10 +7,10 @@ use mathlib.Core.List.{List, _∷_}
 use native.Mathlib.Omega.{arith}
 use lib.ListN.{getD, drop, length, set, replicate, length-set}
 use Rattle.grammar.specs.Limits.{MAX-RULES}
-use Rattle.grammar.specs.Symbol.{Symbol, rightOf}
-use Rattle.grammar.specs.Fixpoint.{visit, least}
-use Rattle.grammar.specs.FirstSets.{Sets, nullable, setsOf, null, first}
-use Rattle.grammar.specs.ReachSets.{reachIn, reachRule, reachSets}
+use Rattle.grammar.specs.Data.Symbol.{Symbol, rightOf}
+use Rattle.grammar.specs.Automaton.Fixpoint.{visit, least}
+use Rattle.grammar.specs.Automaton.FirstSets.{Sets, nullable, setsOf, null, first}
+use Rattle.grammar.specs.Automaton.ReachSets.{reachIn, reachRule, reachSets}
 use Rattle.automaton.specs.Arrays.{flag, SuffixesIn, ReachesIn}
 use Rattle.automaton.specs.GrammarOf.{
   symbolOf,

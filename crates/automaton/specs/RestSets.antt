@@ -3,9 +3,9 @@
 use Prim.Native.Nat.{ℕ}
 use mathlib.Core.Path.{_≡_, subst}
 use mathlib.Core.List.{List}
-use Rattle.grammar.specs.Symbol.{Rule}
-use Rattle.grammar.specs.FirstSets.{Sets, sets, nullable, firstSets, setsOf}
-use Rattle.grammar.specs.ReachSets.{reachSets}
+use Rattle.grammar.specs.Data.Symbol.{Rule}
+use Rattle.grammar.specs.Automaton.FirstSets.{Sets, sets, nullable, firstSets, setsOf}
+use Rattle.grammar.specs.Automaton.ReachSets.{reachSets}
 use Rattle.automaton.specs.Arrays.{SuffixesIn, ReachesIn}
 use Rattle.automaton.specs.GrammarOf.{grammarOf, GrammarFits, GrammarHeld, grammar-back}
 use Rattle.automaton.specs.ReachLoops.{SetsIn}

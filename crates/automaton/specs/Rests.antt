@@ -8,11 +8,11 @@ use native.Mathlib.Omega.{arith}
 use lib.ListN.{length, getD, drop}
 use borrow.Author.Tests.{eq-eqb, ne-eqb}
 use Rattle.sets.specs.Sets.{bit, single, union}
-use Rattle.grammar.specs.TestLaws.{true-false}
-use Rattle.grammar.specs.Symbol.{Symbol, terminal, nonterminal}
-use Rattle.grammar.specs.Fixpoint.{setAt}
-use Rattle.grammar.specs.FirstSets.{nullIn, firstIn, Sets, sets, null, first}
-use Rattle.grammar.specs.ReachSets.{dead, reachIn}
+use Rattle.grammar.specs.Automaton.TestLaws.{true-false}
+use Rattle.grammar.specs.Data.Symbol.{Symbol, terminal, nonterminal}
+use Rattle.grammar.specs.Automaton.Fixpoint.{setAt}
+use Rattle.grammar.specs.Automaton.FirstSets.{nullIn, firstIn, Sets, sets, null, first}
+use Rattle.grammar.specs.Automaton.ReachSets.{dead, reachIn}
 use Rattle.automaton.specs.Arrays.{flag}
 use Rattle.automaton.specs.GrammarOf.{symbolOf, terminal-of, nonterminal-of}
 

@@ -6,13 +6,13 @@ use native.Mathlib.Omega.{arith}
 use lib.ListN.{length}
 use Rattle.sets.specs.Sets.{bit, single, union}
 use Rattle.sets.specs.SetsLaws.{single-lt, union-lt}
-use Rattle.grammar.specs.TestLaws.{by-test}
-use Rattle.grammar.specs.Symbol.{Symbol, terminal, nonterminal, Rule, leftOf, rightOf}
-use Rattle.grammar.specs.Small.{Low}
-use Rattle.grammar.specs.Fixpoint.{setAt}
-use Rattle.grammar.specs.LeastLaws.{Family, Fits}
-use Rattle.grammar.specs.FirstSets.{nullIn, firstIn, nullRule, firstRule, Sets, null, first}
-use Rattle.grammar.specs.ReachSets.{dead, reachIn, reachRule}
+use Rattle.grammar.specs.Automaton.TestLaws.{by-test}
+use Rattle.grammar.specs.Data.Symbol.{Symbol, terminal, nonterminal, Rule, leftOf, rightOf}
+use Rattle.grammar.specs.Automaton.Small.{Low}
+use Rattle.grammar.specs.Automaton.Fixpoint.{setAt}
+use Rattle.grammar.specs.Automaton.LeastLaws.{Family, Fits}
+use Rattle.grammar.specs.Automaton.FirstSets.{nullIn, firstIn, nullRule, firstRule, Sets, null, first}
+use Rattle.grammar.specs.Automaton.ReachSets.{dead, reachIn, reachRule}
 use Rattle.automaton.specs.GrammarOf.{GrammarFits, grammarOf, grammar-size, grammar-small}
 
 -- ---- sets of numbers below 32

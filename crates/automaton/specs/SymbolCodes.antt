@@ -7,11 +7,11 @@ use mathlib.Core.Path.{_≡_, refl, sym, _∙_}
 use mathlib.Core.Bool.{Bool, true, false}
 use lib.Dec.{eqb}
 use borrow.Author.Tests.{lt-ltb, eq-eqb, ne-eqb}
-use Rattle.grammar.specs.Symbol.{Symbol, terminal, nonterminal}
-use Rattle.grammar.specs.Small.{numberOf}
-use Rattle.grammar.specs.States.{sameSymbol}
-use Rattle.grammar.specs.Decides.{Decides, refutes}
-use Rattle.grammar.specs.GoLines.{sameSymbol-decides}
+use Rattle.grammar.specs.Data.Symbol.{Symbol, terminal, nonterminal}
+use Rattle.grammar.specs.Automaton.Small.{numberOf}
+use Rattle.grammar.specs.Automaton.States.{sameSymbol}
+use Rattle.grammar.specs.Conditions.Decides.{Decides, refutes}
+use Rattle.grammar.specs.Automaton.GoLines.{sameSymbol-decides}
 use Rattle.book.specs.Layout.{codeOf, symbolCode}
 
 pub terminal-code : (K : ℕ) → K < 32 → symbolCode (terminal K) ≡ K

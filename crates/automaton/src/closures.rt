@@ -1,8 +1,8 @@
 // The closures of all states, 32 words each. The array is lent with zeros; each state fills its part.
 ghost use mathlib.Core.Path.{_≡_};
 ghost use lib.ListN.{replicate};
-ghost use Rattle.grammar.specs.Book.{Book};
-ghost use Rattle.grammar.specs.FirstSets.{Sets};
+ghost use Rattle.grammar.specs.Data.Book.{Book};
+ghost use Rattle.grammar.specs.Automaton.FirstSets.{Sets};
 ghost use Rattle.automaton.specs.Arrays.{ClosuresIn};
 ghost use Rattle.automaton.specs.Closures.{StateItemsIn};
 use super::closure::closure;

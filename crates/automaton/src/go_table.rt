@@ -1,7 +1,7 @@
 // The go lines as a table by state and symbol.
 ghost use mathlib.Core.Path.{_≡_};
 ghost use lib.ListN.{length};
-ghost use Rattle.grammar.specs.Book.{Book};
+ghost use Rattle.grammar.specs.Data.Book.{Book};
 ghost use Rattle.automaton.specs.Arrays.{GoTableIn};
 ghost use Rattle.automaton.specs.GoTable.{GoLinesIn};
 use super::words::fill;

@@ -2,8 +2,8 @@
 ghost use mathlib.Core.Path.{_≡_};
 ghost use mathlib.Core.List.{_∷_, []};
 ghost use Prim.Native.Nat.{_<_};
-ghost use Rattle.grammar.specs.Fixpoint.{visits};
-ghost use Rattle.grammar.specs.FirstSets.{nullIn, nullRule, nullable};
+ghost use Rattle.grammar.specs.Automaton.Fixpoint.{visits};
+ghost use Rattle.grammar.specs.Automaton.FirstSets.{nullIn, nullRule, nullable};
 ghost use Rattle.automaton.specs.GrammarOf.{symbolOf, rightIn, grammarOf, RuleFits, GrammarFits};
 ghost use Rattle.automaton.specs.Rests.{nullSymbol};
 use super::rules::left;

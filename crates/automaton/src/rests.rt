@@ -4,7 +4,7 @@ ghost use mathlib.Core.List.{List};
 ghost use Prim.Native.Nat.{_*_};
 ghost use lib.ListN.{length};
 ghost use Rattle.grammar.specs.Limits.{MAX-RULES};
-ghost use Rattle.grammar.specs.Symbol.{Rule};
+ghost use Rattle.grammar.specs.Data.Symbol.{Rule};
 ghost use Rattle.automaton.specs.GrammarOf.{GrammarHeld};
 ghost use Rattle.automaton.specs.RestSets.{RestSetsIn};
 use super::first::first_sets;

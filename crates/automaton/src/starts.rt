@@ -4,7 +4,7 @@ ghost use mathlib.Core.Path.{_≡_};
 ghost use Prim.Native.Nat.{_≤_};
 ghost use lib.ListN.{length};
 ghost use mathlib.Core.List.{List};
-ghost use Rattle.grammar.specs.Book.{Kernel};
+ghost use Rattle.grammar.specs.Data.Book.{Kernel};
 ghost use Rattle.automaton.specs.Arrays.{StartsIn};
 ghost use Rattle.automaton.specs.Starts.{Room, LinesIn, Passes};
 

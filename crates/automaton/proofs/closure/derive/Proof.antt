@@ -4,7 +4,7 @@ use Prim.Native.Nat.{_+_, _*_, _<_}
 use native.Mathlib.Omega.{arith}
 use lib.ListN.{length, getD}
 use Rattle.grammar.specs.Limits.{MAX-RULES}
-use Rattle.grammar.specs.LeastLaws.{Family}
+use Rattle.grammar.specs.Automaton.LeastLaws.{Family}
 use Rattle.automaton.specs.Derives.{told-none, told-end, told-terminal, told-given, symbol-place, rest-place, rest-within, word-low}
 use borrow.Author.Needs.{needs}
 use Rattle.automaton.proofs.closure.derive.Statement.{statement}

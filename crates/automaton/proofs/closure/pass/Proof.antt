@@ -5,7 +5,7 @@ use mathlib.Core.Logic.{⊎-elim}
 use native.Mathlib.Omega.{arith}
 use lib.ListN.{length}
 use borrow.Author.Needs.{needs}
-use Rattle.grammar.specs.LeastLaws.{Family}
+use Rattle.grammar.specs.Automaton.LeastLaws.{Family}
 use Rattle.automaton.specs.Passes.{pass-begins, pass-ends, turn-more, turn-same}
 use Rattle.automaton.specs.ClosurePasses.{Sweeping, closure-fits}
 use Rattle.automaton.proofs.closure.pass.Statement.{statement}

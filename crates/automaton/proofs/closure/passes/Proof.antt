@@ -1,7 +1,7 @@
 -- `automaton::closure::passes` meets its contract: a pass more at the start ends at the same sets.
 -- Assumes nothing.
 use native.Mathlib.Omega.{arith}
-use Rattle.grammar.specs.LeastLaws.{Family}
+use Rattle.grammar.specs.Automaton.LeastLaws.{Family}
 use Rattle.automaton.specs.Passes.{left, closing-begins, closing-turn, closing-ends, closing-less}
 use Rattle.automaton.specs.ClosurePasses.{Settling, closure-fits}
 use Rattle.automaton.proofs.closure.passes.Statement.{statement}

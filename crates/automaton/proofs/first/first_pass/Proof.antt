@@ -5,8 +5,8 @@ use mathlib.Core.Path.{_∙_}
 use mathlib.Core.Logic.{⊎-elim}
 use native.Mathlib.Omega.{arith}
 use borrow.Author.Needs.{needs}
-use Rattle.grammar.specs.FirstSets.{firstRule}
-use Rattle.grammar.specs.LeastLaws.{Fits}
+use Rattle.grammar.specs.Automaton.FirstSets.{firstRule}
+use Rattle.grammar.specs.Automaton.LeastLaws.{Fits}
 use Rattle.automaton.specs.FirstLoops.{first-told}
 use Rattle.automaton.specs.GrammarOf.{grammarOf}
 use Rattle.automaton.specs.Passes.{Passing, pass-begins, turn-more, turn-same, pass-ends}

@@ -2,8 +2,8 @@
 -- Assumes nothing.
 use mathlib.Core.Path.{_∙_, ap}
 use lib.ListN.{length}
-use Rattle.grammar.specs.FirstSets.{firstRule}
-use Rattle.grammar.specs.LeastLaws.{Fits}
+use Rattle.grammar.specs.Automaton.FirstSets.{firstRule}
+use Rattle.grammar.specs.Automaton.LeastLaws.{Fits}
 use Rattle.automaton.specs.FirstLoops.{first-all}
 use Rattle.automaton.specs.GrammarOf.{grammarOf}
 use Rattle.automaton.specs.Passes.{Closing, left, closing-begins, closing-turn, closing-less, closing-ends}

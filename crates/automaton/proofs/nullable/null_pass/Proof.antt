@@ -6,7 +6,7 @@ use mathlib.Core.Logic.{⊎-elim}
 use native.Mathlib.Omega.{arith}
 use borrow.Author.Needs.{needs}
 use Rattle.sets.specs.Sets.{with}
-use Rattle.grammar.specs.Fixpoint.{visits}
+use Rattle.grammar.specs.Automaton.Fixpoint.{visits}
 use Rattle.automaton.specs.NullableLoops.{NullPassing, null-found, null-left}
 use Rattle.automaton.proofs.nullable.null_pass.Statement.{statement}
 use Rattle.automaton.proofs.nullable.null_pass.Tie as tie

@@ -5,9 +5,9 @@ use mathlib.Core.Path.{_∙_}
 use mathlib.Core.Logic.{⊎-elim}
 use native.Mathlib.Omega.{arith}
 use borrow.Author.Needs.{needs}
-use Rattle.grammar.specs.FirstSets.{setsOf}
-use Rattle.grammar.specs.ReachSets.{reachRule}
-use Rattle.grammar.specs.LeastLaws.{Fits}
+use Rattle.grammar.specs.Automaton.FirstSets.{setsOf}
+use Rattle.grammar.specs.Automaton.ReachSets.{reachRule}
+use Rattle.grammar.specs.Automaton.LeastLaws.{Fits}
 use Rattle.automaton.specs.GrammarOf.{grammarOf}
 use Rattle.automaton.specs.Passes.{Passing, pass-begins, turn-more, turn-same, pass-ends}
 use Rattle.automaton.specs.ReachLoops.{nulls-of, rests-in, reach-told}

@@ -2,9 +2,9 @@
 -- Assumes nothing.
 use mathlib.Core.Path.{_∙_, ap}
 use lib.ListN.{length}
-use Rattle.grammar.specs.FirstSets.{setsOf}
-use Rattle.grammar.specs.ReachSets.{reachRule}
-use Rattle.grammar.specs.LeastLaws.{Fits}
+use Rattle.grammar.specs.Automaton.FirstSets.{setsOf}
+use Rattle.grammar.specs.Automaton.ReachSets.{reachRule}
+use Rattle.grammar.specs.Automaton.LeastLaws.{Fits}
 use Rattle.automaton.specs.GrammarOf.{grammarOf}
 use Rattle.automaton.specs.Passes.{Closing, left, closing-begins, closing-turn, closing-less, closing-ends}
 use Rattle.automaton.specs.ReachLoops.{reach-all}

@@ -4,8 +4,8 @@ use Prim.Native.Nat.{_-_}
 use mathlib.Core.Path.{_∙_}
 use native.Mathlib.Omega.{arith}
 use borrow.Author.Needs.{needs}
-use Rattle.grammar.specs.FirstSets.{setsOf}
-use Rattle.grammar.specs.ReachSets.{reachIn}
+use Rattle.grammar.specs.Automaton.FirstSets.{setsOf}
+use Rattle.grammar.specs.Automaton.ReachSets.{reachIn}
 use Rattle.automaton.specs.GrammarOf.{grammarOf}
 use Rattle.automaton.specs.ReachLoops.{nulls-of, rests-in, reaches-done}
 use Rattle.automaton.specs.Filling.{RestsFilled, rests-begin, rests-turn}

@@ -4,7 +4,7 @@ use Prim.Native.Nat.{_-_}
 use mathlib.Core.Path.{refl}
 use native.Mathlib.Omega.{arith}
 use borrow.Author.Needs.{needs}
-use Rattle.grammar.specs.FirstSets.{firstIn}
+use Rattle.grammar.specs.Automaton.FirstSets.{firstIn}
 use Rattle.automaton.specs.Filling.{Backward, backward-begins, backward-turn, backward-ends}
 use Rattle.automaton.proofs.suffixes.first_rests.Statement.{statement}
 use Rattle.automaton.proofs.suffixes.first_rests.Tie as tie

@@ -4,7 +4,7 @@ use Prim.Native.Nat.{_-_}
 use mathlib.Core.Path.{refl}
 use native.Mathlib.Omega.{arith}
 use borrow.Author.Needs.{needs}
-use Rattle.grammar.specs.FirstSets.{nullIn}
+use Rattle.grammar.specs.Automaton.FirstSets.{nullIn}
 use Rattle.automaton.specs.Filling.{Backward, backward-begins, backward-turn, backward-ends}
 use Rattle.automaton.specs.Arrays.{flag}
 use Rattle.automaton.proofs.suffixes.null_rests.Statement.{statement}

@@ -4,7 +4,7 @@ use Prim.Native.Nat.{_-_}
 use mathlib.Core.Path.{_∙_}
 use native.Mathlib.Omega.{arith}
 use borrow.Author.Needs.{needs}
-use Rattle.grammar.specs.FirstSets.{nullIn, firstIn}
+use Rattle.grammar.specs.Automaton.FirstSets.{nullIn, firstIn}
 use Rattle.automaton.specs.Arrays.{flag}
 use Rattle.automaton.specs.Filling.{RestsFilled, rests-begin, rests-turn, suffixes-done}
 use Rattle.automaton.proofs.suffixes.suffixes.Statement.{statement}

@@ -1,0 +1,1 @@
+// Formulas of partial states: interned nodes, and the one-formula check (10).

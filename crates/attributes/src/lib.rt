@@ -1,1 +1,2 @@
 // Formulas of partial states: interned nodes, and the one-formula check (10).
+pub mod nodes;

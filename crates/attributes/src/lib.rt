@@ -1,2 +1,3 @@
 // Formulas of partial states: interned nodes, and the one-formula check (10).
+pub mod interning;
 pub mod nodes;

@@ -1,3 +1,4 @@
 // Formulas of partial states: interned nodes, and the one-formula check (10).
 pub mod interning;
 pub mod nodes;
+pub mod steps;

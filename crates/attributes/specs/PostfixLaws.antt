@@ -66,3 +66,9 @@ ready-map f depth (push n) h = tt
 ready-map f depth (load a) h = f a h
 ready-map f depth (operate o) h = h
 ready-map f depth select h = h
+
+pub ready-takes : {A : Type 0} (R : A → Type 0) (depth : ℕ) (s : Step A) → Ready R depth s → takes s ≤ depth
+ready-takes R depth (push n) h = omega arith
+ready-takes R depth (load a) h = omega arith
+ready-takes R depth (operate o) h = h
+ready-takes R depth select h = h

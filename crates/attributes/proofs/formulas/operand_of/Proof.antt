@@ -1,0 +1,161 @@
+use borrow.Author.Needs.{needs}
+use Rattle.attributes.proofs.formulas.operand_of.Statement.{statement}
+use Rattle.attributes.proofs.formulas.operand_of.Tie as tie
+use Rattle.attributes.proofs.formulas.operand_of.Reads as reads
+use Rattle.attributes.proofs.formulas.operand_of.Lts as lts
+use Rattle.attributes.proofs.formulas.own_operand.Reads as own-operand-reads
+
+-- src/formulas.rt:43:20
+enum-known-step : tie.Need-enum-known-step
+enum-known-step c = search needs
+
+-- src/formulas.rt:44:19
+enum-known-step-2 : tie.Need-enum-known-step-2
+enum-known-step-2 c = search needs
+
+-- src/formulas.rt:44:25
+own-operand-requires : tie.Need-own-operand-requires
+own-operand-requires c κs = ?
+
+-- src/formulas.rt:45:18
+enum-known-step-3 : tie.Need-enum-known-step-3
+enum-known-step-3 c = search needs
+
+-- src/formulas.rt:45:87
+sub-t15 : tie.Need-sub-t15
+sub-t15 c = ?
+
+-- src/formulas.rt:46:19
+enum-known-step-4 : tie.Need-enum-known-step-4
+enum-known-step-4 c = search needs
+
+-- src/formulas.rt:46:86
+sub-t19 : tie.Need-sub-t19
+sub-t19 c = ?
+
+-- src/formulas.rt:47:23
+enum-known-step-5 : tie.Need-enum-known-step-5
+enum-known-step-5 c = search needs
+
+-- src/formulas.rt:47:76
+sub-t22 : tie.Need-sub-t22
+sub-t22 c = ?
+
+-- src/formulas.rt:47:70
+mul-t23 : tie.Need-mul-t23
+mul-t23 c = search needs
+
+-- src/formulas.rt:47:70
+shared-slice-read-t25 : tie.Need-shared-slice-read-t25
+shared-slice-read-t25 c = ?
+
+-- src/formulas.rt:47:92
+sub-t26 : tie.Need-sub-t26
+sub-t26 c = ?
+
+-- src/formulas.rt:47:86
+mul-t27 : tie.Need-mul-t27
+mul-t27 c = search needs
+
+-- src/formulas.rt:47:86
+shared-slice-read-t29 : tie.Need-shared-slice-read-t29
+shared-slice-read-t29 c = ?
+
+-- src/formulas.rt:48:55
+enum-told : tie.Need-enum-told
+enum-told c = search needs
+
+-- src/formulas.rt:48:55
+sub-t31 : tie.Need-sub-t31
+sub-t31 c = ?
+
+-- src/formulas.rt:48:49
+mul-t32 : tie.Need-mul-t32
+mul-t32 c = search needs
+
+-- src/formulas.rt:48:49
+shared-slice-read-t34 : tie.Need-shared-slice-read-t34
+shared-slice-read-t34 c = ?
+
+-- src/formulas.rt:48:71
+sub-t35 : tie.Need-sub-t35
+sub-t35 c = ?
+
+-- src/formulas.rt:48:65
+mul-t36 : tie.Need-mul-t36
+mul-t36 c = search needs
+
+-- src/formulas.rt:48:65
+shared-slice-read-t38 : tie.Need-shared-slice-read-t38
+shared-slice-read-t38 c = ?
+
+-- src/formulas.rt:48:87
+sub-t39 : tie.Need-sub-t39
+sub-t39 c = ?
+
+-- src/formulas.rt:48:81
+mul-t40 : tie.Need-mul-t40
+mul-t40 c = search needs
+
+-- src/formulas.rt:48:81
+shared-slice-read-t42 : tie.Need-shared-slice-read-t42
+shared-slice-read-t42 c = ?
+
+-- src/formulas.rt:38:1
+returns : tie.Need-returns
+returns c = ?
+
+-- src/formulas.rt:38:1
+returns-2 : tie.Need-returns-2
+returns-2 c = ?
+
+-- src/formulas.rt:38:1
+returns-3 : tie.Need-returns-3
+returns-3 c = ?
+
+-- src/formulas.rt:38:1
+returns-4 : tie.Need-returns-4
+returns-4 c = ?
+
+-- src/formulas.rt:38:1
+returns-5 : tie.Need-returns-5
+returns-5 c = ?
+
+-- src/formulas.rt:38:1
+returns-6 : tie.Need-returns-6
+returns-6 c = ?
+
+pub operand-of-spec : {M : Type 1} → statement M
+operand-of-spec =
+    tie.close
+    (tie.spec
+    enum-known-step
+    enum-known-step-2
+    own-operand-requires
+    enum-known-step-3
+    sub-t15
+    enum-known-step-4
+    sub-t19
+    enum-known-step-5
+    sub-t22
+    mul-t23
+    shared-slice-read-t25
+    sub-t26
+    mul-t27
+    shared-slice-read-t29
+    enum-told
+    sub-t31
+    mul-t32
+    shared-slice-read-t34
+    sub-t35
+    mul-t36
+    shared-slice-read-t38
+    sub-t39
+    mul-t40
+    shared-slice-read-t42
+    returns
+    returns-2
+    returns-3
+    returns-4
+    returns-5
+    returns-6)

@@ -68,23 +68,22 @@ pub fn formula_of(
     table: &mut [u32],
     heads: &mut [u32],
     nexts: &mut [u32],
-    used: u32,
+    mut used: u32,
 ) -> Interned
     requires { ⌜ Table (now table) (now heads) (now nexts) used ⌝ }
     requires { ⌜ ((e : Expr) × (f : ℕ → Formula) × Asked (now definitions) line dot (now slots) (now table) used e f) ⌝ }
     ensures { λ r. ⌜ ((e : Expr) (f : ℕ → Formula) → Asked (now (definitions .entry)) line dot (now (slots .entry)) (now (table .entry)) used e f → Formed dot e f (now (table .entry)) used (now (table .exit)) (now (heads .exit)) (now (nexts .exit)) (r .number) (r .used)) ⌝ }
 {
     let first = 49 * line;
-    let count = definitions[first + 3] as usize;
+    let nodes = definitions[first + 3] as usize;
     let mut stack = [0u32; 16];
     let mut top: usize = 0;
-    let mut count_used = used;
     let mut i = 0;
-    while i < count {
+    while i < nodes {
         let step = step_at(definitions, first + 4 + 3 * i);
         let operand = operand_of(step, dot, slots, &stack, top);
-        let r = number_of(operand, table, heads, nexts, count_used);
-        count_used = r.used;
+        let r = number_of(operand, table, heads, nexts, used);
+        used = r.used;
         top -= operands(step);
         stack[top] = r.number;
         top += 1;
@@ -92,6 +91,6 @@ pub fn formula_of(
     }
     Interned {
         number: stack[0],
-        used: count_used,
+        used,
     }
 }

@@ -1,3 +1,4 @@
+use Rattle.attributes.specs.FormulasLaws.{numbered-known, numbered-new}
 use borrow.Author.Needs.{needs}
 use Rattle.attributes.proofs.formulas.number_of.Statement.{statement}
 use Rattle.attributes.proofs.formulas.number_of.Tie as tie
@@ -19,7 +20,7 @@ intern-requires c κs = search needs
 
 -- src/formulas.rt:52:1
 returns : tie.Need-returns
-returns c = ?
+returns c = rw (c .before .operand .given .1) (numbered-known (c .before .before .before .before .before .before .pre .0))
 
 -- src/formulas.rt:52:1
 same-length : tie.Need-same-length
@@ -35,7 +36,7 @@ same-length-3 c = search needs
 
 -- src/formulas.rt:52:1
 returns-2 : tie.Need-returns-2
-returns-2 c = ?
+returns-2 c = rw (c .before .before .before .before .before .before .before .before .before .before .before .operand2 .given .1) (numbered-new (c .before .before .before .before .before .before .intern .ensures))
 
 pub number-of-spec : {M : Type 1} → statement M
 number-of-spec =

@@ -1,14 +1,14 @@
 -- The interned formula of a definition for an item with dot D: what its steps put on a stack of numbers, what is asked of the item's slots, and what
 -- the result means (01, "Partial states and chains"). Assumes nothing.
-use Prim.Native.Nat.{ℕ, _+_, _*_, _-_, _<_, _≤_}
+use Prim.Native.Nat.{ℕ, zero, suc, _+_, _-_, _<_, _≤_}
 use mathlib.Core.Path.{_≡_}
-use mathlib.Core.Bool.{true, false}
+use mathlib.Core.Option.{Option, none, some}
 use mathlib.Core.List.{List}
-use lib.Dec.{eqb}
 use lib.ListN.{length, getD}
 use Rattle.grammar.specs.Term.{nodes, replace, Leaves}
 use Rattle.grammar.specs.Book.{Place, own, at, val, Expr}
 use Rattle.grammar.specs.Formula.{Formula, becomes, ownBelow}
+use Rattle.grammar.specs.Slots.{standing}
 use Rattle.attributes.specs.declared.nodes.Stack.the-variants.{Inherited, Synthesized}
 use Rattle.attributes.specs.declared.nodes.Leaf.the-variants.{Attribute, TokenValue}
 use Rattle.attributes.specs.declared.nodes.Node.the-variants.{Number, Leaf as OfLeaf, Both, Pick}
@@ -20,9 +20,15 @@ use Rattle.attributes.specs.Table.{ROOM, Table, Grown}
 use Rattle.attributes.specs.Meaning.{Means, Builds}
 use Rattle.attributes.specs.Steps.{ExpressionIn}
 
--- own K: the number in slot K, which is kept plus one, for an item that begins; else the leaf (inherited stack, D, attribute K)
+-- a slot's word is the number of its formula plus one, or 0; a slot that is empty reads as the number 0
+unfoldable pub slotFor : ℕ → Operand
+slotFor zero = New (Number 0)
+slotFor (suc i) = Known i
+
+-- own K: with the dot in front what stands in slot K, else the leaf (inherited stack, D, attribute K)
 unfoldable pub ownFor : ℕ → List ℕ → ℕ → Operand
-ownFor D slots K = elim (eqb D 0) [ true ↦ Known (getD slots K 0 - 1) | false ↦ New (OfLeaf (Attribute Inherited D K)) ]
+ownFor zero slots K = slotFor (getD slots K 0)
+ownFor (suc D) slots K = New (OfLeaf (Attribute Inherited (suc D) K))
 
 -- what a step puts on a stack whose `top` numbers stand in an array
 abbrev pub operandFor : ℕ → List ℕ → List ℕ → ℕ → Step → Operand
@@ -33,14 +39,9 @@ operandFor D slots stack top (Val J) = New (OfLeaf (TokenValue Synthesized (D - 
 operandFor D slots stack top (Operate o) = New (Both o (getD stack (top - 2) 0) (getD stack (top - 1) 0))
 operandFor D slots stack top Select = New (Pick (getD stack (top - 3) 0) (getD stack (top - 2) 0) (getD stack (top - 1) 0))
 
--- a slot that holds a number
-pub record Filled (slots : List ℕ) (K : ℕ) : Type 0 where
-  pub there : K < length slots
-  pub some : 1 ≤ getD slots K 0
-
--- what can be read at dot D: of the left side a slot that is filled, of the right side what stands left of the dot
+-- what can be read at dot D: of the left side a slot, of the right side what stands left of the dot
 abbrev pub Safe : ℕ → List ℕ → Place → Type 0
-Safe D slots (own K) = D ≡ 0 → Filled slots K
+Safe D slots (own K) = D ≡ 0 → K < length slots
 Safe D slots (at J K) = J ≤ D
 Safe D slots (val J) = J ≤ D
 
@@ -50,14 +51,19 @@ module _ (table : List ℕ) (used : ℕ) where
   Makes (Known i) f = Means table used i f
   Makes (New node) f = Builds table used node f
 
-  -- the formula f of own K: the one that the slot's number means, or the leaf below the item
-  pub data OwnReads (D : ℕ) (slots : List ℕ) (K : ℕ) (f : Formula) : Type 0 where
-    in-slot : D ≡ 0 → Filled slots K → Means table used (getD slots K 0 - 1) f → OwnReads D slots K f
-    below : 1 ≤ D → f ≡ ownBelow D K → OwnReads D slots K f
+  -- what stands in a slot, and its word
+  pub data SlotIn : Option Formula → ℕ → Type 0 where
+    empty : SlotIn none 0
+    full : {i : ℕ} {f : Formula} → Means table used i f → SlotIn (some f) (suc i)
+
+  -- own K reads f: the formula that stands in the slot, or the leaf below the item
+  pub data OwnReads (slots : List ℕ) (K : ℕ) : ℕ → Formula → Type 0 where
+    in-slot : {s : Option Formula} {f : Formula} → K < length slots → SlotIn s (getD slots K 0) → standing s ≡ f → OwnReads slots K zero f
+    below : {D : ℕ} {f : Formula} → ownBelow (suc D) K ≡ f → OwnReads slots K (suc D) f
 
   -- what a definition reads at dot D, where own K becomes f K
   abbrev pub Reads : ℕ → List ℕ → (ℕ → Formula) → Place → Type 0
-  Reads D slots f (own K) = OwnReads D slots K (f K)
+  Reads D slots f (own K) = OwnReads slots K D (f K)
   Reads D slots f (at J K) = J ≤ D
   Reads D slots f (val J) = J ≤ D
 
@@ -83,5 +89,5 @@ pub record Formed (D : ℕ) (e : Expr) (f : ℕ → Formula) (old : List ℕ) (u
 
 -- opens every definition of this module
 unfoldable pub opens : Unit {0}
-unfolding ownFor
+unfolding slotFor ownFor
 opens = tt

@@ -2,24 +2,24 @@
 -- Assumes nothing.
 use Prim.Native.Nat.{ℕ, zero, suc, _+_, _*_, _-_, _<_, _≤_, zero-le}
 use mathlib.Core.Path.{_≡_, refl, sym, ap, _∙_, subst}
-use mathlib.Core.Bool.{true, false}
+use mathlib.Core.Option.{Option, none, some}
 use mathlib.Core.List.{List, [], _∷_}
 use native.Mathlib.Numerals.{add-one}
 use native.Mathlib.Omega.{arith}
 use lib.ListN.{length, getD, set, drop, replicate, length-set, drop-of-length-le}
 use lib.Seq.{getD-set-same, getD-set-other, drop-cons}
-use borrow.Author.Tests.{eq-eqb, ne-eqb}
 use Rattle.grammar.specs.Limits.{MAX-NODES}
 use Rattle.grammar.specs.Term.{number, leaf, both, pick, nodes, replace, Leaves}
 use Rattle.grammar.specs.Postfix as postfix
 use Rattle.grammar.specs.Postfix.{push, load, operate, select, postfix, step, run, length-postfix}
 use Rattle.grammar.specs.Book.{Place, own, at, val, Expr}
 use Rattle.grammar.specs.Formula.{Formula, becomes, ownBelow}
+use Rattle.grammar.specs.Slots.{standing}
 use Rattle.book.specs.Held.{nodeAt}
 use Rattle.attributes.specs.declared.nodes.Stack.the-variants.{Inherited}
 use Rattle.attributes.specs.declared.nodes.Leaf.the-variants.{Attribute}
 use Rattle.attributes.specs.declared.nodes.Node.{Node}
-use Rattle.attributes.specs.declared.nodes.Node.the-variants.{Leaf as OfLeaf}
+use Rattle.attributes.specs.declared.nodes.Node.the-variants.{Number, Leaf as OfLeaf}
 use Rattle.attributes.specs.declared.steps.Step.{Step}
 use Rattle.attributes.specs.declared.steps.Step.the-variants.{Push, Own, At, Val, Operate, Select}
 use Rattle.attributes.specs.declared.formulas.Operand.the-variants.{Known, New}
@@ -28,7 +28,7 @@ use Rattle.attributes.specs.Rows.{grown-same, grown-more}
 use Rattle.attributes.specs.Meaning.{Means, Builds, a-number, a-leaf, a-both, a-pick, means-kept, means-added}
 use Rattle.attributes.specs.PostfixLaws.{replacing, run-replace, takes, Ready, Fits, fits, ready-map, ready-takes}
 use Rattle.attributes.specs.Steps.{stepOf, ExpressionIn}
-use Rattle.attributes.specs.Formulas.{ownFor, operandFor, Filled, Safe, Makes, OwnReads, in-slot, below, Reads, Numbered, Asked, Formed}
+use Rattle.attributes.specs.Formulas.{slotFor, ownFor, operandFor, Safe, Makes, SlotIn, empty, full, OwnReads, in-slot, below, Reads, Numbered, Formed}
 
 -- an operand that is known adds nothing, one that is new is interned
 pub numbered-known : {table heads nexts : List ℕ} {used i : ℕ} → Table table heads nexts used → Numbered (Known i) table used table heads nexts i used
@@ -40,38 +40,60 @@ numbered-new A = record { table = A .table; grown = A .grown; few = A .few; mean
 
 -- the numbers of a stack mean formulas, the top first
 pub data Stands (table : List ℕ) (used : ℕ) (stack : List ℕ) : ℕ → List Formula → Type 0 where
-  none : Stands table used stack 0 []
+  bare : Stands table used stack 0 []
   over : {k : ℕ} {f : Formula} {fs : List Formula} → Stands table used stack k fs → Means table used (getD stack k 0) f
       → Stands table used stack (suc k) (f ∷ fs)
+
+-- a table that grows keeps what slots hold
+pub slot-kept : {old new : List ℕ} {used count w : ℕ} {s : Option Formula} → Grown old used new count → SlotIn old used s w → SlotIn new count s w
+slot-kept G empty = empty
+slot-kept G (full m) = full (means-kept G m)
 
 -- a number that is stored above changes nothing below, nor does a table that grows
 stands-kept : {old new stack : List ℕ} {used count k i : ℕ} {fs : List Formula} (v : ℕ) → Grown old used new count → k ≤ i → Stands old used stack k fs
     → Stands new count (set stack i v) k fs
-stands-kept v G h none = none
+stands-kept v G h bare = bare
 stands-kept {stack = stack} {i = i} v G h (over {k = k} {f = f} s m) =
     over {f = f} (stands-kept v G (omega arith) s) (rw (getD-set-other stack i k v 0 (λ e. omega arith)) (means-kept G m))
 
-pub own-slot : (D : ℕ) (slots : List ℕ) (K : ℕ) → D ≡ 0 → ownFor D slots K ≡ Known (getD slots K 0 - 1)
+pub own-empty : (D : ℕ) (slots : List ℕ) (K : ℕ) → D ≡ 0 → getD slots K 0 ≡ 0 → ownFor D slots K ≡ New (Number 0)
+unfolding ownFor slotFor
+own-empty D slots K z e = rw (z, e)
+
+slot-known : (w : ℕ) → (w ≡ 0 → ⊥) → slotFor w ≡ Known (w - 1)
+unfolding slotFor
+slot-known zero n = absurd (n refl)
+slot-known (suc i) n = let e : suc i - 1 ≡ i = omega arith in rw e
+
+pub own-slot : (D : ℕ) (slots : List ℕ) (K : ℕ) → D ≡ 0 → (getD slots K 0 ≡ 0 → ⊥) → ownFor D slots K ≡ Known (getD slots K 0 - 1)
 unfolding ownFor
-own-slot D slots K z = rw (eq-eqb D 0 z, ownFor)
+own-slot D slots K z n = rw z (slot-known (getD slots K 0) n)
 
 pub own-leaf : (D : ℕ) (slots : List ℕ) (K : ℕ) → (D ≡ 0 → ⊥) → ownFor D slots K ≡ New (OfLeaf (Attribute Inherited D K))
 unfolding ownFor
-own-leaf D slots K n = rw (ne-eqb D 0 n, ownFor)
+own-leaf zero slots K n = absurd (n refl)
+own-leaf (suc D) slots K n = refl
+
+module _ (table : List ℕ) (used : ℕ) (slots : List ℕ) where
+  slot-makes : {s : Option Formula} {w : ℕ} {f : Formula} → SlotIn table used s w → standing s ≡ f → Makes table used (slotFor w) f
+  unfolding slotFor standing
+  slot-makes empty e = rw (← e) a-number
+  slot-makes (full m) e = rw e at m
+
+  own-makes : {D K : ℕ} {f : Formula} → OwnReads table used slots K D f → Makes table used (ownFor D slots K) f
+  unfolding ownFor ownBelow
+  own-makes (in-slot h s e) = slot-makes s e
+  own-makes (below e) = rw (← e) (a-leaf refl)
 
 module _ (table : List ℕ) (used D : ℕ) (slots : List ℕ) (f : ℕ → Formula) where
   pub safe : (place : Place) → Reads table used D slots f place → Safe D slots place
-  safe (own K) (in-slot z filled m) = λ _. filled
-  safe (own K) (below h e) = λ z. absurd (let y : ⊥ = omega arith in y)
+  safe (own K) r = there r
+    where
+      there : {D : ℕ} {g : Formula} → OwnReads table used slots K D g → D ≡ 0 → K < length slots
+      there (in-slot h s e) z = h
+      there (below e) z = absurd (let y : ⊥ = omega arith in y)
   safe (at J K) h = h
   safe (val J) h = h
-
-  own-makes : (K : ℕ) → OwnReads table used D slots K (f K) → Makes table used (ownFor D slots K) (f K)
-  unfolding ownBelow
-  own-makes K (in-slot z filled m) = subst (λ o. Makes table used o (f K)) (sym (own-slot D slots K z)) m
-  own-makes K (below h e) =
-      let n : D ≡ 0 → ⊥ = λ z. omega arith in
-      subst (λ o. Makes table used o (f K)) (sym (own-leaf D slots K n)) (rw e (a-leaf refl))
 
   -- what a step does to formulas, and what its operand stands for
   record Turn (stack : List ℕ) (top : ℕ) (s : Step) (fs : List Formula) : Type 0 where
@@ -89,24 +111,24 @@ module _ (table : List ℕ) (used D : ℕ) (slots : List ℕ) (f : ℕ → Formu
       record { formula = number n; rest = fs; steps = refl; stands = rw e st; makes = a-number }
   turn stack {top} {fs} (Own K) r st =
       let e : top - 0 ≡ top = omega arith in
-      record { formula = f K; rest = fs; steps = refl; stands = rw e st; makes = own-makes K r }
+      record { formula = f K; rest = fs; steps = refl; stands = rw e st; makes = own-makes table used slots r }
   turn stack {top} {fs} (At J K) r st =
       let e : top - 0 ≡ top = omega arith in
       record { formula = _; rest = fs; steps = refl; stands = rw e st; makes = a-leaf refl }
   turn stack {top} {fs} (Val J) r st =
       let e : top - 0 ≡ top = omega arith in
       record { formula = _; rest = fs; steps = refl; stands = rw e st; makes = a-leaf refl }
-  turn stack (Operate o) r none = absurd (let z : ⊥ = omega arith in z)
-  turn stack (Operate o) r (over none p) = absurd (let z : ⊥ = omega arith in z)
+  turn stack (Operate o) r bare = absurd (let z : ⊥ = omega arith in z)
+  turn stack (Operate o) r (over bare p) = absurd (let z : ⊥ = omega arith in z)
   turn stack (Operate o) r (over {f = y} (over {k = k} {f = x} {fs = fs} st p) q) =
       let e : suc (suc k) - 2 ≡ k = omega arith in
       let d : suc (suc k) - 1 ≡ suc k = omega arith in
       let first : Means table used (getD stack (suc (suc k) - 2) 0) x = rw e p in
       let second : Means table used (getD stack (suc (suc k) - 1) 0) y = rw d q in
       record { formula = _; rest = fs; steps = refl; stands = rw e st; makes = a-both refl first second }
-  turn stack Select r none = absurd (let z : ⊥ = omega arith in z)
-  turn stack Select r (over none p) = absurd (let z : ⊥ = omega arith in z)
-  turn stack Select r (over (over none p) q) = absurd (let z : ⊥ = omega arith in z)
+  turn stack Select r bare = absurd (let z : ⊥ = omega arith in z)
+  turn stack Select r (over bare p) = absurd (let z : ⊥ = omega arith in z)
+  turn stack Select r (over (over bare p) q) = absurd (let z : ⊥ = omega arith in z)
   turn stack Select r (over {f = y} (over {f = x} (over {k = k} {f = c} {fs = fs} st p) q) t) =
       let e : suc (suc (suc k)) - 3 ≡ k = omega arith in
       let d : suc (suc (suc k)) - 2 ≡ suc k = omega arith in
@@ -116,10 +138,14 @@ module _ (table : List ℕ) (used D : ℕ) (slots : List ℕ) (f : ℕ → Formu
       let third : Means table used (getD stack (suc (suc (suc k)) - 1) 0) y = rw b t in
       record { formula = _; rest = fs; steps = refl; stands = rw e st; makes = a-pick first second third }
 
+own-kept : {old new slots : List ℕ} {used count K D : ℕ} {f : Formula} → Grown old used new count → OwnReads old used slots K D f
+    → OwnReads new count slots K D f
+own-kept G (in-slot h s e) = in-slot h (slot-kept G s) e
+own-kept G (below e) = below e
+
 reads-kept : {old new : List ℕ} {used count : ℕ} (D : ℕ) (slots : List ℕ) (f : ℕ → Formula) → Grown old used new count
     → (place : Place) → Reads old used D slots f place → Reads new count D slots f place
-reads-kept D slots f G (own K) (in-slot z filled m) = in-slot z filled (means-kept G m)
-reads-kept D slots f G (own K) (below h e) = below h e
+reads-kept D slots f G (own K) r = own-kept G r
 reads-kept D slots f G (at J K) h = h
 reads-kept D slots f G (val J) h = h
 
@@ -147,7 +173,7 @@ running-start {D} {start} {slots} {old} {e = e} {f = f} T h = record {
   long = refl;
   deep = zero-le;
   formulas = [];
-  stands = none;
+  stands = bare;
   goes = run-replace (becomes D f) e;
   ready = fits (Reads old start D slots f) h;
 }
@@ -168,8 +194,8 @@ module _ {D start used top i : ℕ} {slots old new heads nexts stack : List ℕ}
       gone = let short : length (postfix e) ≤ i = omega (arith, length-postfix e) in drop-of-length-le (postfix e) short
 
       alone : {k : ℕ} {fs : List Formula} {g : Formula} → Stands new used stack k fs → fs ≡ g ∷ [] → Means new used (getD stack 0 0) g
-      alone none q = absurd (let z : _≡_ {A = ℕ} 0 1 = cc in omega arith)
-      alone {g = g} (over {f = x} none m) q = let same : x ≡ g = cc in rw same at m
+      alone bare q = absurd (let z : _≡_ {A = ℕ} 0 1 = cc in omega arith)
+      alone {g = g} (over {f = x} bare m) q = let same : x ≡ g = cc in rw same at m
       alone (over (over s m) n) q = absurd (let z : _≡_ {A = ℕ} 0 1 = cc in omega arith)
 
   module _ (less : i < nodes e) where

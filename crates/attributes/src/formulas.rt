@@ -7,7 +7,7 @@ ghost use Rattle.grammar.specs.Formula.{Formula};
 ghost use Rattle.attributes.specs.Table.{ROOM, Table};
 ghost use Rattle.attributes.specs.PostfixLaws.{Ready};
 ghost use Rattle.attributes.specs.Steps.{stepOf};
-ghost use Rattle.attributes.specs.Formulas.{ownFor, operandFor, Filled, Safe, Numbered, Asked, Formed};
+ghost use Rattle.attributes.specs.Formulas.{ownFor, operandFor, Safe, Numbered, Asked, Formed};
 use super::interning::intern;
 use super::interning::Interned;
 use super::nodes::Leaf;
@@ -23,16 +23,20 @@ pub enum Operand {
     New(Node),
 }
 
-// The attribute of the left side: an item that begins has it in a slot, any other finds it `dot` symbols below the top.
+// The attribute of the left side: an item with the dot in front has it in a slot, any other finds it `dot` symbols below the top.
 fn own_operand(attribute: u32, dot: u32, slots: &[u32]) -> Operand
-    requires { ⌜ (dot ≡ 0 → Filled (now slots) attribute) ⌝ }
+    requires { ⌜ (dot ≡ 0 → attribute < length (now slots)) ⌝ }
     ensures { λ r. ⌜ r ≡ ownFor dot (now (slots .entry)) attribute ⌝ }
 {
-    if dot == 0 {
-        let k = attribute as usize;
-        return Operand::Known(slots[k] - 1);
+    if dot != 0 {
+        return Operand::New(Node::Leaf(Leaf::Attribute(Stack::Inherited, dot, attribute)));
     }
-    Operand::New(Node::Leaf(Leaf::Attribute(Stack::Inherited, dot, attribute)))
+    let k = attribute as usize;
+    let word = slots[k];
+    if word == 0 {
+        return Operand::New(Node::Number(0));
+    }
+    Operand::Known(word - 1)
 }
 
 fn operand_of(step: Step, dot: u32, slots: &[u32], stack: &[u32], top: usize) -> Operand

@@ -1,40 +1,31 @@
-use Rattle.attributes.specs.FormulasLaws.{numbered-known, numbered-new}
+-- `formulas::number_of` meets its contract: a number that is known stands for itself, a node is interned.
+-- Assumes nothing.
 use borrow.Author.Needs.{needs}
+use Rattle.attributes.specs.FormulasLaws.{numbered-known, numbered-new}
 use Rattle.attributes.proofs.formulas.number_of.Statement.{statement}
 use Rattle.attributes.proofs.formulas.number_of.Tie as tie
-use Rattle.attributes.proofs.formulas.number_of.Reads as reads
-use Rattle.attributes.proofs.formulas.number_of.Lts as lts
-use Rattle.attributes.proofs.interning.intern.Reads as intern-reads
 
--- src/formulas.rt:57:24
 enum-known-operand : tie.Need-enum-known-operand
 enum-known-operand c = search needs
 
--- src/formulas.rt:58:22
 enum-known-operand-2 : tie.Need-enum-known-operand-2
 enum-known-operand-2 c = search needs
 
--- src/formulas.rt:58:31
 intern-requires : tie.Need-intern-requires
 intern-requires c κs = search needs
 
--- src/formulas.rt:52:1
 returns : tie.Need-returns
 returns c = rw (c .before .operand .given .1) (numbered-known (c .before .before .before .before .before .before .pre .0))
 
--- src/formulas.rt:52:1
 same-length : tie.Need-same-length
 same-length c = search needs
 
--- src/formulas.rt:52:1
 same-length-2 : tie.Need-same-length-2
 same-length-2 c = search needs
 
--- src/formulas.rt:52:1
 same-length-3 : tie.Need-same-length-3
 same-length-3 c = search needs
 
--- src/formulas.rt:52:1
 returns-2 : tie.Need-returns-2
 returns-2 c = rw (c .before .before .before .before .before .before .before .before .before .before .before .operand2 .given .1) (numbered-new (c .before .before .before .before .before .before .intern .ensures))
 

@@ -1,32 +1,26 @@
+-- `formulas::own_operand` meets its contract, by the dot and the slot's word.
+-- Assumes nothing.
 use mathlib.Core.Path.{sym}
-use Rattle.attributes.specs.FormulasLaws.{own-empty, own-slot, own-leaf}
 use borrow.Author.Needs.{needs}
+use Rattle.attributes.specs.FormulasLaws.{own-empty, own-slot, own-leaf}
 use Rattle.attributes.proofs.formulas.own_operand.Statement.{statement}
 use Rattle.attributes.proofs.formulas.own_operand.Tie as tie
-use Rattle.attributes.proofs.formulas.own_operand.Reads as reads
-use Rattle.attributes.proofs.formulas.own_operand.Lts as lts
 
--- src/formulas.rt:32:9
 returns : tie.Need-returns
 returns c = sym (own-leaf _ (c .before .args .slots .now) _ (c .if1 .taken))
 
--- src/formulas.rt:35:16
 mul-word : tie.Need-mul-word
 mul-word c = search needs
 
--- src/formulas.rt:35:16
 shared-slice-read-word : tie.Need-shared-slice-read-word
 shared-slice-read-word c = c .before .before .pre (c .before .if1 .left)
 
--- src/formulas.rt:37:9
 returns-2 : tie.Need-returns-2
 returns-2 c = sym (own-empty _ (c .before .before .before .args .slots .now) _ (c .before .before .if1 .left) (c .if2 .taken))
 
--- src/formulas.rt:39:20
 sub-t12 : tie.Need-sub-t12
 sub-t12 c = search needs
 
--- src/formulas.rt:27:1
 returns-3 : tie.Need-returns-3
 returns-3 c = sym (own-slot _ (c .before .before .before .args .slots .now) _ (c .before .before .if1 .left) (c .if2 .left))
 

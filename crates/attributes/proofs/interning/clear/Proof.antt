@@ -1,6 +1,7 @@
-
+-- `interning::clear` meets its contract: the heads passed are 0.
+-- Assumes nothing.
 use Prim.Native.Nat.{_-_, _≤_, _<_}
-use mathlib.Core.Path.{_≡_, refl, ap, _∙_}
+use mathlib.Core.Path.{_≡_, refl}
 use mathlib.Core.List.{[], _++_}
 use native.Mathlib.Omega.{arith}
 use lib.ListN.{length, drop, replicate, length-set, drop-of-length-le}
@@ -8,8 +9,6 @@ use borrow.Author.Fill.{fill-more}
 use borrow.Author.Needs.{needs}
 use Rattle.attributes.proofs.interning.clear.Statement.{statement}
 use Rattle.attributes.proofs.interning.clear.Tie as tie
-use Rattle.attributes.proofs.interning.clear.Reads as reads
-use Rattle.attributes.proofs.interning.clear.Lts as lts
 
 abbrev Inv-loop : tie.InvT-loop
 Inv-loop heads₀ i₀ heads i = (i ≤ 64) × (length heads ≡ length heads₀) × (heads ≡ replicate i 0 ++ drop i heads₀)
@@ -17,38 +16,30 @@ Inv-loop heads₀ i₀ heads i = (i ≤ 64) × (length heads ≡ length heads₀
 abbrev μ-loop : tie.MeasureT-loop
 μ-loop heads₀ i₀ heads i = 64 - i
 
--- src/interning.rt:23:5
 loop-holds : tie.Need-loop-holds Inv-loop μ-loop
 loop-holds c = (omega arith, refl, refl)
 
--- src/interning.rt:24:9
 mul-heads : tie.Need-mul-heads Inv-loop μ-loop
 mul-heads c = search needs
 
--- src/interning.rt:24:9
 slice-write-heads : tie.Need-slice-write-heads Inv-loop μ-loop
 slice-write-heads c = search needs
 
--- src/interning.rt:25:9
 add-i : tie.Need-add-i Inv-loop μ-loop
 add-i c = search needs
 
--- src/interning.rt:23:5
 loop-less : tie.Need-loop-less Inv-loop μ-loop
 loop-less c = search needs
 
--- src/interning.rt:23:5
 loop-again : tie.Need-loop-again Inv-loop μ-loop
 loop-again c = let at = c .before .loop in
     let a = c .before .before .args in
     let h : at .i < length (a .heads .now) = omega arith in
     (omega arith, simp length-set (at .inv .1), rw (at .inv .2) (fill-more (at .i) 0 (a .heads .now) h))
 
--- src/interning.rt:18:1
 same-length : tie.Need-same-length Inv-loop μ-loop
 same-length c = search needs
 
--- src/interning.rt:18:1
 returns : tie.Need-returns Inv-loop μ-loop
 returns c = let at = c .before .loop in
     let a = c .before .before .args in

@@ -1,72 +1,53 @@
-use mathlib.Core.Path.{_≡_, sym, _∙_}
+-- `interning::intern` meets its contract: the row is found, or it becomes the last.
+-- Assumes nothing.
+use mathlib.Core.Path.{_≡_, _∙_}
 use native.Mathlib.Omega.{arith}
+use borrow.Author.Needs.{needs}
 use Rattle.attributes.specs.Nodes.{shown}
 use Rattle.attributes.specs.Buckets.{hash-low, found, added}
-use borrow.Author.Needs.{needs}
 use Rattle.attributes.proofs.interning.intern.Statement.{statement}
 use Rattle.attributes.proofs.interning.intern.Tie as tie
-use Rattle.attributes.proofs.interning.intern.Reads as reads
-use Rattle.attributes.proofs.interning.intern.Lts as lts
-use Rattle.attributes.proofs.interning.find.Reads as find-reads
-use Rattle.attributes.proofs.interning.hash.Reads as hash-reads
-use Rattle.attributes.proofs.interning.link.Reads as link-reads
-use Rattle.attributes.proofs.interning.put_row.Reads as put-row-reads
-use Rattle.attributes.proofs.nodes.row_of.Reads as row-of-reads
 
--- src/interning.rt:100:9
 row-of-requires : tie.Need-row-of-requires
 row-of-requires c κs = search needs
 
--- src/interning.rt:101:9
 hash-requires : tie.Need-hash-requires
 hash-requires c κs = search needs
 
--- src/interning.rt:102:9
 find-requires : tie.Need-find-requires
 find-requires c κs = search needs
 
--- src/interning.rt:104:9
 same-length : tie.Need-same-length
 same-length c = search needs
 
--- src/interning.rt:104:9
 same-length-2 : tie.Need-same-length-2
 same-length-2 c = search needs
 
--- src/interning.rt:104:9
 same-length-3 : tie.Need-same-length-3
 same-length-3 c = search needs
 
--- src/interning.rt:104:9
 returns : tie.Need-returns
 returns c = found (c .before .before .before .before .before .before .before .before .before .before .pre .0) (c .if1 .taken) (c .before .find .ensures .hit (c .if1 .taken) ∙ c .before .before .before .before .before .before .row-of .ensures)
 
--- src/interning.rt:106:5
 put-row-requires : tie.Need-put-row-requires
 put-row-requires c κs = search needs
 
--- src/interning.rt:107:5
 link-requires : tie.Need-link-requires
 link-requires c κs = let s = c .before .before .before .before .before .before .before .before .before .before .before .before .before .before .before .before in
     (s .pre .0 .heads-long, s .pre .0 .nexts-long, s .pre .1, omega (arith, c .before .before .before .before .before .before .before .before .before .before .before .hash .ensures, hash-low (shown (c .before .before .before .before .before .before .before .before .before .before .before .before .row-of .result))))
 
--- src/interning.rt:108:36
 add-t24 : tie.Need-add-t24
 add-t24 c = search needs
 
--- src/interning.rt:96:1
 same-length-4 : tie.Need-same-length-4
 same-length-4 c = search needs
 
--- src/interning.rt:96:1
 same-length-5 : tie.Need-same-length-5
 same-length-5 c = search needs
 
--- src/interning.rt:96:1
 same-length-6 : tie.Need-same-length-6
 same-length-6 c = search needs
 
--- src/interning.rt:96:1
 returns-2 : tie.Need-returns-2
 returns-2 c = let s = c .before .before .before .before .before .before .before .before .before .before .before .before .before .before .before .before .before .before .before .before .before in
     let r = c .before .before .before .before .before .before .before .before .before .before .before .before .before .before .before .before .before .row-of in

@@ -1,66 +1,52 @@
+-- `interning::put_row` meets its contract by its definition.
+-- Assumes nothing.
+use mathlib.Core.Path.{refl}
 use native.Mathlib.Omega.{arith}
 use lib.ListN.{length-set}
-use Rattle.attributes.specs.Table.{stored}
-use mathlib.Core.Path.{refl}
 use borrow.Author.Needs.{needs}
+use Rattle.attributes.specs.Table.{stored}
 use Rattle.attributes.proofs.interning.put_row.Statement.{statement}
 use Rattle.attributes.proofs.interning.put_row.Tie as tie
-use Rattle.attributes.proofs.interning.put_row.Reads as reads
-use Rattle.attributes.proofs.interning.put_row.Lts as lts
 
--- src/interning.rt:77:14
 mul-at : tie.Need-mul-at
 mul-at c = search needs
 
--- src/interning.rt:78:5
 mul-table : tie.Need-mul-table
 mul-table c = search needs
 
--- src/interning.rt:78:5
 slice-write-table : tie.Need-slice-write-table
 slice-write-table c = search needs
 
--- src/interning.rt:79:11
 add-table : tie.Need-add-table
 add-table c = search needs
 
--- src/interning.rt:79:5
 mul-table-2 : tie.Need-mul-table-2
 mul-table-2 c = search needs
 
--- src/interning.rt:79:5
 slice-write-table-2 : tie.Need-slice-write-table-2
 slice-write-table-2 c = simp length-set (omega arith)
 
--- src/interning.rt:80:11
 add-table-2 : tie.Need-add-table-2
 add-table-2 c = search needs
 
--- src/interning.rt:80:5
 mul-table-3 : tie.Need-mul-table-3
 mul-table-3 c = search needs
 
--- src/interning.rt:80:5
 slice-write-table-3 : tie.Need-slice-write-table-3
 slice-write-table-3 c = simp length-set (omega arith)
 
--- src/interning.rt:81:11
 add-table-3 : tie.Need-add-table-3
 add-table-3 c = search needs
 
--- src/interning.rt:81:5
 mul-table-4 : tie.Need-mul-table-4
 mul-table-4 c = search needs
 
--- src/interning.rt:81:5
 slice-write-table-4 : tie.Need-slice-write-table-4
 slice-write-table-4 c = simp length-set (omega arith)
 
--- src/interning.rt:73:1
 same-length : tie.Need-same-length
 same-length c = search needs
 
--- src/interning.rt:73:1
 returns : tie.Need-returns
 unfolding stored
 returns c = refl

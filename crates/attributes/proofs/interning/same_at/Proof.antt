@@ -1,76 +1,58 @@
-use mathlib.Core.Path.{_≡_}
-use Rattle.attributes.specs.Rows.{is-same, not-same}
+-- `interning::same_at` meets its contract: all four words are compared.
+-- Assumes nothing.
 use borrow.Author.Needs.{needs}
+use Rattle.attributes.specs.Rows.{is-same, not-same}
 use Rattle.attributes.proofs.interning.same_at.Statement.{statement}
 use Rattle.attributes.proofs.interning.same_at.Tie as tie
-use Rattle.attributes.proofs.interning.same_at.Reads as reads
-use Rattle.attributes.proofs.interning.same_at.Lts as lts
 
--- src/interning.rt:40:14
 mul-at : tie.Need-mul-at
 mul-at c = search needs
 
--- src/interning.rt:41:8
 mul-if1 : tie.Need-mul-if1
 mul-if1 c = search needs
 
--- src/interning.rt:41:8
 shared-slice-read-if1 : tie.Need-shared-slice-read-if1
 shared-slice-read-if1 c = search needs
 
--- src/interning.rt:42:9
 returns : tie.Need-returns
 returns c = not-same (λ e. c .if1 .taken (cc))
 
--- src/interning.rt:44:14
 add-if2 : tie.Need-add-if2
 add-if2 c = search needs
 
--- src/interning.rt:44:8
 mul-if2 : tie.Need-mul-if2
 mul-if2 c = search needs
 
--- src/interning.rt:44:8
 shared-slice-read-if2 : tie.Need-shared-slice-read-if2
 shared-slice-read-if2 c = search needs
 
--- src/interning.rt:45:9
 returns-2 : tie.Need-returns-2
 returns-2 c = not-same (λ e. c .if2 .taken (cc))
 
--- src/interning.rt:47:14
 add-if3 : tie.Need-add-if3
 add-if3 c = search needs
 
--- src/interning.rt:47:8
 mul-if3 : tie.Need-mul-if3
 mul-if3 c = search needs
 
--- src/interning.rt:47:8
 shared-slice-read-if3 : tie.Need-shared-slice-read-if3
 shared-slice-read-if3 c = search needs
 
--- src/interning.rt:48:9
 returns-3 : tie.Need-returns-3
 returns-3 c = not-same (λ e. c .if3 .taken (cc))
 
--- src/interning.rt:50:14
 add-if4 : tie.Need-add-if4
 add-if4 c = search needs
 
--- src/interning.rt:50:8
 mul-if4 : tie.Need-mul-if4
 mul-if4 c = search needs
 
--- src/interning.rt:50:8
 shared-slice-read-if4 : tie.Need-shared-slice-read-if4
 shared-slice-read-if4 c = search needs
 
--- src/interning.rt:51:9
 returns-4 : tie.Need-returns-4
 returns-4 c = not-same (λ e. c .if4 .taken (cc))
 
--- src/interning.rt:36:1
 returns-5 : tie.Need-returns-5
 returns-5 c = let e0 = c .before .before .before .before .before .before .before .before .before .if1 .left in
     let e1 = c .before .before .before .before .before .before .if2 .left in

@@ -1,49 +1,36 @@
-
+-- `nodes::row_of` meets its contract: each arm knows which node it has.
+-- Assumes nothing.
 use borrow.Author.Needs.{needs}
 use Rattle.attributes.proofs.nodes.row_of.Statement.{statement}
 use Rattle.attributes.proofs.nodes.row_of.Tie as tie
-use Rattle.attributes.proofs.nodes.row_of.Reads as reads
-use Rattle.attributes.proofs.nodes.row_of.Lts as lts
-use Rattle.attributes.proofs.nodes.leaf_row.Reads as leaf-row-reads
-use Rattle.attributes.proofs.nodes.operator_kind.Reads as operator-kind-reads
 
--- src/nodes.rt:70:22
 enum-known-node : tie.Need-enum-known-node
 enum-known-node c = search needs
 
--- src/nodes.rt:71:20
 enum-known-node-2 : tie.Need-enum-known-node-2
 enum-known-node-2 c = search needs
 
--- src/nodes.rt:71:29
 leaf-row-requires : tie.Need-leaf-row-requires
 leaf-row-requires c κs = search needs
 
--- src/nodes.rt:72:20
 enum-known-node-3 : tie.Need-enum-known-node-3
 enum-known-node-3 c = search needs
 
--- src/nodes.rt:72:51
 operator-kind-requires : tie.Need-operator-kind-requires
 operator-kind-requires c κs = search needs
 
--- src/nodes.rt:73:20
 enum-known-node-4 : tie.Need-enum-known-node-4
 enum-known-node-4 c = search needs
 
--- src/nodes.rt:66:1
 returns : tie.Need-returns
 returns c = rw (c .before .node .given .1)
 
--- src/nodes.rt:66:1
 returns-2 : tie.Need-returns-2
 returns-2 c = rw (c .before .before .node2 .given .1) (c .leaf-row .ensures)
 
--- src/nodes.rt:66:1
 returns-3 : tie.Need-returns-3
 returns-3 c = rw (c .before .before .node3 .given .1, c .operator-kind .ensures)
 
--- src/nodes.rt:66:1
 returns-4 : tie.Need-returns-4
 returns-4 c = rw (c .before .node4 .given .1)
 

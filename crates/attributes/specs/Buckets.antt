@@ -3,7 +3,7 @@
 use Prim.Native.Nat.{ℕ, zero, suc, _+_, _*_, _-_, _<_, _≤_}
 use mathlib.Core.Path.{_≡_, refl, sym, ap, _∙_}
 use mathlib.Core.Bool.{Bool, true, false}
-use mathlib.Core.List.{List, []}
+use mathlib.Core.List.{List}
 use native.Mathlib.Numerals.{add-one}
 use native.Mathlib.Omega.{arith}
 use lib.Dec.{eqb, leb}
@@ -14,7 +14,7 @@ use borrow.Author.Tests.{eq-eqb, ne-eqb, eqb-true, eqb-false, leb-true, leb-fals
 use Rattle.attributes.specs.declared.nodes.Node.{Node}
 use Rattle.attributes.specs.declared.nodes.Row.{Row}
 use Rattle.attributes.specs.Nodes.{shown, rowOf}
-use Rattle.attributes.specs.Table.{ROOM, HEADS, rowAt, stored, hashOf, hashAt, lastWith, Table, Grown, Added, Found}
+use Rattle.attributes.specs.Table.{ROOM, HEADS, rowAt, stored, hashOf, hashAt, lastWith, Table, Added, Found}
 use Rattle.attributes.specs.Rows.{length-stored, row-other, row-here, grown-same}
 
 pub hash-low : (row : List ℕ) → hashOf row < HEADS

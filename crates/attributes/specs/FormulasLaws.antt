@@ -1,17 +1,16 @@
 -- Laws of a run over a definition's steps with a stack of numbers: at each step the numbers mean the formulas that the same run builds of terms.
 -- Assumes nothing.
-use Prim.Native.Nat.{ℕ, zero, suc, _+_, _*_, _-_, _<_, _≤_, zero-le}
-use mathlib.Core.Path.{_≡_, refl, sym, ap, _∙_, subst}
-use mathlib.Core.Option.{Option, none, some}
+use Prim.Native.Nat.{ℕ, zero, suc, _+_, _-_, _<_, _≤_, zero-le}
+use mathlib.Core.Path.{_≡_, refl, sym, ap, _∙_}
+use mathlib.Core.Option.{Option}
 use mathlib.Core.List.{List, [], _∷_}
 use native.Mathlib.Numerals.{add-one}
 use native.Mathlib.Omega.{arith}
 use lib.ListN.{length, getD, set, drop, replicate, length-set, drop-of-length-le}
 use lib.Seq.{getD-set-same, getD-set-other, drop-cons}
 use Rattle.grammar.specs.Limits.{MAX-NODES}
-use Rattle.grammar.specs.Term.{number, leaf, both, pick, nodes, replace, Leaves}
-use Rattle.grammar.specs.Postfix as postfix
-use Rattle.grammar.specs.Postfix.{push, load, operate, select, postfix, step, run, length-postfix}
+use Rattle.grammar.specs.Term.{number, nodes, replace, Leaves}
+use Rattle.grammar.specs.Postfix.{select, postfix, step, run, length-postfix}
 use Rattle.grammar.specs.Book.{Place, own, at, val, Expr}
 use Rattle.grammar.specs.Formula.{Formula, becomes, ownBelow}
 use Rattle.grammar.specs.Slots.{standing}
@@ -23,11 +22,11 @@ use Rattle.attributes.specs.declared.nodes.Node.the-variants.{Number, Le
 use Rattle.attributes.specs.declared.steps.Step.{Step}
 use Rattle.attributes.specs.declared.steps.Step.the-variants.{Push, Own, At, Val, Operate, Select}
 use Rattle.attributes.specs.declared.formulas.Operand.the-variants.{Known, New}
-use Rattle.attributes.specs.Table.{ROOM, Table, Grown, Added}
+use Rattle.attributes.specs.Table.{Table, Grown, Added}
 use Rattle.attributes.specs.Rows.{grown-same, grown-more}
-use Rattle.attributes.specs.Meaning.{Means, Builds, a-number, a-leaf, a-both, a-pick, means-kept, means-added}
+use Rattle.attributes.specs.Meaning.{Means, a-number, a-leaf, a-both, a-pick, means-kept, means-added}
 use Rattle.attributes.specs.PostfixLaws.{replacing, run-replace, takes, Ready, Fits, fits, ready-map, ready-takes}
-use Rattle.attributes.specs.Steps.{stepOf, ExpressionIn}
+use Rattle.attributes.specs.Steps.{stepOf}
 use Rattle.attributes.specs.Formulas.{slotFor, ownFor, operandFor, Safe, Makes, SlotIn, empty, full, OwnReads, in-slot, below, Reads, Numbered, Formed}
 
 -- an operand that is known adds nothing, one that is new is interned

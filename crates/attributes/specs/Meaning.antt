@@ -1,6 +1,6 @@
 -- The formulas that the numbers of a table mean. Equal formulas have equal numbers, equal numbers mean equal formulas, and a table that grows keeps
 -- what its numbers mean. Assumes nothing.
-use Prim.Native.Nat.{ℕ, _+_, _<_, _≤_}
+use Prim.Native.Nat.{ℕ, _<_}
 use mathlib.Core.Path.{_≡_, refl, sym, ap, _∙_, subst}
 use mathlib.Core.List.{List}
 use native.Mathlib.Omega.{arith}

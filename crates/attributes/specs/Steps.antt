@@ -1,15 +1,15 @@
 -- The steps of a definition, read from its line (book's Layout and Held). Assumes nothing.
 use Prim.Native.Nat.{ℕ, _+_, _*_, _<_, _≤_}
-use mathlib.Core.Path.{_≡_, refl, sym, _∙_}
+use mathlib.Core.Path.{_≡_, refl}
 use mathlib.Core.List.{List, [], _∷_}
 use native.Mathlib.Omega.{arith}
 use lib.ListN.{length, getD, List·getD-eq-default}
-use Rattle.grammar.specs.Limits.{MAX-NODES, MAX-DEFINITIONS}
+use Rattle.grammar.specs.Limits.{MAX-NODES}
 use Rattle.grammar.specs.Term.{nodes, add, sub, min, max}
 use Rattle.grammar.specs.Postfix as postfix
 use Rattle.grammar.specs.Postfix.{push, load, operate, select}
 use Rattle.grammar.specs.Book.{Place, own, at, val, Expr, InheritedDefinition, SynthesizedDefinition}
-use Rattle.book.specs.Held.{nodeKind, nodeFirst, nodeSecond, nodeAt, NodeIn, DefinitionIn, DefinitionsIn, inheritedAt}
+use Rattle.book.specs.Held.{nodeKind, nodeFirst, nodeSecond, nodeAt, NodeIn, DefinitionsIn, inheritedAt}
 use Rattle.attributes.specs.declared.steps.Step.{Step}
 use Rattle.attributes.specs.declared.steps.Step.the-variants.{Push, Own, At, Val, Operate, Select}
 use Rattle.attributes.specs.Nodes.{operatorOf}

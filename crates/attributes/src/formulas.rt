@@ -8,14 +8,14 @@ ghost use Rattle.attributes.specs.Table.{ROOM, Table};
 ghost use Rattle.attributes.specs.PostfixLaws.{Ready};
 ghost use Rattle.attributes.specs.Steps.{stepOf};
 ghost use Rattle.attributes.specs.Formulas.{ownFor, operandFor, Safe, Numbered, Asked, Formed};
-use super::interning::intern;
 use super::interning::Interned;
+use super::interning::intern;
 use super::nodes::Leaf;
 use super::nodes::Node;
 use super::nodes::Stack;
+use super::steps::Step;
 use super::steps::operands;
 use super::steps::step_at;
-use super::steps::Step;
 
 // What a step puts on the stack: the number of a formula, or a node that is still to be interned.
 pub enum Operand {
@@ -39,6 +39,7 @@ fn own_operand(attribute: u32, dot: u32, slots: &[u32]) -> Operand
     Operand::Known(word - 1)
 }
 
+// What a step puts on a stack of `top` numbers. Right symbol j stands `dot - j` symbols below the top.
 fn operand_of(step: Step, dot: u32, slots: &[u32], stack: &[u32], top: usize) -> Operand
     requires { ⌜ Ready (Safe dot (now slots)) top (stepOf step) × (top ≤ length (now stack)) ⌝ }
     ensures { λ r. ⌜ r ≡ operandFor dot (now (slots .entry)) (now (stack .entry)) top step ⌝ }
@@ -48,12 +49,19 @@ fn operand_of(step: Step, dot: u32, slots: &[u32], stack: &[u32], top: usize) ->
         Step::Own(k) => own_operand(k, dot, slots),
         Step::At(j, k) => Operand::New(Node::Leaf(Leaf::Attribute(Stack::Synthesized, dot - j, k))),
         Step::Val(j) => Operand::New(Node::Leaf(Leaf::TokenValue(Stack::Synthesized, dot - j))),
-        Step::Operate(operator) => Operand::New(Node::Both(operator, stack[top - 2], stack[top - 1])),
+        Step::Operate(o) => Operand::New(Node::Both(o, stack[top - 2], stack[top - 1])),
         Step::Select => Operand::New(Node::Pick(stack[top - 3], stack[top - 2], stack[top - 1])),
     }
 }
 
-fn number_of(operand: Operand, table: &mut [u32], heads: &mut [u32], nexts: &mut [u32], used: u32) -> Interned
+// The number of an operand; a node is interned.
+fn number_of(
+    operand: Operand,
+    table: &mut [u32],
+    heads: &mut [u32],
+    nexts: &mut [u32],
+    used: u32,
+) -> Interned
     requires { ⌜ Table (now table) (now heads) (now nexts) used × (used < ROOM) ⌝ }
     ensures { λ r. ⌜ Numbered operand (now (table .entry)) used (now (table .exit)) (now (heads .exit)) (now (nexts .exit)) (r .number) (r .used) ⌝ }
 {
@@ -76,7 +84,8 @@ pub fn formula_of(
 ) -> Interned
     requires { ⌜ Table (now table) (now heads) (now nexts) used ⌝ }
     requires { ⌜ ((e : Expr) × (f : ℕ → Formula) × Asked (now definitions) line dot (now slots) (now table) used e f) ⌝ }
-    ensures { λ r. ⌜ ((e : Expr) (f : ℕ → Formula) → Asked (now (definitions .entry)) line dot (now (slots .entry)) (now (table .entry)) used e f → Formed dot e f (now (table .entry)) used (now (table .exit)) (now (heads .exit)) (now (nexts .exit)) (r .number) (r .used)) ⌝ }
+    ensures { λ r. ⌜ ((e : Expr) (f : ℕ → Formula) → Asked (now (definitions .entry)) line dot (now (slots .entry)) (now (table .entry)) used e f
+        → Formed dot e f (now (table .entry)) used (now (table .exit)) (now (heads .exit)) (now (nexts .exit)) (r .number) (r .used)) ⌝ }
 {
     let first = 49 * line;
     let nodes = definitions[first + 3] as usize;

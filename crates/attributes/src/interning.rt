@@ -4,9 +4,9 @@ ghost use Prim.Native.Nat.{_+_, _*_, _<_, _≤_};
 ghost use lib.ListN.{length, getD, set, replicate};
 ghost use Rattle.attributes.specs.Nodes.{shown};
 ghost use Rattle.attributes.specs.Table.{ROOM, HEADS, hashOf, stored, Table, Added, Same, Found};
-use super::nodes::row_of;
 use super::nodes::Node;
 use super::nodes::Row;
+use super::nodes::row_of;
 
 // The number of a node, and how many nodes the table has then.
 pub struct Interned {
@@ -29,7 +29,8 @@ pub fn clear(heads: &mut [u32])
 fn hash(row: Row) -> usize
     ensures { λ r. ⌜ r ≡ hashOf (shown row) ⌝ }
 {
-    (row.kind as usize + 3 * row.first as usize + 5 * row.second as usize + 7 * row.third as usize) % 64
+    (row.kind as usize + 3 * row.first as usize + 5 * row.second as usize + 7 * row.third as usize)
+        % 64
 }
 
 // Whether row i is this one.
@@ -93,7 +94,13 @@ fn link(heads: &mut [u32], nexts: &mut [u32], number: u32, bucket: usize)
 }
 
 // The number of the node; a node that is not in the table becomes its last.
-pub fn intern(table: &mut [u32], heads: &mut [u32], nexts: &mut [u32], used: u32, node: Node) -> Interned
+pub fn intern(
+    table: &mut [u32],
+    heads: &mut [u32],
+    nexts: &mut [u32],
+    used: u32,
+    node: Node,
+) -> Interned
     requires { ⌜ Table (now table) (now heads) (now nexts) used × (used < ROOM) ⌝ }
     ensures { λ r. ⌜ Added node (now (table .entry)) used (now (table .exit)) (now (heads .exit)) (now (nexts .exit)) (r .number) (r .used) ⌝ }
 {
@@ -105,5 +112,8 @@ pub fn intern(table: &mut [u32], heads: &mut [u32], nexts: &mut [u32], used: u32
     }
     put_row(table, used as usize, row);
     link(heads, nexts, used, bucket);
-    Interned { number: used, used: used + 1 }
+    Interned {
+        number: used,
+        used: used + 1,
+    }
 }

@@ -41,12 +41,32 @@ fn leaf_row(leaf: Leaf) -> Row
 {
     match leaf {
         Leaf::Attribute(stack, offset, attribute) => match stack {
-            Stack::Inherited => Row { kind: 1, first: offset, second: attribute, third: 0 },
-            Stack::Synthesized => Row { kind: 2, first: offset, second: attribute, third: 0 },
+            Stack::Inherited => Row {
+                kind: 1,
+                first: offset,
+                second: attribute,
+                third: 0,
+            },
+            Stack::Synthesized => Row {
+                kind: 2,
+                first: offset,
+                second: attribute,
+                third: 0,
+            },
         },
         Leaf::TokenValue(stack, offset) => match stack {
-            Stack::Inherited => Row { kind: 3, first: offset, second: 0, third: 0 },
-            Stack::Synthesized => Row { kind: 4, first: offset, second: 0, third: 0 },
+            Stack::Inherited => Row {
+                kind: 3,
+                first: offset,
+                second: 0,
+                third: 0,
+            },
+            Stack::Synthesized => Row {
+                kind: 4,
+                first: offset,
+                second: 0,
+                third: 0,
+            },
         },
     }
 }
@@ -67,9 +87,24 @@ pub fn row_of(node: Node) -> Row
     ensures { λ r. ⌜ shown r ≡ rowOf node ⌝ }
 {
     match node {
-        Node::Number(n) => Row { kind: 0, first: n, second: 0, third: 0 },
+        Node::Number(n) => Row {
+            kind: 0,
+            first: n,
+            second: 0,
+            third: 0,
+        },
         Node::Leaf(leaf) => leaf_row(leaf),
-        Node::Both(operator, x, y) => Row { kind: operator_kind(operator), first: x, second: y, third: 0 },
-        Node::Pick(c, x, y) => Row { kind: 9, first: c, second: x, third: y },
+        Node::Both(operator, x, y) => Row {
+            kind: operator_kind(operator),
+            first: x,
+            second: y,
+            third: 0,
+        },
+        Node::Pick(c, x, y) => Row {
+            kind: 9,
+            first: c,
+            second: x,
+            third: y,
+        },
     }
 }

@@ -37,7 +37,11 @@ pub fn step_at(definitions: &[u32], place: usize) -> Step
     requires { ⌜ place + 3 ≤ length (now definitions) ⌝ }
     ensures { λ r. ⌜ stepOf r ≡ stepIn (now (definitions .entry)) place ⌝ }
 {
-    step_with(definitions[place], definitions[place + 1], definitions[place + 2])
+    step_with(
+        definitions[place],
+        definitions[place + 1],
+        definitions[place + 2],
+    )
 }
 
 // How many operands a step takes.

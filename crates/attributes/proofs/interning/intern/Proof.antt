@@ -8,6 +8,10 @@ use Rattle.attributes.specs.Buckets.{hash-low, found, added}
 use Rattle.attributes.proofs.interning.intern.Statement.{statement}
 use Rattle.attributes.proofs.interning.intern.Tie as tie
 
+-- the entry, as the place after the search knows it
+abbrev entry : tie.After-find → tie.Start
+entry c = c .before .before .before .before .before .before .before .before .before
+
 row-of-requires : tie.Need-row-of-requires
 row-of-requires c κs = search needs
 
@@ -27,14 +31,18 @@ same-length-3 : tie.Need-same-length-3
 same-length-3 c = search needs
 
 returns : tie.Need-returns
-returns c = found (c .before .before .before .before .before .before .before .before .before .before .pre .0) (c .if1 .taken) (c .before .find .ensures .hit (c .if1 .taken) ∙ c .before .before .before .before .before .before .row-of .ensures)
+returns c =
+    let f = c .before in
+    found (entry f .pre .0) (c .if1 .taken) (f .find .ensures .hit (c .if1 .taken) ∙ f .before .before .before .before .before .row-of .ensures)
 
 put-row-requires : tie.Need-put-row-requires
 put-row-requires c κs = search needs
 
 link-requires : tie.Need-link-requires
-link-requires c κs = let s = c .before .before .before .before .before .before .before .before .before .before .before .before .before .before .before .before in
-    (s .pre .0 .heads-long, s .pre .0 .nexts-long, s .pre .1, omega (arith, c .before .before .before .before .before .before .before .before .before .before .before .hash .ensures, hash-low (shown (c .before .before .before .before .before .before .before .before .before .before .before .before .row-of .result))))
+link-requires c κs =
+    let f = c .before .before .before .before .before .before .before in
+    let T = entry f .pre .0 in
+    (T .heads-long, T .nexts-long, entry f .pre .1, omega (arith, f .before .before .before .before .hash .ensures, hash-low (shown (f .before .before .before .before .before .row-of .result))))
 
 add-t24 : tie.Need-add-t24
 add-t24 c = search needs
@@ -49,12 +57,14 @@ same-length-6 : tie.Need-same-length-6
 same-length-6 c = search needs
 
 returns-2 : tie.Need-returns-2
-returns-2 c = let s = c .before .before .before .before .before .before .before .before .before .before .before .before .before .before .before .before .before .before .before .before .before in
-    let r = c .before .before .before .before .before .before .before .before .before .before .before .before .before .before .before .before .before .row-of in
-    let f = c .before .before .before .before .before .before .before .before .before .before .before .before .find in
-    let e : f .result ≡ s .args .used = omega (arith, f .ensures .within, c .before .before .before .before .before .before .before .before .before .before .before .if1 .left) in
+returns-2 c =
+    let f = c .before .before .before .before .before .before .before .before .before .before .before .before in
+    let s = entry f in
+    let r = f .before .before .before .before .before .row-of in
+    let h = f .before .before .before .before .hash in
+    let e : f .find .result ≡ s .args .used = omega (arith, f .find .ensures .within, c .before .before .before .before .before .before .before .before .before .before .before .if1 .left) in
     rw (c .before .before .before .before .before .before .before .before .before .put-row .ensures, c .before .before .before .before .link .ensures .0, c .before .before .before .before .link .ensures .1)
-    (added (s .pre .0) (r .result) (s .pre .1) (f .ensures .miss e) (c .before .before .before .before .before .before .before .before .before .before .before .before .before .before .before .before .hash .result) (c .before .before .before .before .before .before .before .before .before .before .before .before .before .before .before .before .hash .ensures) (r .ensures))
+    (added (s .pre .0) (r .result) (s .pre .1) (f .find .ensures .miss e) (h .result) (h .ensures) (r .ensures))
 
 pub intern-spec : {M : Type 1} → statement M
 intern-spec =

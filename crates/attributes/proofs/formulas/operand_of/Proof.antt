@@ -26,13 +26,13 @@ enum-known-step-3 : tie.Need-enum-known-step-3
 enum-known-step-3 c = search needs
 
 sub-t15 : tie.Need-sub-t15
-sub-t15 c = rw (c .before .step3 .given .1) at (c .before .before .before .before .before .pre .0)
+sub-t15 c = omega (arith, rw (c .before .step3 .given .1) at (c .before .before .before .before .before .pre .0))
 
 enum-known-step-4 : tie.Need-enum-known-step-4
 enum-known-step-4 c = search needs
 
 sub-t19 : tie.Need-sub-t19
-sub-t19 c = rw (c .before .step4 .given .1) at (c .before .before .before .before .before .pre .0)
+sub-t19 c = omega (arith, rw (c .before .step4 .given .1) at (c .before .before .before .before .before .pre .0))
 
 enum-known-step-5 : tie.Need-enum-known-step-5
 enum-known-step-5 c = search needs

@@ -5,10 +5,10 @@ use mathlib.Core.Path.{_≡_}
 use mathlib.Core.Option.{Option, none, some}
 use mathlib.Core.List.{List}
 use lib.ListN.{length, getD}
-use Rattle.grammar.specs.Term.{nodes, replace, Leaves}
-use Rattle.grammar.specs.Book.{Place, own, at, val, Expr}
-use Rattle.grammar.specs.Formula.{Formula, becomes, ownBelow}
-use Rattle.grammar.specs.Slots.{standing}
+use Rattle.grammar.specs.Data.Term.{nodes, replace, Leaves}
+use Rattle.grammar.specs.Data.Book.{Place, own, at, val, Expr}
+use Rattle.grammar.specs.Formulas.Formula.{Formula, becomes, ownBelow}
+use Rattle.grammar.specs.Formulas.Slots.{standing}
 use Rattle.attributes.specs.declared.nodes.Stack.the-variants.{Inherited, Synthesized}
 use Rattle.attributes.specs.declared.nodes.Leaf.the-variants.{Attribute, TokenValue}
 use Rattle.attributes.specs.declared.nodes.Node.the-variants.{Number, Leaf as OfLeaf, Both, Pick}

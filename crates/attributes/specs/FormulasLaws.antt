@@ -9,11 +9,11 @@ use native.Mathlib.Omega.{arith}
 use lib.ListN.{length, getD, set, drop, replicate, length-set, drop-of-length-le}
 use lib.Seq.{getD-set-same, getD-set-other, drop-cons}
 use Rattle.grammar.specs.Limits.{MAX-NODES}
-use Rattle.grammar.specs.Term.{number, nodes, replace, Leaves}
-use Rattle.grammar.specs.Postfix.{select, postfix, step, run, length-postfix}
-use Rattle.grammar.specs.Book.{Place, own, at, val, Expr}
-use Rattle.grammar.specs.Formula.{Formula, becomes, ownBelow}
-use Rattle.grammar.specs.Slots.{standing}
+use Rattle.grammar.specs.Data.Term.{number, nodes, replace, Leaves}
+use Rattle.grammar.specs.Data.Postfix.{select, postfix, step, run, length-postfix}
+use Rattle.grammar.specs.Data.Book.{Place, own, at, val, Expr}
+use Rattle.grammar.specs.Formulas.Formula.{Formula, becomes, ownBelow}
+use Rattle.grammar.specs.Formulas.Slots.{standing}
 use Rattle.book.specs.Held.{nodeAt}
 use Rattle.attributes.specs.declared.nodes.Stack.the-variants.{Inherited}
 use Rattle.attributes.specs.declared.nodes.Leaf.the-variants.{Attribute}

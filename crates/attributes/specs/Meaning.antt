@@ -4,10 +4,10 @@ use Prim.Native.Nat.{ℕ, _<_}
 use mathlib.Core.Path.{_≡_, refl, sym, ap, _∙_, subst}
 use mathlib.Core.List.{List}
 use native.Mathlib.Omega.{arith}
-use Rattle.grammar.specs.Term.{number, leaf, both, pick}
-use Rattle.grammar.specs.Formula.{Formula}
-use Rattle.grammar.specs.Formula as formula
-use Rattle.grammar.specs.Term as term
+use Rattle.grammar.specs.Data.Term.{number, leaf, both, pick}
+use Rattle.grammar.specs.Formulas.Formula.{Formula}
+use Rattle.grammar.specs.Formulas.Formula as formula
+use Rattle.grammar.specs.Data.Term as term
 use Rattle.attributes.specs.declared.nodes.Leaf.{Leaf}
 use Rattle.attributes.specs.declared.nodes.Operator.{Operator}
 use Rattle.attributes.specs.declared.nodes.Node.{Node}

@@ -4,9 +4,9 @@ use Prim.Native.Nat.{ℕ}
 use mathlib.Core.Path.{_≡_, refl, sym, ap, _∙_}
 use mathlib.Core.List.{List, [], _∷_}
 use lib.ListN.{getD}
-use Rattle.grammar.specs.Term as term
-use Rattle.grammar.specs.Formula as formula
-use Rattle.grammar.specs.Formula.{slot, attribute, token-value}
+use Rattle.grammar.specs.Data.Term as term
+use Rattle.grammar.specs.Formulas.Formula as formula
+use Rattle.grammar.specs.Formulas.Formula.{slot, attribute, token-value}
 use Rattle.attributes.specs.declared.nodes.Stack.{Stack}
 use Rattle.attributes.specs.declared.nodes.Stack.the-variants.{Inherited, Synthesized}
 use Rattle.attributes.specs.declared.nodes.Leaf.{Leaf}

@@ -3,8 +3,8 @@ use Prim.Native.Nat.{ℕ, _+_, _-_, _≤_}
 use mathlib.Core.Path.{_≡_, refl, sym, ap, _∙_}
 use mathlib.Core.List.{List, [], _∷_, _++_, append-assoc, append-nil}
 use native.Mathlib.Omega.{arith}
-use Rattle.grammar.specs.Term.{Term, number, leaf, both, pick, replace, Leaves, in-number, in-leaf, in-both, in-pick}
-use Rattle.grammar.specs.Postfix.{Step, push, load, operate, select, postfix, Meaning, meaning, run, run-postfix}
+use Rattle.grammar.specs.Data.Term.{Term, number, leaf, both, pick, replace, Leaves, in-number, in-leaf, in-both, in-pick}
+use Rattle.grammar.specs.Data.Postfix.{Step, push, load, operate, select, postfix, Meaning, meaning, run, run-postfix}
 
 -- interning is the third instance of a run: each leaf a gives the term f a
 abbrev pub replacing : {A B : Type 0} → (A → Term B) → Meaning A (Term B)

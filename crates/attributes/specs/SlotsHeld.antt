@@ -4,11 +4,11 @@ use mathlib.Core.Path.{refl}
 use mathlib.Core.List.{List}
 use native.Mathlib.Omega.{arith}
 use lib.ListN.{length, getD}
-use Rattle.grammar.specs.Term.{Leaves}
-use Rattle.grammar.specs.LeavesLaws.{leaves-map}
-use Rattle.grammar.specs.Book.{Place, own, at, val, Book, Expr}
-use Rattle.grammar.specs.ConditionsLaws as conditions
-use Rattle.grammar.specs.Slots.{Slots, slotAt, ownAt}
+use Rattle.grammar.specs.Data.Term.{Leaves}
+use Rattle.grammar.specs.Data.LeavesLaws.{leaves-map}
+use Rattle.grammar.specs.Data.Book.{Place, own, at, val, Book, Expr}
+use Rattle.grammar.specs.Conditions.MeaningLaws as conditions
+use Rattle.grammar.specs.Formulas.Slots.{Slots, slotAt, ownAt}
 use Rattle.attributes.specs.Table.{Grown}
 use Rattle.attributes.specs.Formulas.{SlotIn, OwnReads, in-slot, below, Reads}
 use Rattle.attributes.specs.FormulasLaws.{slot-kept}

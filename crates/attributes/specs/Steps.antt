@@ -5,10 +5,10 @@ use mathlib.Core.List.{List, [], _∷_}
 use native.Mathlib.Omega.{arith}
 use lib.ListN.{length, getD, List·getD-eq-default}
 use Rattle.grammar.specs.Limits.{MAX-NODES}
-use Rattle.grammar.specs.Term.{nodes, add, sub, min, max}
-use Rattle.grammar.specs.Postfix as postfix
-use Rattle.grammar.specs.Postfix.{push, load, operate, select}
-use Rattle.grammar.specs.Book.{Place, own, at, val, Expr, InheritedDefinition, SynthesizedDefinition}
+use Rattle.grammar.specs.Data.Term.{nodes, add, sub, min, max}
+use Rattle.grammar.specs.Data.Postfix as postfix
+use Rattle.grammar.specs.Data.Postfix.{push, load, operate, select}
+use Rattle.grammar.specs.Data.Book.{Place, own, at, val, Expr, InheritedDefinition, SynthesizedDefinition}
 use Rattle.book.specs.Held.{nodeKind, nodeFirst, nodeSecond, nodeAt, NodeIn, DefinitionsIn, inheritedAt}
 use Rattle.attributes.specs.declared.steps.Step.{Step}
 use Rattle.attributes.specs.declared.steps.Step.the-variants.{Push, Own, At, Val, Operate, Select}

@@ -2,8 +2,8 @@
 ghost use mathlib.Core.Path.{_≡_};
 ghost use Prim.Native.Nat.{ℕ, _+_, _*_, _<_, _≤_};
 ghost use lib.ListN.{length};
-ghost use Rattle.grammar.specs.Book.{Expr};
-ghost use Rattle.grammar.specs.Formula.{Formula};
+ghost use Rattle.grammar.specs.Data.Book.{Expr};
+ghost use Rattle.grammar.specs.Formulas.Formula.{Formula};
 ghost use Rattle.attributes.specs.Table.{ROOM, Table};
 ghost use Rattle.attributes.specs.PostfixLaws.{Ready};
 ghost use Rattle.attributes.specs.Steps.{stepOf};

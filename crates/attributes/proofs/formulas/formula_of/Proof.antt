@@ -4,9 +4,9 @@ use Prim.Native.Nat.{ℕ, _-_, _<_, _≤_}
 use mathlib.Core.Path.{_≡_, sym, _∙_}
 use native.Mathlib.Omega.{arith}
 use borrow.Author.Needs.{needs}
-use Rattle.grammar.specs.Term as term
-use Rattle.grammar.specs.Book.{Expr}
-use Rattle.grammar.specs.Formula.{Formula}
+use Rattle.grammar.specs.Data.Term as term
+use Rattle.grammar.specs.Data.Book.{Expr}
+use Rattle.grammar.specs.Formulas.Formula.{Formula}
 use Rattle.book.specs.Held.{nodeAt}
 use Rattle.attributes.specs.Steps.{stepOf}
 use Rattle.attributes.specs.Formulas.{Asked}

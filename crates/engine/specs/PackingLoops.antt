@@ -34,10 +34,8 @@ packed-more : (text old : List ℕ) (i : ℕ) → i < length old
 unfolding pack
 packed-more text old i h =
     let word : ℕ = wordOf (drop (4 * i) text) in
-    let stored : set (pack i text ++ (getD old i 0 ∷ drop (i + 1) old)) i word ≡ pack i text ++ (word ∷ drop (i + 1) old) =
-    set-at (pack i text) (getD old i 0) (drop (i + 1) old) word i (pack-length i text)
-    in
-    rw (drop-more old i h, pack-append i 1 text) (stored ∙ sym (append-snoc (pack i text) word (drop (i + 1) old)))
+    rw (drop-more old i h, pack-append i 1 text)
+    (set-at (pack i text) (getD old i 0) (drop (i + 1) old) word i (pack-length i text) ∙ sym (append-snoc (pack i text) word (drop (i + 1) old)))
 
 module _ {text old words : List ℕ} {i : ℕ} (p : Packing text old words i) where
   pub packing-turn : {word : ℕ} → i < length text / 4 → length text ≤ 4 * length old

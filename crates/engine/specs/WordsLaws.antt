@@ -141,14 +141,16 @@ by-word {C} w on end = first
     first : C
     first = by-zero (w % 256) (λ e. end 0 (ending w 0 [] refl (omega arith) (λ ws. none-first w ws e) (λ h. omega arith) (λ h. omega arith))) second
 
--- a word is told by the bytes of it that are text
+-- whether a word is full, by those of its bytes that are text
 pub full-of : {t : Bool} (w : ℕ) (bytes : List ℕ) → unpack (w ∷ []) ≡ bytes → eqb (length bytes) 4 ≡ t → t ≡ full w
 unfolding full
 full-of w bytes e h = sym h ∙ ap (λ (bs : List ℕ). eqb (length bs) 4) (sym e)
 
 pub full-goes-on : (w : ℕ) → full w ≡ true → (ws : List ℕ) → unpack (w ∷ ws) ≡ bytesOf w ++ unpack ws
 unfolding full
-full-goes-on w h = by-word w (λ on. on) (λ count e ws. absurd (omega (arith, ap length (e .ends []), e .few, e .below, eqb-true (length (unpack (w ∷ []))) 4 h)))
+full-goes-on w h =
+    let four : length (unpack (w ∷ [])) ≡ 4 = eqb-true (length (unpack (w ∷ []))) 4 h in
+    by-word w (λ on. on) (λ count e ws. absurd (omega (arith, four, ap length (e .ends []), e .few, e .below)))
 
 pub full-ends : (w : ℕ) → full w ≡ false → (ws : List ℕ) → unpack (w ∷ ws) ≡ unpack (w ∷ [])
 unfolding full bytesOf unpack

@@ -1,0 +1,2 @@
+// The two public calls: reading and evaluating.
+pub mod packing;

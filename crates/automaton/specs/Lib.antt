@@ -1,3 +1,6 @@
 pub mod Arrays
 pub mod SymbolCodes
 pub mod GoTable
+pub mod StatesIn
+pub mod HoldsItem
+pub mod Advances

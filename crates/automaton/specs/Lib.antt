@@ -4,3 +4,5 @@ pub mod GoTable
 pub mod StatesIn
 pub mod HoldsItem
 pub mod Advances
+pub mod Comes
+pub mod GoRules

@@ -60,6 +60,10 @@ pub record Stands (b : Book) (S P D : ℕ) : Type 0 where
   pub rule-there : P < length (b .rules)
   pub dot-there : D ≤ length (rightOf (b .rules) P)
 
+-- the dot one back
+pub stands-back : {b : Book} {S P D : ℕ} → Stands b S P D → Stands b S P (D - 1)
+stands-back s = record { state-there = s .state-there; rule-there = s .rule-there; dot-there = omega (arith, s .dot-there) }
+
 -- the words of rule P
 pub record RuleLow (rules : List ℕ) (P : ℕ) : Type 0 where
   pub there : 10 * P + 10 ≤ length rules

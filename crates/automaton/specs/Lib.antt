@@ -1,12 +1,16 @@
+pub mod Advances
 pub mod Arrays
 pub mod BookHeld
 pub mod ClosurePasses
 pub mod Closures
+pub mod Comes
 pub mod Derives
 pub mod Filling
 pub mod FirstLoops
+pub mod GoRules
 pub mod GoTable
 pub mod GrammarOf
+pub mod HoldsItem
 pub mod KernelLines
 pub mod KernelRules
 pub mod KernelWords
@@ -18,4 +22,5 @@ pub mod RestSets
 pub mod Rests
 pub mod Searches
 pub mod Starts
+pub mod StatesIn
 pub mod SymbolCodes

@@ -2,6 +2,7 @@
 pub mod closure;
 pub mod closures;
 pub mod first;
+pub mod go_rules;
 pub mod go_table;
 pub mod kernel_rules;
 pub mod nullable;

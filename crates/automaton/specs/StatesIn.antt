@@ -1,0 +1,174 @@
+-- The rules and kernel lines of a book in arrays, with where the kernel lines of each state begin: the words are small, and what they say of an item.
+-- Assumes nothing.
+use Prim.Native.Nat.{ℕ, zero, suc, _+_, _*_, _-_, _<_, _≤_}
+use native.Mathlib.Omega.{arith}
+use native.Mathlib.Numerals.{add-one}
+use mathlib.Core.Path.{_≡_, refl, sym, ap, _∙_}
+use mathlib.Core.List.{List, [], _∷_}
+use lib.ListN.{length, getD, take, drop, drop-of-length-le}
+use lib.Seq.{slice, slice-cons, drop-cons, take-nil}
+use Rattle.grammar.specs.Limits.{MAX-RULES, MAX-RIGHT, MAX-STATES, MAX-KERNELS}
+use Rattle.grammar.specs.Symbol.{Symbol, terminal, nonterminal, Rule, leftOf, rightOf, after}
+use Rattle.grammar.specs.Book.{Book, Kernel}
+use Rattle.grammar.specs.Conditions.{WithinLimits, Declared, DeclaredKernel, RightSymbol, GoSymbol}
+use Rattle.grammar.specs.ConditionsLaws.{right-length, right-declared, left-declared}
+use Rattle.grammar.specs.Small.{numberOf}
+use Rattle.grammar.specs.FirstSets.{Sets}
+use Rattle.grammar.specs.ClosureSets.{kernelsIn}
+use Rattle.book.specs.Layout.{symbolCode}
+use Rattle.book.specs.Held.{RulesIn, KernelsIn, kernelAt}
+use Rattle.automaton.specs.Arrays.{StartsIn, ClosuresIn, GoTableIn}
+use Rattle.automaton.specs.SymbolCodes.{code-low}
+use Rattle.automaton.specs.GoTable.{at-member}
+
+-- a book that keeps the limits and declares its names
+pub record StatesIn (b : Book) (rules kernels starts : List ℕ) : Type 0 where
+  pub limits : WithinLimits b
+  pub declared : Declared b
+  pub rules-in : RulesIn (b .rules) rules
+  pub kernels-in : KernelsIn (b .kernels) kernels
+  pub starts-in : StartsIn (b .kernels) (b .states) starts
+
+-- with the go table
+pub record MovesIn (b : Book) (rules kernels starts table : List ℕ) : Type 0 where
+  pub states-in : StatesIn b rules kernels starts
+  pub table-in : GoTableIn b table
+
+-- with the closures
+pub record ItemsIn (b : Book) (F : Sets) (rules kernels starts closures : List ℕ) : Type 0 where
+  pub states-in : StatesIn b rules kernels starts
+  pub closures-in : ClosuresIn b F closures
+
+-- with both
+pub record AutomatonIn (b : Book) (F : Sets) (rules kernels starts closures table : List ℕ) : Type 0 where
+  pub states-in : StatesIn b rules kernels starts
+  pub closures-in : ClosuresIn b F closures
+  pub table-in : GoTableIn b table
+
+-- parts of it
+pub moves : {b : Book} {F : Sets} {rules kernels starts closures table : List ℕ} → AutomatonIn b F rules kernels starts closures table
+    → MovesIn b rules kernels starts table
+moves h = record { states-in = h .states-in; table-in = h .table-in }
+
+pub items : {b : Book} {F : Sets} {rules kernels starts closures table : List ℕ} → AutomatonIn b F rules kernels starts closures table
+    → ItemsIn b F rules kernels starts closures
+items h = record { states-in = h .states-in; closures-in = h .closures-in }
+
+-- an item without its lookahead: of a state and a rule of the book, with a dot in the rule
+pub record Stands (b : Book) (S P D : ℕ) : Type 0 where
+  pub state-there : S < b .states
+  pub rule-there : P < length (b .rules)
+  pub dot-there : D ≤ length (rightOf (b .rules) P)
+
+-- the dot one back
+pub stands-back : {b : Book} {S P D : ℕ} → Stands b S P D → Stands b S P (D - 1)
+stands-back s = record { state-there = s .state-there; rule-there = s .rule-there; dot-there = omega (arith, s .dot-there) }
+
+-- the words of rule P
+pub record RuleLow (rules : List ℕ) (P : ℕ) : Type 0 where
+  pub there : 10 * P + 10 ≤ length rules
+  pub below : P < MAX-RULES
+  pub left-low : getD rules (10 * P) 0 < 32
+  pub size-low : getD rules (10 * P + 1) 0 ≤ MAX-RIGHT
+  pub symbol-low : (D : ℕ) → D < getD rules (10 * P + 1) 0 → getD rules (10 * P + 2 + D) 0 < 64
+
+-- the words of kernel line i
+pub record KernelLow (kernels : List ℕ) (i : ℕ) : Type 0 where
+  pub there : 5 * i + 5 ≤ length kernels
+  pub below : i < MAX-KERNELS
+  pub rule-low : getD kernels (5 * i + 1) 0 < MAX-RULES
+  pub dot-low : getD kernels (5 * i + 2) 0 ≤ MAX-RIGHT
+
+-- the kernel lines of state S stand from `first` up to `last`
+pub record Range (b : Book) (S first last : ℕ) : Type 0 where
+  pub ordered : first ≤ last
+  pub within : last ≤ length (b .kernels)
+  pub below : last ≤ MAX-KERNELS
+  pub lines-are : kernelsIn (b .kernels) S ≡ slice first last (b .kernels)
+
+-- the symbol behind the dot of (P, D), and its word
+pub record Next (b : Book) (rules : List ℕ) (P D : ℕ) : Type 0 where
+  pub symbol : Symbol
+  pub rest : List Symbol
+  pub behind : after (b .rules) P D ≡ symbol ∷ rest
+  pub declared-symbol : RightSymbol b symbol
+  pub word-is : getD rules (10 * P + 2 + D) 0 ≡ symbolCode symbol
+
+pub right-symbol-low : {b : Book} → WithinLimits b → (X : Symbol) → RightSymbol b X → numberOf X < 32
+right-symbol-low w (terminal t) h = omega (arith, h .high, w .terminals-limit .high)
+right-symbol-low w (nonterminal A) h = omega (arith, h .high, w .nonterminals-limit .high)
+
+pub right-go : (b : Book) (X : Symbol) → RightSymbol b X → GoSymbol b X
+right-go b (terminal t) h = h
+right-go b (nonterminal A) h = h .high
+
+-- a part in the middle, cut in the other order
+take-drop : {A : Type 0} (f t : ℕ) (l : List A) → take (t - f) (drop f l) ≡ slice f t l
+take-drop zero t l = let e : t - 0 ≡ t = omega arith in rw e
+take-drop (suc f) zero [] = take-nil (0 - suc f)
+take-drop (suc f) (suc t) [] = take-nil (suc t - suc f)
+take-drop (suc f) zero (x ∷ l) = let e : 0 - suc f ≡ 0 = omega arith in rw e
+take-drop (suc f) (suc t) (x ∷ l) = let e : suc t - suc f ≡ t - f = omega arith in rw e (take-drop f t l)
+
+-- a part of the kernel lines begins with its first line
+pub lines-next : (ks : List Kernel) {i last : ℕ} → i < last → last ≤ length ks → slice i last ks ≡ kernelAt ks i ∷ slice (i + 1) last ks
+lines-next ks {i} {last} h f = rw (add-one i) (slice-cons i last ks _ h f)
+
+module _ {b : Book} {rules kernels starts : List ℕ} (h : StatesIn b rules kernels starts) where
+  pub after-none : (P D : ℕ) → P < length (b .rules) → getD rules (10 * P + 1) 0 ≤ D → after (b .rules) P D ≡ []
+  after-none P D p l = let m : length (rightOf (b .rules) P) ≤ D = omega (arith, h .rules-in .size-is P p) in drop-of-length-le (rightOf (b .rules) P) m
+
+  pub after-some : (P D : ℕ) → P < length (b .rules) → D < getD rules (10 * P + 1) 0 → Next b rules P D
+  after-some P D p l =
+      let m : D < length (rightOf (b .rules) P) = omega (arith, h .rules-in .size-is P p) in
+      let e : after (b .rules) P D ≡ getD (rightOf (b .rules) P) D (terminal 0) ∷ drop (suc D) (rightOf (b .rules) P) =
+      drop-cons (rightOf (b .rules) P) D (terminal 0) m in
+      record {
+        symbol = getD (rightOf (b .rules) P) D (terminal 0);
+        rest = drop (suc D) (rightOf (b .rules) P);
+        behind = e;
+        declared-symbol = right-declared (h .declared) P D e;
+        word-is = h .rules-in .symbol-is P D p m (omega (arith, right-length (h .limits) P));
+      }
+
+  pub rule-low : (P : ℕ) → P < length (b .rules) → RuleLow rules P
+  rule-low P p = record {
+    there = omega (arith, h .rules-in .long, h .rules-in .fits);
+    below = omega (arith, h .rules-in .fits);
+    left-low = omega (arith, h .rules-in .left-is P p, left-declared (h .declared) P p, h .limits .nonterminals-limit .high);
+    size-low = omega (arith, h .rules-in .size-is P p, right-length (h .limits) P);
+    symbol-low = λ D l. let n : Next b rules P D = after-some P D p l in rw (n .word-is) (code-low (n .symbol) (right-symbol-low (h .limits) (n .symbol) (n .declared-symbol)));
+  }
+
+  pub kernel-there : (i : ℕ) → i < length (b .kernels) → DeclaredKernel b (kernelAt (b .kernels) i)
+  kernel-there i l = h .declared .kernels-declared (kernelAt (b .kernels) i) (at-member (b .kernels) i _ l)
+
+  pub kernel-low : (i : ℕ) → i < length (b .kernels) → KernelLow kernels i
+  kernel-low i l =
+      let k : Kernel = kernelAt (b .kernels) i in
+      let d : DeclaredKernel b k = kernel-there i l in
+      record {
+        there = omega (arith, h .kernels-in .long, h .kernels-in .fits);
+        below = omega (arith, h .kernels-in .fits);
+        rule-low = omega (arith, h .kernels-in .rule-is i l, d .rule-there, h .rules-in .fits);
+        dot-low = omega (arith, h .kernels-in .dot-is i l, d .dot-there, right-length (h .limits) (k .rule));
+      }
+
+  -- the starts ascend to the number of lines
+  start-within : (left S : ℕ) → S + left ≡ b .states → getD starts S 0 ≤ length (b .kernels)
+  start-within zero S e = let z : S ≡ b .states = omega arith in rw z (omega (arith, h .starts-in .last-is))
+  start-within (suc left) S e = omega (arith, h .starts-in .ascend S (omega arith), start-within left (S + 1) (omega arith))
+
+  pub state-range : (S : ℕ) → S < b .states → Range b S (getD starts S 0) (getD starts (S + 1) 0)
+  state-range S s =
+      let within : getD starts (S + 1) 0 ≤ length (b .kernels) = start-within (b .states - (S + 1)) (S + 1) (omega arith) in
+      record {
+        ordered = h .starts-in .ascend S s;
+        within = within;
+        below = omega (arith, h .kernels-in .fits);
+        lines-are = h .starts-in .lines-are S s ∙ take-drop (getD starts S 0) (getD starts (S + 1) 0) (b .kernels);
+      }
+
+  -- both ends are words
+  pub state-starts : (S : ℕ) → S < b .states → S + 1 < length starts
+  state-starts S s = omega (arith, h .starts-in .long, h .limits .states-limit .high)

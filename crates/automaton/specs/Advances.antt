@@ -10,16 +10,16 @@ use mathlib.Core.List.{List, [], _∷_, _++_}
 use lib.ListN.{length, getD}
 use lib.Seq.{slice, slice-empty}
 use Rattle.grammar.specs.Limits.{MAX-STATES}
-use Rattle.grammar.specs.Symbol.{Symbol, leftOf, after}
-use Rattle.grammar.specs.Book.{Book, Kernel}
-use Rattle.grammar.specs.Conditions.{Declared, DeclaredKernel}
-use Rattle.grammar.specs.States.{goIn}
-use Rattle.grammar.specs.GoLines.{LineTo, go-line}
-use Rattle.grammar.specs.Fixpoint.{setAt}
-use Rattle.grammar.specs.FirstSets.{Sets}
-use Rattle.grammar.specs.ClosureSets.{setOf, kernelsIn, closureSets}
-use Rattle.grammar.specs.CoreItems.{Core, core, ofKernels, entered, ofRules, coreItems}
-use Rattle.grammar.specs.StatesCheck.{holdsItem, advancesTo, advances, allAdvance, statesAdvance}
+use Rattle.grammar.specs.Data.Symbol.{Symbol, leftOf, after}
+use Rattle.grammar.specs.Data.Book.{Book, Kernel}
+use Rattle.grammar.specs.Conditions.Meaning.{Declared, DeclaredKernel}
+use Rattle.grammar.specs.Automaton.States.{goIn}
+use Rattle.grammar.specs.Automaton.GoLines.{LineTo, go-line}
+use Rattle.grammar.specs.Automaton.Fixpoint.{setAt}
+use Rattle.grammar.specs.Automaton.FirstSets.{Sets}
+use Rattle.grammar.specs.Automaton.ClosureSets.{setOf, kernelsIn, closureSets}
+use Rattle.grammar.specs.Automaton.CoreItems.{Core, core, ofKernels, entered, ofRules, coreItems}
+use Rattle.grammar.specs.Automaton.StatesCheck.{holdsItem, advancesTo, advances, allAdvance, statesAdvance}
 use Rattle.book.specs.Held.{KernelsIn, kernelAt}
 use Rattle.automaton.specs.Arrays.{GoTableIn, targetCode}
 use Rattle.automaton.specs.StatesIn.{StatesIn, MovesIn, ItemsIn, AutomatonIn, Stands, Next, Range, state-range, rule-low, kernel-there, after-none, after-some, right-go, lines-next}

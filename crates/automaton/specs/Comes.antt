@@ -14,16 +14,16 @@ use lib.Seq.{slice, slice-empty, drop-cons}
 use borrow.Author.Tests.{eq-eqb, ne-eqb, eqb-true, le-leb, lt-leb}
 use Rattle.sets.specs.Sets.{empty, subset}
 use Rattle.sets.specs.SetsLaws.{subset-true}
-use Rattle.grammar.specs.Members.{none-in}
-use Rattle.grammar.specs.Symbol.{Symbol, Rule, leftOf, after}
-use Rattle.grammar.specs.Book.{Book, Kernel, Go}
-use Rattle.grammar.specs.Conditions.{GoSymbol, DeclaredGo}
-use Rattle.grammar.specs.States.{sameSymbol}
-use Rattle.grammar.specs.Fixpoint.{setAt}
-use Rattle.grammar.specs.FirstSets.{Sets}
-use Rattle.grammar.specs.ClosureSets.{setOf, kernelsIn, closureSets}
-use Rattle.grammar.specs.CoreItems.{Core, core, ofKernels, entered, ofRules, coreItems}
-use Rattle.grammar.specs.StatesCheck.{holdsItem, nextIs, comesFrom, allCome, someKernel, goLines}
+use Rattle.grammar.specs.Automaton.Members.{none-in}
+use Rattle.grammar.specs.Data.Symbol.{Symbol, Rule, leftOf, after}
+use Rattle.grammar.specs.Data.Book.{Book, Kernel, Go}
+use Rattle.grammar.specs.Conditions.Meaning.{GoSymbol, DeclaredGo}
+use Rattle.grammar.specs.Automaton.States.{sameSymbol}
+use Rattle.grammar.specs.Automaton.Fixpoint.{setAt}
+use Rattle.grammar.specs.Automaton.FirstSets.{Sets}
+use Rattle.grammar.specs.Automaton.ClosureSets.{setOf, kernelsIn, closureSets}
+use Rattle.grammar.specs.Automaton.CoreItems.{Core, core, ofKernels, entered, ofRules, coreItems}
+use Rattle.grammar.specs.Automaton.StatesCheck.{holdsItem, nextIs, comesFrom, allCome, someKernel, goLines}
 use Rattle.book.specs.Layout.{symbolCode}
 use Rattle.book.specs.Held.{KernelsIn, GoesIn, kernelAt, goAt}
 use Rattle.automaton.specs.StatesIn.{StatesIn, ItemsIn, Stands, Next, Range, state-range, rule-low, kernel-there, after-some, lines-next, right-symbol-low}

@@ -5,14 +5,14 @@ use native.Mathlib.Omega.{arith}
 use mathlib.Core.Path.{_≡_, refl, sym, ap, _∙_}
 use mathlib.Core.Bool.{Bool, true, false, _&&_}
 use mathlib.Core.List.{List, [], _∷_, List·Memᴰ as Mem, List·Memᴰ·head as in-head, List·Memᴰ·tail as in-tail}
-use Rattle.grammar.specs.Book.{Book, Kernel, Go}
-use Rattle.grammar.specs.Conditions.{Declared}
-use Rattle.grammar.specs.FirstSets.{Sets}
-use Rattle.grammar.specs.ClosureSets.{kernelsIn}
-use Rattle.grammar.specs.CoreItems.{Core, coreItems}
-use Rattle.grammar.specs.StatesCheck.{allAdvance, statesAdvance, allCome, someKernel, goLines, goRules}
-use Rattle.grammar.specs.Compiled.{itemsTable, itemsAt}
-use Rattle.grammar.specs.CompiledTables.{items-at}
+use Rattle.grammar.specs.Data.Book.{Book, Kernel, Go}
+use Rattle.grammar.specs.Conditions.Meaning.{Declared}
+use Rattle.grammar.specs.Automaton.FirstSets.{Sets}
+use Rattle.grammar.specs.Automaton.ClosureSets.{kernelsIn}
+use Rattle.grammar.specs.Automaton.CoreItems.{Core, coreItems}
+use Rattle.grammar.specs.Automaton.StatesCheck.{allAdvance, statesAdvance, allCome, someKernel, goLines, goRules}
+use Rattle.grammar.specs.Automaton.Compiled.{itemsTable, itemsAt}
+use Rattle.grammar.specs.Automaton.CompiledTables.{items-at}
 
 both : {s t u v : Bool} → s ≡ t → u ≡ v → _≡_ {A = Bool} (elim s [ true ↦ u | false ↦ false ]) (elim t [ true ↦ v | false ↦ false ])
 both {t = true} e f = rw (e, f)

@@ -10,9 +10,9 @@ use lib.ListN.{length, getD}
 use lib.Seq.{slice, slice-empty}
 use borrow.Author.Tests.{eq-eqb, ne-eqb}
 use Rattle.sets.specs.Sets.{subset}
-use Rattle.grammar.specs.Book.{Kernel}
-use Rattle.grammar.specs.ClosureSets.{setOf}
-use Rattle.grammar.specs.StatesCheck.{holdsItem}
+use Rattle.grammar.specs.Data.Book.{Kernel}
+use Rattle.grammar.specs.Automaton.ClosureSets.{setOf}
+use Rattle.grammar.specs.Automaton.StatesCheck.{holdsItem}
 use Rattle.book.specs.Held.{KernelsIn, kernelAt}
 use Rattle.automaton.specs.StatesIn.{lines-next}
 

@@ -8,13 +8,13 @@ use mathlib.Core.List.{List, [], _∷_}
 use lib.ListN.{length, getD, take, drop, drop-of-length-le}
 use lib.Seq.{slice, slice-cons, drop-cons, take-nil}
 use Rattle.grammar.specs.Limits.{MAX-RULES, MAX-RIGHT, MAX-STATES, MAX-KERNELS}
-use Rattle.grammar.specs.Symbol.{Symbol, terminal, nonterminal, Rule, leftOf, rightOf, after}
-use Rattle.grammar.specs.Book.{Book, Kernel}
-use Rattle.grammar.specs.Conditions.{WithinLimits, Declared, DeclaredKernel, RightSymbol, GoSymbol}
-use Rattle.grammar.specs.ConditionsLaws.{right-length, right-declared, left-declared}
-use Rattle.grammar.specs.Small.{numberOf}
-use Rattle.grammar.specs.FirstSets.{Sets}
-use Rattle.grammar.specs.ClosureSets.{kernelsIn}
+use Rattle.grammar.specs.Data.Symbol.{Symbol, terminal, nonterminal, Rule, leftOf, rightOf, after}
+use Rattle.grammar.specs.Data.Book.{Book, Kernel}
+use Rattle.grammar.specs.Conditions.Meaning.{WithinLimits, Declared, DeclaredKernel, RightSymbol, GoSymbol}
+use Rattle.grammar.specs.Conditions.MeaningLaws.{right-length, right-declared, left-declared}
+use Rattle.grammar.specs.Automaton.Small.{numberOf}
+use Rattle.grammar.specs.Automaton.FirstSets.{Sets}
+use Rattle.grammar.specs.Automaton.ClosureSets.{kernelsIn}
 use Rattle.book.specs.Layout.{symbolCode}
 use Rattle.book.specs.Held.{RulesIn, KernelsIn, kernelAt}
 use Rattle.automaton.specs.Arrays.{StartsIn, ClosuresIn, GoTableIn}

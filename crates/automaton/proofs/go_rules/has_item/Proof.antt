@@ -2,10 +2,10 @@
 use mathlib.Core.Path.{refl}
 use mathlib.Core.Path.{_≡_, sym, _∙_}
 use native.Mathlib.Omega.{arith}
-use Rattle.grammar.specs.Book.{Book}
-use Rattle.grammar.specs.FirstSets.{Sets}
-use Rattle.grammar.specs.ClosureSets.{kernelsIn}
-use Rattle.grammar.specs.StatesCheck.{holdsItem}
+use Rattle.grammar.specs.Data.Book.{Book}
+use Rattle.grammar.specs.Automaton.FirstSets.{Sets}
+use Rattle.grammar.specs.Automaton.ClosureSets.{kernelsIn}
+use Rattle.grammar.specs.Automaton.StatesCheck.{holdsItem}
 use Rattle.automaton.specs.StatesIn.{ItemsIn, Stands, RuleLow, rule-low, state-starts, state-range}
 use Rattle.automaton.specs.Comes.{searched, has-kernel, has-none, has-rule}
 use borrow.Author.Needs.{needs}

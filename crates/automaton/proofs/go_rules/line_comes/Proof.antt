@@ -1,7 +1,7 @@
 -- `go_rules::line_comes` meets its contract: the target has no kernel line, or all of them are asked. Assumes nothing.
 use mathlib.Core.Path.{_∙_}
 use native.Mathlib.Omega.{arith}
-use Rattle.grammar.specs.CoreItems.{coreItems}
+use Rattle.grammar.specs.Automaton.CoreItems.{coreItems}
 use Rattle.book.specs.Held.{goAt}
 use Rattle.automaton.specs.GoTable.{LineLow}
 use Rattle.automaton.specs.Comes.{go-low, go-declared, state-there, goal-range, goal-bare, goal-comes}

@@ -1,7 +1,7 @@
 -- Laws of single lines: how much they leave, and their words.
 -- Assumes nothing.
 use Prim.Native.Nat.{ℕ, suc, _+_, _≤_, _<_}
-use mathlib.Core.Path.{_≡_, refl, sym, ap, _∙_}
+use mathlib.Core.Path.{_≡_, refl, _∙_}
 use mathlib.Core.Bool.{Bool, true, false}
 use mathlib.Core.List.{List, [], _∷_}
 use native.Mathlib.Omega.{arith}
@@ -11,16 +11,16 @@ use borrow.Author.Tests.{lt-ltb, le-ltb}
 use Rattle.text.specs.Class.{space}
 use Rattle.text.specs.Rest.{Rest, rest, must, mark, size}
 use Rattle.text.specs.RestLaws.{found-mark}
-use Rattle.text.specs.Numeral.{decimal, wordOf}
+use Rattle.text.specs.Numeral.{decimal, wordOf, keyword}
 use Rattle.text.specs.Reading.{Reads}
 use Rattle.grammar.specs.Limits.{MAX-RULES, MAX-RIGHT}
 use Rattle.grammar.specs.Symbol.{Symbol, Rule}
 use Rattle.grammar.specs.Reader.{item, after, opening, closing, naming}
 use Rattle.grammar.specs.ReaderLaws.{shrinking, opening-less}
 use Rattle.grammar.specs.Parse.{symbolOf, symbol, symbols, owner, rule}
-use Rattle.book.specs.Layout.{writeAt, putLine, storeLines, codeOf, symbolCode, codes, ownerWords, ruleWords}
+use Rattle.book.specs.Layout.{writeAt, putLine, storeLines, codeOf, symbolCode, codes, ruleWords}
 use Rattle.book.specs.LayoutLaws.{put-out}
-use Rattle.book.specs.Sections.{Shrinks, size-section, Fills, Puts}
+use Rattle.book.specs.Sections.{Gives, Shrinks, size-section, Fills, Puts}
 
 -- a right symbol
 unfoldable pub symbolWords : Symbol → List ℕ
@@ -63,7 +63,14 @@ pub rule-shrinks : (word : ℕ) → Shrinks (opening word) rule
 unfolding rule after
 rule-shrinks word = record { head-less = opening-less word; one-less = λ K o. search (shrinking, most-symbols) depth 20 }
 
--- The words of lines, as the code has them
+-- The steps of an owner's line: its letter, its number, the check of it, the letter of the owner, the owner, the end
+pub owner-steps : {text : List ℕ} {u : Rest} {p₁ n p₂ p₃ A p₄ p₅ : ℕ} (letter k : ℕ) (o : Rest)
+    → rest text p₁ ≡ keyword letter o → Reads decimal text p₁ n p₂ → u ≡ must (eqb n k) (rest text p₂) → rest text p₃ ≡ naming (wordOf "n") u
+    → Reads decimal text p₃ A p₄ → rest text p₅ ≡ closing (rest text p₄) → Gives (owner letter k o) text A p₅
+unfolding owner item after
+owner-steps letter k o kind number due naming owner end = record { item-is = cc; after-is = cc }
+
+-- The words of a rule's line, and its steps
 
 store-full : {A : Type 0} (words : A → List ℕ) (room k : ℕ) (xs : List A) (out : List ℕ) → room ≤ k → storeLines words room k xs out ≡ out
 unfolding storeLines
@@ -97,7 +104,7 @@ rule-line : {A m : ℕ} {right : List ℕ} (r : Rule) → A ≡ r .left → m �
 unfolding ruleWords
 rule-line r e f g = rw (e, f, g ∙ right-codes (r .right))
 
--- the steps of a rule line: its number, the check of it, the letter of the left side, the left side, the right side, the end, the store
+-- its number, the check of it, the letter of the left side, the left side, the right side, the end, the store
 module _ {text right out out′ : List ℕ} {o : Rest} {k at n p₁ p₂ A p₃ m p₄ p₅ : ℕ} where
   pub rule-steps : Reads decimal text at n p₁ → o ≡ must (eqb n k) (rest text p₁) → rest text p₂ ≡ naming (wordOf "n") o → Reads decimal text p₂ A p₃
       → Fills symbolWords MAX-RIGHT (symbols (rest text p₃)) text zeros m p₄ right → rest text p₅ ≡ closing (rest text p₄)

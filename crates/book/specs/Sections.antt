@@ -1,6 +1,6 @@
 -- Reading the lines of a section one after another and keeping each at once: what a loop in code keeps true, over any head, line and store.
 -- A loop is proved by four laws: it starts, turns, leaves less, and is done. Assumes nothing.
-use Prim.Native.Nat.{ℕ, zero, suc, _+_, _≤_, _<_}
+use Prim.Native.Nat.{ℕ, suc, _+_, _≤_, _<_}
 use mathlib.Core.Path.{_≡_, refl, sym, ap, _∙_}
 use mathlib.Core.Bool.{true, false}
 use mathlib.Core.List.{List, [], _∷_}

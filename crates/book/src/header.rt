@@ -3,7 +3,6 @@ ghost use Rattle.text.specs.Rest.{rest};
 ghost use Rattle.text.specs.Reading.{Lent};
 ghost use Rattle.book.specs.Header.{header, numbersOf};
 ghost use Rattle.book.specs.Sections.{Gives};
-
 use super::spelling::BOOK;
 use super::spelling::closing;
 use super::spelling::opening;

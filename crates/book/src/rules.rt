@@ -1,5 +1,5 @@
 // The section `(rule K nA X1 .. Xm)`.
-ghost use Prim.Native.Nat.{ℕ, _≤_, _*_};
+ghost use Prim.Native.Nat.{_≤_, _*_};
 ghost use lib.ListN.{length};
 ghost use Rattle.text.specs.Rest.{rest};
 ghost use Rattle.text.specs.Reading.{Lent};
@@ -8,7 +8,6 @@ ghost use Rattle.grammar.specs.Parse.{symbols, rule, rules};
 ghost use Rattle.book.specs.Layout.{ruleWords};
 ghost use Rattle.book.specs.Lines.{symbolWords, RULE-WORDS};
 ghost use Rattle.book.specs.Sections.{Fills, Puts};
-
 use super::Book;
 use super::Section;
 use super::spelling::N;
@@ -34,7 +33,12 @@ fn right_side(t: &[u8; 256], text: &[u8], at: usize, out: &mut [u32]) -> Section
             return Section { count: m, at: p };
         }
         let x = symbol(t, text, a);
-        put_line(out, Book::MAX_RIGHT as usize, m, &[code_of(x.terminal, x.number)]);
+        put_line(
+            out,
+            Book::MAX_RIGHT as usize,
+            m,
+            &[code_of(x.terminal, x.number)],
+        );
         p = x.at;
         m += 1;
     }
@@ -49,9 +53,20 @@ fn rule_line(t: &[u8; 256], text: &[u8], at: usize, k: u32, out: &mut [u32]) -> 
     let a = text::require(text, number.at, number.value == k);
     let b = naming(t, text, a, N);
     let left = text::number(t, text, b);
-    let mut right = [0u32; 8];
+    let mut right = [0u32; Book::MAX_RIGHT as usize];
     let symbols = right_side(t, text, left.at, &mut right);
-    let line = [left.value, symbols.count, right[0], right[1], right[2], right[3], right[4], right[5], right[6], right[7]];
+    let line = [
+        left.value,
+        symbols.count,
+        right[0],
+        right[1],
+        right[2],
+        right[3],
+        right[4],
+        right[5],
+        right[6],
+        right[7],
+    ];
     put_line(out, Book::MAX_RULES as usize, k, &line);
     closing(t, text, symbols.at)
 }

@@ -103,7 +103,8 @@ module _ {A S D : Type 0} (head : Rest → Rest) (one : S → Reader A) (next : 
 unfoldable pub keepLine : {A : Type 0} → (A → List ℕ) → ℕ → ℕ → A → List ℕ → List ℕ
 keepLine words room k x out = putLine room k (words x) out
 
-kept-lines : {A : Type 0} (words : A → List ℕ) (room k : ℕ) (xs : List A) (out : List ℕ) → keepFrom (keepLine words room) k xs out ≡ storeLines words room k xs out
+kept-lines : {A : Type 0} (words : A → List ℕ) (room k : ℕ) (xs : List A) (out : List ℕ)
+    → keepFrom (keepLine words room) k xs out ≡ storeLines words room k xs out
 unfolding keepFrom keepLine storeLines
 kept-lines words room k [] out = refl
 kept-lines words room k (x ∷ xs) out = kept-lines words room (suc k) xs (putLine room k (words x) out)

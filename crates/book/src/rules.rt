@@ -22,7 +22,8 @@ use super::symbol::symbol;
 // The codes of the right side's first symbols.
 fn right_side(t: &[u8; 256], text: &[u8], at: usize, out: &mut [u32]) -> Section
     requires { ⌜ Lent (now t) (now text) × (MAX-RIGHT ≤ length (now out)) ⌝ }
-    ensures { λ r. ⌜ Fills symbolWords MAX-RIGHT (symbols (rest (now (text .entry)) at)) (now (text .entry)) (now (out .entry)) (r .count) (r .at) (now (out .exit)) ⌝ }
+    ensures { λ r. ⌜ Fills symbolWords MAX-RIGHT (symbols (rest (now (text .entry)) at))
+        (now (text .entry)) (now (out .entry)) (r .count) (r .at) (now (out .exit)) ⌝ }
 {
     let n = text.len();
     let mut p = at;
@@ -73,7 +74,8 @@ fn rule_line(t: &[u8; 256], text: &[u8], at: usize, k: u32, out: &mut [u32]) -> 
 
 pub fn rule_lines(t: &[u8; 256], text: &[u8], at: usize, out: &mut [u32]) -> Section
     requires { ⌜ Lent (now t) (now text) × (MAX-RULES * RULE-WORDS ≤ length (now out)) ⌝ }
-    ensures { λ r. ⌜ Fills ruleWords MAX-RULES (rules (rest (now (text .entry)) at)) (now (text .entry)) (now (out .entry)) (r .count) (r .at) (now (out .exit)) ⌝ }
+    ensures { λ r. ⌜ Fills ruleWords MAX-RULES (rules (rest (now (text .entry)) at))
+        (now (text .entry)) (now (out .entry)) (r .count) (r .at) (now (out .exit)) ⌝ }
 {
     let n = text.len();
     let mut p = at;

@@ -9,19 +9,15 @@ use Rattle.book.proofs.spelling.closing.Reads as closing-reads
 use Rattle.text.proofs.keyword.Reads as keyword-reads
 use Rattle.text.proofs.mark.Reads as mark-reads
 
--- src/spelling.rt:68:9
 mark-requires : tie.Need-mark-requires
 mark-requires c κs = search needs
 
--- src/spelling.rt:69:9
 keyword-requires : tie.Need-keyword-requires
 keyword-requires c κs = search needs
 
--- src/spelling.rt:70:5
 closing-requires : tie.Need-closing-requires
 closing-requires c κs = search needs
 
--- src/spelling.rt:64:1
 returns : tie.Need-returns
 unfolding endLine spelled
 returns c = cc

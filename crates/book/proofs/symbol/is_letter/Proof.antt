@@ -5,12 +5,10 @@ use Rattle.book.proofs.symbol.is_letter.Tie as tie
 use Rattle.book.proofs.symbol.is_letter.Reads as reads
 use Rattle.book.proofs.symbol.is_letter.Lts as lts
 
--- src/symbol.rt:26:9
 returns : tie.Need-returns
 unfolding spelled
 returns c = rw (eq-eqb _ _ (c .if1 .taken))
 
--- src/symbol.rt:22:1
 returns-2 : tie.Need-returns-2
 unfolding spelled
 returns-2 c = rw (ne-eqb _ _ (c .if1 .left))

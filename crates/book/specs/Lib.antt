@@ -1,2 +1,7 @@
+pub mod Counts
+pub mod Header
 pub mod Held
 pub mod Layout
+pub mod LayoutLaws
+pub mod Lines
+pub mod Sections

@@ -1,7 +1,7 @@
 -- The numbers of a book, as the code holds them by value: what its first line says, and how many lines of each kind it has.
 -- Assumes nothing.
 use lib.ListN.{length}
-use Rattle.grammar.specs.Book.{Book as Lines}
+use Rattle.grammar.specs.Data.Book.{Book as Lines}
 use Rattle.book.specs.declared.Book.{Book}
 
 unfoldable pub countsOf : Lines → Book

@@ -5,8 +5,8 @@ use mathlib.Core.Path.{_≡_, refl}
 use Rattle.text.specs.Class.{space}
 use Rattle.text.specs.Rest.{Rest, mark}
 use Rattle.text.specs.Numeral.{wordOf}
-use Rattle.grammar.specs.Reader.{item, after, Reader, pure, _>>=_, _>>_, decimalNumber, opening, closing}
-use Rattle.grammar.specs.Parse.{owners, rules, inheritedDefinitions, synthesizedDefinitions, kernels, goes, endLine, book}
+use Rattle.grammar.specs.Format.Reader.{item, after, Reader, pure, _>>=_, _>>_, decimalNumber, opening, closing}
+use Rattle.grammar.specs.Format.Parse.{owners, rules, inheritedDefinitions, synthesizedDefinitions, kernels, goes, endLine, book}
 use Rattle.book.specs.declared.header.HeaderRead.{HeaderRead}
 
 -- `(book T N Q)`

@@ -14,10 +14,10 @@ use Rattle.text.specs.RestLaws.{found-mark}
 use Rattle.text.specs.Numeral.{decimal, wordOf, keyword}
 use Rattle.text.specs.Reading.{Reads}
 use Rattle.grammar.specs.Limits.{MAX-RULES, MAX-RIGHT}
-use Rattle.grammar.specs.Symbol.{Symbol, Rule}
-use Rattle.grammar.specs.Reader.{item, after, opening, closing, naming}
-use Rattle.grammar.specs.ReaderLaws.{shrinking, opening-less}
-use Rattle.grammar.specs.Parse.{symbolOf, symbol, symbols, owner, rule}
+use Rattle.grammar.specs.Data.Symbol.{Symbol, Rule}
+use Rattle.grammar.specs.Format.Reader.{item, after, opening, closing, naming}
+use Rattle.grammar.specs.Format.ReaderLaws.{shrinking, opening-less}
+use Rattle.grammar.specs.Format.Parse.{symbolOf, symbol, symbols, owner, rule}
 use Rattle.book.specs.Layout.{writeAt, putLine, storeLines, codeOf, symbolCode, codes, ownerWords, ruleWords}
 use Rattle.book.specs.LayoutLaws.{put-out}
 use Rattle.book.specs.Sections.{Shrinks, size-section, Fills, Puts}

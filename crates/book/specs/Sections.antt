@@ -9,8 +9,8 @@ use native.Mathlib.Numerals.{add-one}
 use lib.ListN.{length}
 use Rattle.text.specs.Rest.{Rest, rest, found, size}
 use Rattle.text.specs.RestLaws.{found-in, found-out, size-rest}
-use Rattle.grammar.specs.Reader.{Parsed, parsed, item, after, Reader, section}
-use Rattle.grammar.specs.SectionLaws.{section-stop, section-more, section-size}
+use Rattle.grammar.specs.Format.Reader.{Parsed, parsed, item, after, Reader, section}
+use Rattle.grammar.specs.Format.SectionLaws.{section-stop, section-more, section-size}
 use Rattle.book.specs.Layout.{putLine, storeLines}
 use Rattle.book.specs.LayoutLaws.{length-put}
 

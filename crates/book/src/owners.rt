@@ -5,7 +5,7 @@ ghost use Rattle.text.specs.Rest.{rest};
 ghost use Rattle.text.specs.Numeral.{wordOf};
 ghost use Rattle.text.specs.Reading.{Lent};
 ghost use Rattle.grammar.specs.Limits.{MAX-INHERITED, MAX-SYNTHESIZED};
-ghost use Rattle.grammar.specs.Parse.{owner, owners};
+ghost use Rattle.grammar.specs.Format.Parse.{owner, owners};
 ghost use Rattle.book.specs.Layout.{ownerWords};
 ghost use Rattle.book.specs.Sections.{Puts, Fills};
 use super::Book;

@@ -4,7 +4,7 @@ ghost use lib.ListN.{length};
 ghost use Rattle.text.specs.Rest.{rest};
 ghost use Rattle.text.specs.Reading.{Lent};
 ghost use Rattle.grammar.specs.Limits.{MAX-RULES, MAX-RIGHT};
-ghost use Rattle.grammar.specs.Parse.{symbols, rule, rules};
+ghost use Rattle.grammar.specs.Format.Parse.{symbols, rule, rules};
 ghost use Rattle.book.specs.Layout.{ruleWords};
 ghost use Rattle.book.specs.Lines.{symbolWords, RULE-WORDS};
 ghost use Rattle.book.specs.Sections.{Fills, Puts};

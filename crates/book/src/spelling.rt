@@ -2,8 +2,8 @@
 ghost use mathlib.Core.Path.{_≡_};
 ghost use Rattle.text.specs.Rest.{rest};
 ghost use Rattle.text.specs.Reading.{Lent};
-ghost use Rattle.grammar.specs.Reader.{opening, closing, naming};
-ghost use Rattle.grammar.specs.Parse.{endLine};
+ghost use Rattle.grammar.specs.Format.Reader.{opening, closing, naming};
+ghost use Rattle.grammar.specs.Format.Parse.{endLine};
 
 // The words of lines and the letters of names, as numbers in base 32: a is 1, z is 26.
 pub const BOOK: u32 = ((2 * 32 + 15) * 32 + 15) * 32 + 11;

@@ -5,7 +5,7 @@ ghost use lib.Dec.{eqb};
 ghost use Rattle.text.specs.Rest.{rest};
 ghost use Rattle.text.specs.Numeral.{wordOf};
 ghost use Rattle.text.specs.Reading.{Lent};
-ghost use Rattle.grammar.specs.Parse.{symbol, symbolOf};
+ghost use Rattle.grammar.specs.Format.Parse.{symbol, symbolOf};
 ghost use Rattle.book.specs.Layout.{symbolCode};
 ghost use Rattle.book.specs.Sections.{Gives};
 use super::spelling::N;

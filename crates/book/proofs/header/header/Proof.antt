@@ -1,5 +1,5 @@
 use Rattle.text.specs.Numeral.{spelled}
-use Rattle.grammar.specs.Reader.{item, after}
+use Rattle.grammar.specs.Format.Reader.{item, after}
 use Rattle.book.specs.Header.{header}
 use borrow.Author.Needs.{needs}
 use Rattle.book.proofs.header.header.Statement.{statement}

@@ -1,8 +1,8 @@
 use Prim.Native.Nat.{suc}
 use native.Mathlib.Numerals.{add-one}
 use Rattle.text.specs.Rest.{rest, size}
-use Rattle.grammar.specs.Reader.{opening}
-use Rattle.grammar.specs.Parse.{owner, owners}
+use Rattle.grammar.specs.Format.Reader.{opening}
+use Rattle.grammar.specs.Format.Parse.{owner, owners}
 use Rattle.book.specs.Layout.{ownerWords}
 use Rattle.book.specs.Sections.{Filling, filling-start, filling-turn, filling-less, filling-done}
 use Rattle.book.specs.Lines.{owner-shrinks}

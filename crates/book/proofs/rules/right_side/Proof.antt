@@ -2,7 +2,7 @@ use mathlib.Core.Path.{refl}
 use Rattle.text.specs.Class.{space}
 use Rattle.text.specs.Rest.{rest, size, mark}
 use Rattle.grammar.specs.Limits.{MAX-RIGHT}
-use Rattle.grammar.specs.Parse.{symbol, symbols}
+use Rattle.grammar.specs.Format.Parse.{symbol, symbols}
 use Rattle.book.specs.Sections.{puts-of, Filling, filling-start, filling-turn, filling-less, filling-done}
 use Rattle.book.specs.Lines.{symbolWords, symbols-shrink}
 use borrow.Author.Needs.{needs}

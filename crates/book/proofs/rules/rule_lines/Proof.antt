@@ -3,8 +3,8 @@ use native.Mathlib.Numerals.{add-one}
 use Rattle.text.specs.Rest.{rest, size}
 use Rattle.text.specs.Numeral.{wordOf, spelled}
 use Rattle.grammar.specs.Limits.{MAX-RULES}
-use Rattle.grammar.specs.Reader.{opening}
-use Rattle.grammar.specs.Parse.{rule, rules}
+use Rattle.grammar.specs.Format.Reader.{opening}
+use Rattle.grammar.specs.Format.Parse.{rule, rules}
 use Rattle.book.specs.Layout.{ruleWords}
 use Rattle.book.specs.Sections.{Filling, filling-start, filling-turn, filling-less, filling-done}
 use Rattle.book.specs.Lines.{rule-shrinks}

@@ -1,4 +1,4 @@
-use Rattle.grammar.specs.Reader.{closing}
+use Rattle.grammar.specs.Format.Reader.{closing}
 use borrow.Author.Needs.{needs}
 use Rattle.book.proofs.spelling.closing.Statement.{statement}
 use Rattle.book.proofs.spelling.closing.Tie as tie

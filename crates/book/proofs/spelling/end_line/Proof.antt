@@ -1,5 +1,5 @@
 use Rattle.text.specs.Numeral.{spelled}
-use Rattle.grammar.specs.Parse.{endLine}
+use Rattle.grammar.specs.Format.Parse.{endLine}
 use borrow.Author.Needs.{needs}
 use Rattle.book.proofs.spelling.end_line.Statement.{statement}
 use Rattle.book.proofs.spelling.end_line.Tie as tie

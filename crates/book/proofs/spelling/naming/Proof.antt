@@ -1,4 +1,4 @@
-use Rattle.grammar.specs.Reader.{naming}
+use Rattle.grammar.specs.Format.Reader.{naming}
 use borrow.Author.Needs.{needs}
 use Rattle.book.proofs.spelling.naming.Statement.{statement}
 use Rattle.book.proofs.spelling.naming.Tie as tie

@@ -1,4 +1,4 @@
-use Rattle.grammar.specs.Reader.{opening}
+use Rattle.grammar.specs.Format.Reader.{opening}
 use borrow.Author.Needs.{needs}
 use Rattle.book.proofs.spelling.opening.Statement.{statement}
 use Rattle.book.proofs.spelling.opening.Tie as tie

@@ -1,6 +1,6 @@
 use Rattle.text.specs.Numeral.{spelled}
-use Rattle.grammar.specs.Reader.{item, after}
-use Rattle.grammar.specs.Parse.{symbol}
+use Rattle.grammar.specs.Format.Reader.{item, after}
+use Rattle.grammar.specs.Format.Parse.{symbol}
 use borrow.Author.Needs.{needs}
 use Rattle.book.proofs.symbol.symbol.Statement.{statement}
 use Rattle.book.proofs.symbol.symbol.Tie as tie

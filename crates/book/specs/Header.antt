@@ -5,8 +5,8 @@ use mathlib.Core.Path.{_≡_, refl}
 use Rattle.text.specs.Class.{space}
 use Rattle.text.specs.Rest.{Rest, mark}
 use Rattle.text.specs.Numeral.{wordOf}
-use Rattle.grammar.specs.Format.Reader.{item, after, Reader, pure, _>>=_, _>>_, decimalNumber, opening, closing}
-use Rattle.grammar.specs.Format.Parse.{owners, rules, inheritedDefinitions, synthesizedDefinitions, kernels, goes, endLine, book}
+use Rattle.grammar.specs.Format.Reader.{result, remaining, Reader, pure, _>>=_, _>>_, decimalNumber, opening, closing}
+use Rattle.grammar.specs.Format.Parse.{ownerLines, ruleLines, inheritedDefinitionLines, synthesizedDefinitionLines, kernelLines, goLines, endLine, bookText}
 use Rattle.book.specs.declared.header.HeaderRead.{HeaderRead}
 
 -- `(book T N Q)`
@@ -30,29 +30,29 @@ header = do
 abbrev pub numbersOf : HeaderRead → Numbers
 numbersOf r = record { terminals = r .terminals; nonterminals = r .nonterminals; states = r .states }
 
-pub book-is : (o : Rest) → book o ≡ (do
+pub book-is : (o : Rest) → bookText o ≡ (do
   head ← header
-  inherited ← owners (wordOf "inh") (wordOf "i")
-  synthesized ← owners (wordOf "syn") (wordOf "s")
-  grammar ← rules
-  inheritedRules ← inheritedDefinitions
-  synthesizedRules ← synthesizedDefinitions
-  items ← kernels
-  moves ← goes
+  inheritedOwners ← ownerLines (wordOf "inh") (wordOf "i")
+  synthesizedOwners ← ownerLines (wordOf "syn") (wordOf "s")
+  rules ← ruleLines
+  inheritedDefinitions ← inheritedDefinitionLines
+  synthesizedDefinitions ← synthesizedDefinitionLines
+  kernels ← kernelLines
+  goes ← goLines
   endLine
   pure (record {
     terminals = head .terminals;
     nonterminals = head .nonterminals;
     states = head .states;
-    inheritedOwners = inherited;
-    synthesizedOwners = synthesized;
-    rules = grammar;
-    inheritedDefinitions = inheritedRules;
-    synthesizedDefinitions = synthesizedRules;
-    kernels = items;
-    goes = moves;
+    inheritedOwners = inheritedOwners;
+    synthesizedOwners = synthesizedOwners;
+    rules = rules;
+    inheritedDefinitions = inheritedDefinitions;
+    synthesizedDefinitions = synthesizedDefinitions;
+    kernels = kernels;
+    goes = goes;
   })) o
-unfolding book header item after
+unfolding bookText header result remaining
 book-is o = refl
 
 -- opens every definition of this module

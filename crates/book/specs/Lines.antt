@@ -15,9 +15,9 @@ use Rattle.text.specs.Numeral.{decimal, wordOf, keyword}
 use Rattle.text.specs.Reading.{Reads}
 use Rattle.grammar.specs.Limits.{MAX-RULES, MAX-RIGHT}
 use Rattle.grammar.specs.Data.Symbol.{Symbol, Rule}
-use Rattle.grammar.specs.Format.Reader.{item, after, opening, closing, naming}
+use Rattle.grammar.specs.Format.Reader.{result, remaining, opening, closing, naming}
 use Rattle.grammar.specs.Format.ReaderLaws.{shrinking, opening-less}
-use Rattle.grammar.specs.Format.Parse.{symbolOf, symbol, symbols, owner, rule}
+use Rattle.grammar.specs.Format.Parse.{symbolOf, symbol, symbols, ownerLine, ruleLine}
 use Rattle.book.specs.Layout.{writeAt, putLine, storeLines, codeOf, symbolCode, codes, ownerWords, ruleWords}
 use Rattle.book.specs.LayoutLaws.{put-out}
 use Rattle.book.specs.Sections.{Shrinks, size-section, Fills, Puts}
@@ -51,20 +51,20 @@ module _ (terminal : Bool) (K : ℕ) where
 
 -- How much a line leaves
 
-pub owner-shrinks : (word letter : ℕ) → Shrinks (opening word) (owner letter)
-unfolding owner after
+pub owner-shrinks : (word letter : ℕ) → Shrinks (opening word) (ownerLine letter)
+unfolding ownerLine remaining
 owner-shrinks word letter = record { head-less = opening-less word; one-less = λ K o. search shrinking depth 20 }
 
 pub symbols-shrink : Shrinks (mark space) (λ (s : Unit {0}). symbol)
-unfolding symbol after
+unfolding symbol remaining
 symbols-shrink = record { head-less = found-mark space; one-less = λ s o. search shrinking depth 20 }
 
-most-symbols : (m : ℕ) (o : Rest) → size o ≤ m → size (after (symbols o)) ≤ m
+most-symbols : (m : ℕ) (o : Rest) → size o ≤ m → size (remaining (symbols o)) ≤ m
 unfolding symbols
 most-symbols m o h = omega (arith, size-section (mark space) (λ (s : Unit {0}). symbol) (λ s X. s) symbols-shrink tt o)
 
-pub rule-shrinks : (word : ℕ) → Shrinks (opening word) rule
-unfolding rule after
+pub rule-shrinks : (word : ℕ) → Shrinks (opening word) ruleLine
+unfolding ruleLine remaining
 rule-shrinks word = record { head-less = opening-less word; one-less = λ K o. search (shrinking, most-symbols) depth 20 }
 
 -- The steps of an owner's line: its letter, its number, the check of it, the letter of the owner, the owner, the end, the store
@@ -72,9 +72,9 @@ rule-shrinks word = record { head-less = opening-less word; one-less = λ K o. s
 module _ {text out out′ : List ℕ} {u : Rest} {p₁ n p₂ p₃ A p₄ p₅ : ℕ} (letter room k : ℕ) (o : Rest) where
   pub owner-steps : rest text p₁ ≡ keyword letter o → Reads decimal text p₁ n p₂ → u ≡ must (eqb n k) (rest text p₂)
       → rest text p₃ ≡ naming (wordOf "n") u → Reads decimal text p₃ A p₄ → rest text p₅ ≡ closing (rest text p₄)
-      → out′ ≡ putLine room k (A ∷ []) out → Puts ownerWords room k (owner letter k o) text out p₅ out′
-  unfolding owner ownerWords item after
-  owner-steps kind number due nonterminal left end stored = record { after-is = cc; array-is = cc }
+      → out′ ≡ putLine room k (A ∷ []) out → Puts ownerWords room k (ownerLine letter k o) text out p₅ out′
+  unfolding ownerLine ownerWords result remaining
+  owner-steps kind number due nonterminal left end stored = record { remaining-is = cc; array-is = cc }
 
 -- The words of a rule's line, and its steps
 
@@ -110,12 +110,12 @@ rule-line r e f g = rw (e, f, g ∙ right-codes (r .right))
 module _ {text right out out′ : List ℕ} {o : Rest} {k at n p₁ p₂ A p₃ m p₄ p₅ : ℕ} where
   pub rule-steps : Reads decimal text at n p₁ → o ≡ must (eqb n k) (rest text p₁) → rest text p₂ ≡ naming (wordOf "n") o → Reads decimal text p₂ A p₃
       → Fills symbolWords MAX-RIGHT (symbols (rest text p₃)) text zeros m p₄ right → rest text p₅ ≡ closing (rest text p₄)
-      → out′ ≡ putLine MAX-RULES k (A ∷ m ∷ firstEight right) out → Puts ruleWords MAX-RULES k (rule k (rest text at)) text out p₅ out′
-  unfolding rule item after
+      → out′ ≡ putLine MAX-RULES k (A ∷ m ∷ firstEight right) out → Puts ruleWords MAX-RULES k (ruleLine k (rest text at)) text out p₅ out′
+  unfolding ruleLine result remaining
   rule-steps number due letter left right-side end stored =
-      let words : A ∷ m ∷ firstEight right ≡ ruleWords (item (rule k (rest text at))) =
-      rule-line {right = right} (item (rule k (rest text at))) (cc) (cc) (cc) in
-      record { after-is = cc; array-is = stored ∙ rw words }
+      let words : A ∷ m ∷ firstEight right ≡ ruleWords (result (ruleLine k (rest text at))) =
+      rule-line {right = right} (result (ruleLine k (rest text at))) (cc) (cc) (cc) in
+      record { remaining-is = cc; array-is = stored ∙ rw words }
 
 -- opens every definition of this module
 unfoldable pub opens : Unit {0}

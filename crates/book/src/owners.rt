@@ -5,7 +5,7 @@ ghost use Rattle.text.specs.Rest.{rest};
 ghost use Rattle.text.specs.Numeral.{wordOf};
 ghost use Rattle.text.specs.Reading.{Lent};
 ghost use Rattle.grammar.specs.Limits.{MAX-INHERITED, MAX-SYNTHESIZED};
-ghost use Rattle.grammar.specs.Format.Parse.{owner, owners};
+ghost use Rattle.grammar.specs.Format.Parse.{ownerLine, ownerLines};
 ghost use Rattle.book.specs.Layout.{ownerWords};
 ghost use Rattle.book.specs.Sections.{Puts, Fills};
 use super::Book;
@@ -31,7 +31,7 @@ fn owner_line(
     out: &mut [u32],
 ) -> usize
     requires { ⌜ Lent (now t) (now text) × (room ≤ length (now out)) ⌝ }
-    ensures { λ r. ⌜ Puts ownerWords room k (owner letter k (rest (now (text .entry)) at)) (now (text .entry)) (now (out .entry)) r (now (out .exit)) ⌝ }
+    ensures { λ r. ⌜ Puts ownerWords room k (ownerLine letter k (rest (now (text .entry)) at)) (now (text .entry)) (now (out .entry)) r (now (out .exit)) ⌝ }
 {
     let a = text::keyword(t, text, at, letter);
     let number = text::number(t, text, a);
@@ -53,7 +53,7 @@ fn owner_lines(
     out: &mut [u32],
 ) -> Section
     requires { ⌜ Lent (now t) (now text) × (room ≤ length (now out)) ⌝ }
-    ensures { λ r. ⌜ Fills ownerWords room (owners word letter (rest (now (text .entry)) at))
+    ensures { λ r. ⌜ Fills ownerWords room (ownerLines word letter (rest (now (text .entry)) at))
         (now (text .entry)) (now (out .entry)) (r .count) (r .at) (now (out .exit)) ⌝ }
 {
     let n = text.len();
@@ -71,7 +71,7 @@ fn owner_lines(
 
 pub fn inherited_lines(t: &[u8; 256], text: &[u8], at: usize, out: &mut [u32]) -> Section
     requires { ⌜ Lent (now t) (now text) × (MAX-INHERITED ≤ length (now out)) ⌝ }
-    ensures { λ r. ⌜ Fills ownerWords MAX-INHERITED (owners (wordOf "inh") (wordOf "i") (rest (now (text .entry)) at))
+    ensures { λ r. ⌜ Fills ownerWords MAX-INHERITED (ownerLines (wordOf "inh") (wordOf "i") (rest (now (text .entry)) at))
         (now (text .entry)) (now (out .entry)) (r .count) (r .at) (now (out .exit)) ⌝ }
 {
     owner_lines(t, text, at, INH, I, Book::MAX_INHERITED as usize, out)
@@ -79,7 +79,7 @@ pub fn inherited_lines(t: &[u8; 256], text: &[u8], at: usize, out: &mut [u32]) -
 
 pub fn synthesized_lines(t: &[u8; 256], text: &[u8], at: usize, out: &mut [u32]) -> Section
     requires { ⌜ Lent (now t) (now text) × (MAX-SYNTHESIZED ≤ length (now out)) ⌝ }
-    ensures { λ r. ⌜ Fills ownerWords MAX-SYNTHESIZED (owners (wordOf "syn") (wordOf "s") (rest (now (text .entry)) at))
+    ensures { λ r. ⌜ Fills ownerWords MAX-SYNTHESIZED (ownerLines (wordOf "syn") (wordOf "s") (rest (now (text .entry)) at))
         (now (text .entry)) (now (out .entry)) (r .count) (r .at) (now (out .exit)) ⌝ }
 {
     owner_lines(t, text, at, SYN, S, Book::MAX_SYNTHESIZED as usize, out)

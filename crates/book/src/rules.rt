@@ -4,7 +4,7 @@ ghost use lib.ListN.{length};
 ghost use Rattle.text.specs.Rest.{rest};
 ghost use Rattle.text.specs.Reading.{Lent};
 ghost use Rattle.grammar.specs.Limits.{MAX-RULES, MAX-RIGHT};
-ghost use Rattle.grammar.specs.Format.Parse.{symbols, rule, rules};
+ghost use Rattle.grammar.specs.Format.Parse.{symbols, ruleLine, ruleLines};
 ghost use Rattle.book.specs.Layout.{ruleWords};
 ghost use Rattle.book.specs.Lines.{symbolWords, RULE-WORDS};
 ghost use Rattle.book.specs.Sections.{Fills, Puts};
@@ -48,7 +48,7 @@ fn right_side(t: &[u8; 256], text: &[u8], at: usize, out: &mut [u32]) -> Section
 // After the head, `K nA X1 .. Xm)` with K given; the rule goes to its place.
 fn rule_line(t: &[u8; 256], text: &[u8], at: usize, k: u32, out: &mut [u32]) -> usize
     requires { ⌜ Lent (now t) (now text) × (MAX-RULES * RULE-WORDS ≤ length (now out)) ⌝ }
-    ensures { λ r. ⌜ Puts ruleWords MAX-RULES k (rule k (rest (now (text .entry)) at)) (now (text .entry)) (now (out .entry)) r (now (out .exit)) ⌝ }
+    ensures { λ r. ⌜ Puts ruleWords MAX-RULES k (ruleLine k (rest (now (text .entry)) at)) (now (text .entry)) (now (out .entry)) r (now (out .exit)) ⌝ }
 {
     let number = text::number(t, text, at);
     let a = text::require(text, number.at, number.value == k);
@@ -74,7 +74,7 @@ fn rule_line(t: &[u8; 256], text: &[u8], at: usize, k: u32, out: &mut [u32]) -> 
 
 pub fn rule_lines(t: &[u8; 256], text: &[u8], at: usize, out: &mut [u32]) -> Section
     requires { ⌜ Lent (now t) (now text) × (MAX-RULES * RULE-WORDS ≤ length (now out)) ⌝ }
-    ensures { λ r. ⌜ Fills ruleWords MAX-RULES (rules (rest (now (text .entry)) at))
+    ensures { λ r. ⌜ Fills ruleWords MAX-RULES (ruleLines (rest (now (text .entry)) at))
         (now (text .entry)) (now (out .entry)) (r .count) (r .at) (now (out .exit)) ⌝ }
 {
     let n = text.len();

@@ -1,5 +1,5 @@
 use Rattle.text.specs.Numeral.{spelled}
-use Rattle.grammar.specs.Format.Reader.{item, after}
+use Rattle.grammar.specs.Format.Reader.{result, remaining}
 use Rattle.book.specs.Header.{header}
 use borrow.Author.Needs.{needs}
 use Rattle.book.proofs.header.header.Statement.{statement}
@@ -33,8 +33,8 @@ closing-requires : tie.Need-closing-requires
 closing-requires c κs = search needs
 
 returns : tie.Need-returns
-unfolding header item after spelled
-returns c = record { item-is = cc; after-is = cc }
+unfolding header result remaining spelled
+returns c = record { result-is = cc; remaining-is = cc }
 
 pub header-spec : {M : Type 1} → statement M
 header-spec =

@@ -2,7 +2,7 @@ use Prim.Native.Nat.{suc}
 use native.Mathlib.Numerals.{add-one}
 use Rattle.text.specs.Rest.{rest, size}
 use Rattle.grammar.specs.Format.Reader.{opening}
-use Rattle.grammar.specs.Format.Parse.{owner, owners}
+use Rattle.grammar.specs.Format.Parse.{ownerLine, ownerLines}
 use Rattle.book.specs.Layout.{ownerWords}
 use Rattle.book.specs.Sections.{Filling, filling-start, filling-turn, filling-less, filling-done}
 use Rattle.book.specs.Lines.{owner-shrinks}
@@ -16,14 +16,14 @@ use Rattle.book.proofs.spelling.opening.Reads as opening-reads
 
 abbrev Inv-loop : tie.InvT-loop
 Inv-loop t text at word letter room out₀ n p₀ k₀ out p k =
-    Filling (opening word) (owner letter) (λ K A. suc K) ownerWords room
-    text (owners word letter (rest text at)) out₀ k k p out
+    Filling (opening word) (ownerLine letter) (λ K A. suc K) ownerWords room
+    text (ownerLines word letter (rest text at)) out₀ k k p out
 
 abbrev μ-loop : tie.MeasureT-loop
 μ-loop t text at word letter room out₀ n p₀ k₀ out p k = size (rest text p)
 
 loop-holds : tie.Need-loop-holds Inv-loop μ-loop
-unfolding owners
+unfolding ownerLines
 loop-holds c = filling-start _ _ _ _ _ (owner-shrinks _ _) _ _ _ _
 
 opening-requires : tie.Need-opening-requires Inv-loop μ-loop
@@ -46,7 +46,7 @@ loop-less c =
     let line = c .before .before in
     let head = line .before .before .before in
     filling-less _ _ _ _ _ (owner-shrinks _ _) _ (head .before .loop .inv) (head .opening .ensures) (line .before .before .if1 .left)
-    (line .owner-line .ensures .after-is)
+    (line .owner-line .ensures .remaining-is)
 
 loop-again : tie.Need-loop-again Inv-loop μ-loop
 loop-again c =

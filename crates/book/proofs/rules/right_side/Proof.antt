@@ -58,7 +58,7 @@ loop-less : tie.Need-loop-less Inv-loop μ-loop
 loop-less c = let line = c .before .before .before .before .before .before in
     let head = line .before .before in
     filling-less _ _ _ _ _ symbols-shrink _ (head .before .loop .inv) (head .mark .ensures) (line .before .if1 .left)
-    (line .symbol .ensures .after-is)
+    (line .symbol .ensures .remaining-is)
 
 loop-again : tie.Need-loop-again Inv-loop μ-loop
 unfolding symbolWords

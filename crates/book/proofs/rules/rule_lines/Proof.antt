@@ -4,7 +4,7 @@ use Rattle.text.specs.Rest.{rest, size}
 use Rattle.text.specs.Numeral.{wordOf, spelled}
 use Rattle.grammar.specs.Limits.{MAX-RULES}
 use Rattle.grammar.specs.Format.Reader.{opening}
-use Rattle.grammar.specs.Format.Parse.{rule, rules}
+use Rattle.grammar.specs.Format.Parse.{ruleLine, ruleLines}
 use Rattle.book.specs.Layout.{ruleWords}
 use Rattle.book.specs.Sections.{Filling, filling-start, filling-turn, filling-less, filling-done}
 use Rattle.book.specs.Lines.{rule-shrinks}
@@ -18,14 +18,14 @@ use Rattle.book.proofs.spelling.opening.Reads as opening-reads
 
 abbrev Inv-loop : tie.InvT-loop
 Inv-loop t text at out₀ n p₀ k₀ out p k =
-    Filling (opening (wordOf "rule")) rule (λ K r. suc K) ruleWords MAX-RULES
-    text (rules (rest text at)) out₀ k k p out
+    Filling (opening (wordOf "rule")) ruleLine (λ K r. suc K) ruleWords MAX-RULES
+    text (ruleLines (rest text at)) out₀ k k p out
 
 abbrev μ-loop : tie.MeasureT-loop
 μ-loop t text at out₀ n p₀ k₀ out p k = size (rest text p)
 
 loop-holds : tie.Need-loop-holds Inv-loop μ-loop
-unfolding rules
+unfolding ruleLines
 loop-holds c = filling-start _ _ _ _ _ (rule-shrinks _) _ _ _ _
 
 opening-requires : tie.Need-opening-requires Inv-loop μ-loop
@@ -49,7 +49,7 @@ unfolding spelled
 loop-less c = let line = c .before .before in
     let head = line .before .before .before in
     filling-less _ _ _ _ _ (rule-shrinks _) _ (head .before .loop .inv) (head .opening .ensures) (line .before .before .if1 .left)
-    (line .rule-line .ensures .after-is)
+    (line .rule-line .ensures .remaining-is)
 
 loop-again : tie.Need-loop-again Inv-loop μ-loop
 unfolding spelled

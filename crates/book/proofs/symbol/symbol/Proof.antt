@@ -1,5 +1,5 @@
 use Rattle.text.specs.Numeral.{spelled}
-use Rattle.grammar.specs.Format.Reader.{item, after}
+use Rattle.grammar.specs.Format.Reader.{result, remaining}
 use Rattle.grammar.specs.Format.Parse.{symbol}
 use borrow.Author.Needs.{needs}
 use Rattle.book.proofs.symbol.symbol.Statement.{statement}
@@ -24,8 +24,8 @@ number-requires : tie.Need-number-requires
 number-requires c κs = search needs
 
 returns : tie.Need-returns
-unfolding symbol item after spelled
-returns c = record { item-is = cc; after-is = cc }
+unfolding symbol result remaining spelled
+returns c = record { result-is = cc; remaining-is = cc }
 
 pub symbol-spec : {M : Type 1} → statement M
 symbol-spec =

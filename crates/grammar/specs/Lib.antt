@@ -8,6 +8,8 @@ pub mod Conditions
 pub mod CoreItems
 pub mod Decides
 pub mod Expression
+pub mod ExpressionReads
+pub mod ExpressionWas
 pub mod First
 pub mod FirstSets
 pub mod Fixpoint

@@ -6,13 +6,14 @@ use mathlib.Core.Bool.{Bool, true, false}
 use mathlib.Core.List.{List, [], _∷_}
 use native.Mathlib.Omega.{arith}
 use lib.ListN.{length}
-use Rattle.text.specs.Class.{open-bracket, close-bracket, space, line-feed}
+use Rattle.text.specs.Class.{digit, open-bracket, close-bracket, space, line-feed, classOf}
 use Rattle.text.specs.ClassLaws.{byteOf}
 use Rattle.text.specs.Rest.{Rest, lost, left, found, must, mark, size}
 use Rattle.text.specs.RestLaws.{lost≢left, left-is, found-got, found-left, size-must, size-mark, found-mark}
 use Rattle.text.specs.RestLaws.{mark-got as mark-text}
-use Rattle.text.specs.Numeral.{decimal, letters, value, past, write, keyword}
-use Rattle.text.specs.NumeralLaws.{size-past, size-keyword}
+use Rattle.text.specs.Numeral.{decimal, letters, got, digitOf, digits, numeral, value, past, write, keyword}
+use Rattle.text.specs.Positional.{no-digit, digits-stop}
+use Rattle.text.specs.NumeralLaws.{number-written, written-head, size-past, size-keyword}
 use Rattle.text.specs.NumeralLaws.{number-got as number-text, keyword-got as keyword-text}
 use Rattle.grammar.specs.Printer.{Printer}
 use Rattle.grammar.specs.Ordered.{Fits}
@@ -99,3 +100,16 @@ unfolding naming size
 naming-less w o h =
     found-got (naming w o) h λ r e. naming-got w o e λ p. keyword-got w (mark space o) e λ q.
     omega (arith, size-keyword w (mark space o), found-mark space o (found-left (mark space o) q))
+
+-- What was printed is read
+
+no-letter : (b : ℕ) (bs : List ℕ) → classOf b ≡ digit → no-digit letters (b ∷ bs) ≡ true
+unfolding no-digit digitOf
+no-letter b bs h = rw h
+
+-- a number ends a word
+pub word-ends : (v n : ℕ) (r : List ℕ) → digits letters v (write decimal n r) ≡ got v (write decimal n r)
+word-ends v n r = written-head n r λ b bs e h. rw e (digits-stop letters v (b ∷ bs) (no-letter b bs h))
+
+pub number-reads : (n : ℕ) (r : List ℕ) → Fits n → no-digit decimal r ≡ true → numeral decimal (write decimal n r) ≡ got n r
+number-reads n r h k = number-written n r (omega arith) k

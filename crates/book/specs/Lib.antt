@@ -1,1 +1,4 @@
 pub mod Layout
+pub mod Expressions
+pub mod ExpressionsLaws
+pub mod ExpressionsLoop

@@ -35,6 +35,19 @@ store-more k (x ∷ steps) s line =
     store-more (suc k) steps s (putNode k (nodeWords x []) line)
     ∙ ap (λ (i : ℕ). putNode i (nodeWords s []) (storeNodes (suc k) steps (putNode k (nodeWords x []) line))) (omega arith)
 
+-- a node has three words
+pub three-words : (s : Step Place) → nodeWords s [] ≡ kindOf s ∷ getD (nodeWords s []) 1 0 ∷ getD (nodeWords s []) 2 0 ∷ []
+unfolding nodeWords
+three-words (push n) = refl
+three-words (load (own K)) = refl
+three-words (load (at J K)) = refl
+three-words (load (val J)) = refl
+three-words (operate add) = refl
+three-words (operate sub) = refl
+three-words (operate min) = refl
+three-words (operate max) = refl
+three-words select = refl
+
 -- Operators that wait
 
 pub kind-small : (s : Step Place) → kindOf s < 16

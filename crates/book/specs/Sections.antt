@@ -24,6 +24,10 @@ pub record Shrinks {A S : Type 0} (head : Rest → Rest) (one : S → Reader A) 
   pub head-less : (o : Rest) → found (head o) ≡ true → size (head o) < size o
   pub one-less : (s : S) (o : Rest) → size (after (one s o)) ≤ size o
 
+pub size-section : {A S : Type 0} (head : Rest → Rest) (one : S → Reader A) (next : S → A → S) → Shrinks head one → (s : S) (o : Rest)
+    → size (after (section head one next s o)) ≤ size o
+size-section head one next shrinks s o = section-size head one next (shrinks .head-less) (shrinks .one-less) s o
+
 -- what is left after a section, how many items there are, and what was kept of them
 pub data Outcome (D : Type 0) : Type 0 where
   outcome : Rest → ℕ → D → Outcome D
@@ -50,9 +54,6 @@ pub record Gathers {A D : Type 0} (keep : ℕ → A → D → D) (p : Parsed (Li
   pub kept-is : d ≡ keepFrom keep 0 (item p) d₀
 
 module _ {A S D : Type 0} (head : Rest → Rest) (one : S → Reader A) (next : S → A → S) (keep : ℕ → A → D → D) (shrinks : Shrinks head one) where
-  pub size-section : (s : S) (o : Rest) → size (after (section head one next s o)) ≤ size o
-  size-section s o = section-size head one next (shrinks .head-less) (shrinks .one-less) s o
-
   outcome-more : (s : S) (k : ℕ) (o : Rest) (d : D) (p : Parsed A) → found (head o) ≡ true → one s (head o) ≡ p
       → outcomeFrom keep k (section head one next s o) d
       ≡ outcomeFrom keep (suc k) (section head one next (next s (item p)) (after p)) (keep k (item p) d)

@@ -10,7 +10,7 @@ use Rattle.text.specs.Rest.{Rest, rest}
 use Rattle.text.specs.Numeral.{wordOf}
 use Rattle.grammar.specs.Book.{Place}
 use Rattle.grammar.specs.Postfix.{Step}
-use Rattle.grammar.specs.Expression.{Waiting, waiting, Begun, opened, whole, begun, either}
+use Rattle.grammar.specs.Expression.{Waiting, waiting, Begun, opened, whole, either}
 use Rattle.book.specs.Layout.{writeAt, nodeWords}
 
 -- node k of a line, in three words after the first four, where there is room for it
@@ -57,8 +57,8 @@ shownOf (opened w o) = shown true (waitingCode w) 0 0 o
 shownOf (whole s o) = shown false (kindOf s) (getD (nodeWords s []) 1 0) (getD (nodeWords s []) 2 0) o
 
 -- what is answered of a beginning
-pub record Begins (text : List ℕ) (at : ℕ) (opens : Bool) (code x y next : ℕ) : Type 0 where
-  pub shown-is : shown opens code x y (rest text next) ≡ shownOf (begun (rest text at))
+pub record Shows (b : Begun) (text : List ℕ) (opens : Bool) (code x y next : ℕ) : Type 0 where
+  pub shown-is : shown opens code x y (rest text next) ≡ shownOf b
 
 -- opens every definition of this module
 unfoldable pub opens : Unit {0}

@@ -9,22 +9,35 @@ use native.Mathlib.Numerals.{add-one}
 use lib.Dec.{ltb, eqb}
 use lib.ListN.{length, set, getD, replicate}
 use lib.Seq.{getD-set-same, getD-set-other, set-at}
-use borrow.Author.Tests.{eqb-true, lt-ltb, le-ltb}
+use borrow.Author.Tests.{eqb-true, ne-eqb, lt-ltb, le-ltb}
 use Rattle.text.specs.Class.{open-bracket, space}
-use Rattle.text.specs.Rest.{Rest, lost, left, found, mark, size}
-use Rattle.text.specs.RestLaws.{found-got, found-left, size-mark, less-mark, found-mark}
-use Rattle.text.specs.Numeral.{letters, Read, bad, got, written, write, numberOf, restOf, read, value, past, wordOf, spelled}
+use Rattle.text.specs.Rest.{Rest, lost, left, rest, found, mark, size}
+use Rattle.text.specs.RestLaws.{rest-out, found-in, found-out, found-got, found-left, size-mark, less-mark, found-mark}
+use Rattle.text.specs.Numeral.{decimal, letters, Read, bad, got, written, write, numberOf, restOf, read, value, past, wordOf, spelled}
+use Rattle.text.specs.Reading.{Reads}
 use Rattle.text.specs.Positional.{letters-positional}
 use Rattle.text.specs.NumeralLaws.{past-got}
 use Rattle.grammar.specs.Term.{add, sub, min, max}
 use Rattle.grammar.specs.Book.{Place, own, at, val}
 use Rattle.grammar.specs.Postfix.{Step, push, load, operate, select}
-use Rattle.grammar.specs.Expression.{Waiting, waiting, Begun, opened, whole, wholeOf, bracket, begun}
+use Rattle.grammar.specs.Expression.{Waiting, waiting, Begun, opened, whole, either, wholeOf, bracket, begun}
 use Rattle.grammar.specs.ExpressionReads.{either-cases, begun-bracket, begun-number, sizeBegun, begun-less}
-use Rattle.book.specs.Layout.{nodeWords}
-use Rattle.book.specs.Expressions.{putNode, storeNodes, kindOf, Operates, waitingCode, Waits, none-waits, one-waits, operatorCode, Shown, shown, shownOf}
+use Rattle.book.specs.Layout.{writeAt, nodeWords}
+use Rattle.book.specs.Expressions.{putNode, storeNodes, kindOf, Operates, waitingCode, Waits, none-waits, one-waits, operatorCode, Shown, shown, shownOf, Shows}
 
 -- Nodes
+
+-- a node in code: three stores, where there is room for it
+pub node-in : (k a b c : ℕ) (line : List ℕ) → k < 15 → set (set (set line (4 + 3 * k) a) (4 + 3 * k + 1) b) (4 + 3 * k + 2) c ≡ putNode k (a ∷ b ∷ c ∷ []) line
+unfolding putNode writeAt
+node-in k a b c line h =
+    let e : 4 + 3 * k + 1 ≡ suc (4 + 3 * k) = omega arith in
+    let f : 4 + 3 * k + 2 ≡ suc (suc (4 + 3 * k)) = omega arith in
+    rw (lt-ltb k 15 h, putNode) (rw (e, f))
+
+pub node-out : (k : ℕ) (node line : List ℕ) → 15 ≤ k → line ≡ putNode k node line
+unfolding putNode
+node-out k node line h = rw (le-ltb k 15 h, putNode)
 
 -- a node after the others
 pub store-more : (k : ℕ) (steps : List (Step Place)) (s : Step Place) (line : List ℕ)
@@ -120,3 +133,53 @@ begun-costs o = go (found (mark open-bracket o)) refl
     go : (t : Bool) → found (mark open-bracket o) ≡ t → Costs (size o) (begun o)
     go false h = rw (begun-number o h) costs-whole
     go true h = rw (begun-bracket o h) (bracket-costs o h)
+
+-- A bracket by its word
+
+-- two choices by one test
+either-both : {A B : Type 0} {x y : A} {u v : B} (P : A → B → Type 0) (t : Bool) → P x u → P y v → P (either t x y) (either t u v)
+either-both P true p q = p
+either-both P false p q = q
+
+module _ (word : ℕ) (text : List ℕ) (at : ℕ) where
+  pub bracket-opens : {c : ℕ} → c ≡ operatorCode word → (c ≡ 0 → ⊥) → Shows (bracket word (rest text at)) text true c 0 0 at
+  unfolding bracket operatorCode shownOf waitingCode nodeWords
+  bracket-opens e h =
+      let P : ℕ → Begun → Type 0 = λ c b. (c ≡ 0 → ⊥) → shown true c 0 0 (rest text at) ≡ shownOf b in
+      let z : P (operatorCode word) (bracket word (rest text at)) =
+          either-both P (eqb word (wordOf "add")) (λ _. refl)
+          (either-both P (eqb word (wordOf "sub")) (λ _. refl)
+          (either-both P (eqb word (wordOf "min")) (λ _. refl)
+          (either-both P (eqb word (wordOf "max")) (λ _. refl)
+          (either-both P (eqb word (wordOf "pick")) (λ _. refl) (λ k. absurd (k refl)))))) in
+      record { shown-is = rw e (z (λ q. h (e ∙ q))) }
+
+  pub bracket-lost : {c n : ℕ} → c ≡ operatorCode word → c ≡ 0 → (word ≡ wordOf "own" → ⊥) → (word ≡ wordOf "at" → ⊥) → (word ≡ wordOf "val" → ⊥)
+      → length text < n → Shows (bracket word (rest text at)) text false 8 0 0 n
+  unfolding bracket operatorCode shownOf nodeWords
+  bracket-lost {n = n} e h i j k l =
+      let P : ℕ → Begun → Type 0 = λ c b. c ≡ 0 → shown false 8 0 0 lost ≡ shownOf b in
+      let z : P (operatorCode word) (bracket word (rest text at)) =
+          either-both P (eqb word (wordOf "add")) (λ q. absurd (let z : ⊥ = omega arith in z))
+          (either-both P (eqb word (wordOf "sub")) (λ q. absurd (let z : ⊥ = omega arith in z))
+          (either-both P (eqb word (wordOf "min")) (λ q. absurd (let z : ⊥ = omega arith in z))
+          (either-both P (eqb word (wordOf "max")) (λ q. absurd (let z : ⊥ = omega arith in z))
+          (either-both P (eqb word (wordOf "pick")) (λ q. absurd (let z : ⊥ = omega arith in z))
+          (λ q. rw (ne-eqb word (wordOf "own") i, ne-eqb word (wordOf "at") j, ne-eqb word (wordOf "val") k)))))) in
+      record { shown-is = rw (rest-out text n l) (z (sym e ∙ h)) }
+
+-- A beginning by its first byte
+
+module _ {text : List ℕ} (at : ℕ) {a : ℕ} (e : rest text a ≡ mark open-bracket (rest text at)) where
+  pub shows-bracket : (b : ℕ) {word next code x y done : ℕ} {opens : Bool} → a ≤ length text → Reads letters text a word next → rest text b ≡ mark space (rest text next)
+      → Shows (bracket word (rest text b)) text opens code x y done → Shows (begun (rest text at)) text opens code x y done
+  shows-bracket b h r f s =
+      record {
+        shown-is =
+            s .shown-is
+            ∙ ap shownOf (rw (begun-bracket (rest text at) (ap found (sym e) ∙ found-in text a h)) (rw (r .value-is, f, r .rest-is, e)));
+      }
+
+  pub shows-number : {v next : ℕ} → length text < a → Reads decimal text at v next → Shows (begun (rest text at)) text false 0 v 0 next
+  unfolding shownOf nodeWords
+  shows-number h r = record { shown-is = rw (begun-number (rest text at) (ap found (sym e) ∙ found-out text a h)) (rw (r .value-is, r .rest-is)) }

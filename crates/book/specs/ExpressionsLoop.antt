@@ -16,7 +16,7 @@ use Rattle.grammar.specs.Reader.{Parsed, item, after}
 use Rattle.grammar.specs.Expression.{Waiting, waiting, Begun, opened, whole, begun, Machine, machine, goesOn, begin, turn, work, outcome, expressionSteps}
 use Rattle.grammar.specs.ExpressionReads.{sizeBegun, begun-less, work-stop, turn-opened, turn-whole, turn-space, turn-close}
 use Rattle.book.specs.Layout.{nodeWords}
-use Rattle.book.specs.Expressions.{putNode, storeNodes, kindOf, Operates, waitingCode, Waits, none-waits, one-waits, Shown, shown, shownOf, Begins}
+use Rattle.book.specs.Expressions.{putNode, storeNodes, kindOf, Operates, waitingCode, Waits, none-waits, one-waits, Shown, shown, shownOf, Shows}
 use Rattle.book.specs.ExpressionsLaws.{store-more, three-words, kind-small, waits-push, Costs, costs-opened, costs-whole, begun-costs}
 
 -- what is answered of an expression: the number of its nodes, the position after it, and the line with its nodes
@@ -149,7 +149,7 @@ working-start text line codes at =
 
 module _ {text line₀ codes line : List ℕ} {start : Machine} {depth at count : ℕ} {due : Bool} (w : Working text line₀ start codes depth due at count line) where
   module _ (h : at ≤ length text) where
-    module _ {opens : Bool} {c x y next : ℕ} (b : Begins text at opens c x y next) where
+    module _ {opens : Bool} {c x y next : ℕ} (b : Shows (begun (rest text at)) text opens c x y next) where
       pub begun-shorter : size (rest text next) < size (rest text at)
       begun-shorter = begins-less (rest text at) (rest text next) (found-in text at h) (b .shown-is)
 

@@ -6,3 +6,6 @@ pub mod Sections
 pub mod Expressions
 pub mod ExpressionsLaws
 pub mod ExpressionsLoop
+pub mod Definitions
+pub mod DefinitionsLine
+pub mod DefinitionsLaws

@@ -7,15 +7,12 @@ use Rattle.book.proofs.spelling.naming.Lts as lts
 use Rattle.text.proofs.keyword.Reads as keyword-reads
 use Rattle.text.proofs.mark.Reads as mark-reads
 
--- src/spelling.rt:31:9
 mark-requires : tie.Need-mark-requires
 mark-requires c κs = search needs
 
--- src/spelling.rt:32:5
 keyword-requires : tie.Need-keyword-requires
 keyword-requires c κs = search needs
 
--- src/spelling.rt:27:1
 returns : tie.Need-returns
 unfolding naming
 returns c = cc

@@ -7,19 +7,15 @@ use Rattle.book.proofs.spelling.opening.Lts as lts
 use Rattle.text.proofs.keyword.Reads as keyword-reads
 use Rattle.text.proofs.mark.Reads as mark-reads
 
--- src/spelling.rt:12:9
 mark-requires : tie.Need-mark-requires
 mark-requires c κs = search needs
 
--- src/spelling.rt:13:9
 keyword-requires : tie.Need-keyword-requires
 keyword-requires c κs = search needs
 
--- src/spelling.rt:14:5
 mark-requires-2 : tie.Need-mark-requires-2
 mark-requires-2 c κs = search needs
 
--- src/spelling.rt:8:1
 returns : tie.Need-returns
 unfolding opening
 returns c = cc

@@ -9,25 +9,20 @@ use Rattle.book.proofs.store.put_line.Reads as reads
 use Rattle.book.proofs.store.put_line.Lts as lts
 use Rattle.book.proofs.store.write_at.Reads as write-at-reads
 
--- src/store.rt:26:23
 mul-write-at : tie.Need-mul-write-at
 mul-write-at c = let s = c .before .before .before .before in
     omega (arith, room-for (length (s .args .line .now)) (c .before .if1 .taken) (s .pre))
 
--- src/store.rt:26:9
 write-at-requires : tie.Need-write-at-requires
 write-at-requires c κs = let s = c .before .before .before .before in
     omega (arith, room-for (length (s .args .line .now)) (c .before .if1 .taken) (s .pre))
 
--- src/store.rt:20:1
 same-length : tie.Need-same-length
 same-length c = search needs
 
--- src/store.rt:20:1
 returns : tie.Need-returns
 returns c = c .before .before .write-at .ensures ∙ sym (put-in _ _ _ _ (c .before .before .before .before .if1 .taken))
 
--- src/store.rt:20:1
 returns-2 : tie.Need-returns-2
 returns-2 c = sym (put-out _ _ _ _ (c .if1 .left))
 

@@ -11,23 +11,18 @@ use Rattle.text.proofs.number.Reads as number-reads
 use Rattle.text.proofs.require.Reads as require-reads
 use Rattle.text.proofs.word.Reads as word-reads
 
--- src/symbol.rt:35:9
 word-requires : tie.Need-word-requires
 word-requires c κs = search needs
 
--- src/symbol.rt:36:44
 is-letter-requires : tie.Need-is-letter-requires
 is-letter-requires c κs = search needs
 
--- src/symbol.rt:36:9
 require-requires : tie.Need-require-requires
 require-requires c κs = search needs
 
--- src/symbol.rt:37:9
 number-requires : tie.Need-number-requires
 number-requires c κs = search needs
 
--- src/symbol.rt:31:1
 returns : tie.Need-returns
 unfolding symbol item after spelled
 returns c = record { item-is = cc; after-is = cc }

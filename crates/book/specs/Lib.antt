@@ -3,6 +3,7 @@ pub mod Header
 pub mod Layout
 pub mod LayoutLaws
 pub mod Lines
+pub mod Order
 pub mod Sections
 pub mod Expressions
 pub mod ExpressionsLaws

@@ -1,20 +1,17 @@
 -- The lines of definitions with the steps of their expressions kept, as code reads them: `(inhdef P J iK e)` and `(syndef P sK e)` alike, with
 -- position 0 for a synthesized attribute. Assumes nothing.
-use Prim.Native.Nat.{ℕ, zero, suc, _+_}
-use mathlib.Core.Path.{_≡_}
+use Prim.Native.Nat.{ℕ}
 use mathlib.Core.Bool.{Bool, true, false}
 use mathlib.Core.List.{List, [], _∷_}
-use lib.ListN.{length}
 use Rattle.text.specs.Class.{space}
-use Rattle.text.specs.Rest.{rest, must, mark}
+use Rattle.text.specs.Rest.{must, mark}
 use Rattle.text.specs.Numeral.{wordOf}
-use Rattle.grammar.specs.Limits.{MAX-DEFINITIONS}
 use Rattle.grammar.specs.Book.{Place, InheritedDefinition, SynthesizedDefinition}
 use Rattle.grammar.specs.Postfix.{Step, termOf}
-use Rattle.grammar.specs.Reader.{Parsed, item, after, Reader, pure, _>>=_, _>>_, decimalNumber, opening, closing, naming, section}
+use Rattle.grammar.specs.Reader.{item, after, Reader, pure, _>>=_, _>>_, decimalNumber, opening, closing, naming, section}
 use Rattle.grammar.specs.Expression.{expressionSteps}
 use Rattle.grammar.specs.Parse.{before}
-use Rattle.book.specs.Layout.{definitionWords, putLine, storeLines}
+use Rattle.book.specs.Layout.{definitionWords}
 
 -- what a line defines
 pub record Defined : Type 0 where
@@ -38,9 +35,12 @@ synthesizedOf d = record { rule = d .defined .rule; attribute = d .defined .attr
 unfoldable pub wordsOf : Definition → List ℕ
 wordsOf d = definitionWords (d .defined .rule) (d .defined .position) (d .defined .attribute) (d .steps)
 
--- by what the lines ascend
-unfoldable pub keyOf : Defined → List ℕ
-keyOf d = d .rule ∷ d .position ∷ d .attribute ∷ []
+-- "Inhdef lines ascend strictly by (P,J,K), syndef by (P,K)"
+unfoldable pub ascending : Defined → List ℕ
+ascending d = d .rule ∷ d .position ∷ d .attribute ∷ []
+
+abbrev pub nextKey : List ℕ → Definition → List ℕ
+nextKey last d = ascending (d .defined)
 
 -- `P J iK`
 unfoldable pub inheritedDefined : Reader Defined
@@ -71,7 +71,7 @@ definition inherited last = do
   mark space
   steps ← expressionSteps
   closing
-  must (before last (keyOf d))
+  must (before last (ascending d))
   pure (record { defined = d; steps = steps })
 
 unfoldable pub wordFor : Bool → ℕ
@@ -79,9 +79,9 @@ wordFor true = wordOf "inhdef"
 wordFor false = wordOf "syndef"
 
 unfoldable pub definitions : Bool → Reader (List Definition)
-definitions inherited = section (opening (wordFor inherited)) (definition inherited) (λ last d. keyOf (d .defined)) []
+definitions inherited = section (opening (wordFor inherited)) (definition inherited) nextKey []
 
 -- opens every definition of this module
 unfoldable pub opens : Unit {0}
-unfolding inheritedOf synthesizedOf wordsOf keyOf inheritedDefined synthesizedDefined definedBy definition wordFor definitions
+unfolding inheritedOf synthesizedOf wordsOf ascending inheritedDefined synthesizedDefined definedBy definition wordFor definitions
 opens = tt

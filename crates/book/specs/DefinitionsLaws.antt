@@ -11,7 +11,7 @@ use Rattle.grammar.specs.Ordered.{inheritedKey, synthesizedKey}
 use Rattle.grammar.specs.Reader.{Parsed, parsed, item, after, Reader, opening, many, section}
 use Rattle.grammar.specs.Expression.{expression}
 use Rattle.grammar.specs.Parse.{before, inheritedDefinition, synthesizedDefinition, inheritedDefinitions, synthesizedDefinitions}
-use Rattle.book.specs.Definitions.{Defined, Definition, inheritedOf, synthesizedOf, keyOf, inheritedDefined, synthesizedDefined, definedBy, definition, wordFor, definitions}
+use Rattle.book.specs.Definitions.{Defined, Definition, inheritedOf, synthesizedOf, ascending, nextKey, inheritedDefined, synthesizedDefined, definedBy, definition, wordFor, definitions}
 
 -- Sections of lines that correspond
 
@@ -55,8 +55,8 @@ unfolding before
 before-same last other P K no-key = refl
 before-same last other P K same-key = refl
 
-inherited-same : Same inheritedOf (λ (s t : List ℕ). s ≡ t) (definition true) (λ last d. keyOf (d .defined)) inheritedDefinition (λ last. inheritedKey)
-unfolding definition definedBy inheritedDefined inheritedDefinition inheritedOf keyOf inheritedKey expression item after
+inherited-same : Same inheritedOf (λ (s t : List ℕ). s ≡ t) (definition true) nextKey inheritedDefinition (λ last. inheritedKey)
+unfolding definition definedBy inheritedDefined inheritedDefinition inheritedOf ascending inheritedKey expression item after
 inherited-same =
     record {
       same-after = λ s t r o. rw r;
@@ -64,8 +64,8 @@ inherited-same =
       same-next = λ s t r o. refl;
     }
 
-synthesized-same : Same synthesizedOf SameKey (definition false) (λ last d. keyOf (d .defined)) synthesizedDefinition (λ last. synthesizedKey)
-unfolding definition definedBy synthesizedDefined synthesizedDefinition synthesizedOf keyOf synthesizedKey expression item after
+synthesized-same : Same synthesizedOf SameKey (definition false) nextKey synthesizedDefinition (λ last. synthesizedKey)
+unfolding definition definedBy synthesizedDefined synthesizedDefinition synthesizedOf ascending synthesizedKey expression item after
 synthesized-same =
     record {
       same-after = λ s t r o. rw (before-same s t _ _ r);
@@ -76,10 +76,10 @@ synthesized-same =
 pub inherited-lines : (o : Rest) → inheritedDefinitions o ≡ parsed (map inheritedOf (item (definitions true o))) (after (definitions true o))
 unfolding inheritedDefinitions definitions wordFor
 inherited-lines o =
-    section-map (opening (wordFor true)) inheritedOf _ (definition true) (λ last d. keyOf (d .defined)) inheritedDefinition (λ last. inheritedKey) inherited-same [] [] refl o
+    section-map (opening (wordFor true)) inheritedOf _ (definition true) nextKey inheritedDefinition (λ last. inheritedKey) inherited-same [] [] refl o
 
 pub synthesized-lines : (o : Rest) → synthesizedDefinitions o ≡ parsed (map synthesizedOf (item (definitions false o))) (after (definitions false o))
 unfolding synthesizedDefinitions definitions wordFor
 synthesized-lines o =
-    section-map (opening (wordFor false)) synthesizedOf _ (definition false) (λ last d. keyOf (d .defined)) synthesizedDefinition (λ last. synthesizedKey) synthesized-same [] []
+    section-map (opening (wordFor false)) synthesizedOf _ (definition false) nextKey synthesizedDefinition (λ last. synthesizedKey) synthesized-same [] []
     no-key o

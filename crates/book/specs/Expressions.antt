@@ -8,14 +8,22 @@ use lib.Dec.{ltb, eqb}
 use lib.ListN.{getD}
 use Rattle.text.specs.Rest.{Rest, rest}
 use Rattle.text.specs.Numeral.{wordOf}
+use Rattle.grammar.specs.Limits.{MAX-NODES}
 use Rattle.grammar.specs.Book.{Place}
 use Rattle.grammar.specs.Postfix.{Step}
 use Rattle.grammar.specs.Expression.{Waiting, waiting, Begun, opened, whole, either}
 use Rattle.book.specs.Layout.{writeAt, nodeWords}
 
+-- the words of a definition, and the most operators that wait in a text: each has five bytes or more
+abbrev pub DEFINITION-WORDS : ℕ
+DEFINITION-WORDS = 49
+
+abbrev pub MAX-WAITING : ℕ
+MAX-WAITING = 13107
+
 -- node k of a line, in three words after the first four, where there is room for it
 unfoldable pub putNode : ℕ → List ℕ → List ℕ → List ℕ
-putNode k node line = elim (ltb k 15) [ true ↦ writeAt (4 + 3 * k) node line | false ↦ line ]
+putNode k node line = elim (ltb k MAX-NODES) [ true ↦ writeAt (4 + 3 * k) node line | false ↦ line ]
 
 -- nodes from the k-th on
 unfoldable pub storeNodes : ℕ → List (Step Place) → List ℕ → List ℕ

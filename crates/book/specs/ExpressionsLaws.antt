@@ -17,6 +17,7 @@ use Rattle.text.specs.Numeral.{decimal, letters, Read, bad, got, written, write
 use Rattle.text.specs.Reading.{Reads}
 use Rattle.text.specs.Positional.{letters-positional}
 use Rattle.text.specs.NumeralLaws.{past-got}
+use Rattle.grammar.specs.Limits.{MAX-NODES}
 use Rattle.grammar.specs.Term.{add, sub, min, max}
 use Rattle.grammar.specs.Book.{Place, own, at, val}
 use Rattle.grammar.specs.Postfix.{Step, push, load, operate, select}
@@ -28,16 +29,16 @@ use Rattle.book.specs.Expressions.{putNode, storeNodes, kindOf, Operates
 -- Nodes
 
 -- a node in code: three stores, where there is room for it
-pub node-in : (k a b c : ℕ) (line : List ℕ) → k < 15 → set (set (set line (4 + 3 * k) a) (4 + 3 * k + 1) b) (4 + 3 * k + 2) c ≡ putNode k (a ∷ b ∷ c ∷ []) line
+pub node-in : (k a b c : ℕ) (line : List ℕ) → k < MAX-NODES → set (set (set line (4 + 3 * k) a) (4 + 3 * k + 1) b) (4 + 3 * k + 2) c ≡ putNode k (a ∷ b ∷ c ∷ []) line
 unfolding putNode writeAt
 node-in k a b c line h =
     let e : 4 + 3 * k + 1 ≡ suc (4 + 3 * k) = omega arith in
     let f : 4 + 3 * k + 2 ≡ suc (suc (4 + 3 * k)) = omega arith in
-    rw (lt-ltb k 15 h, putNode) (rw (e, f))
+    rw (lt-ltb k MAX-NODES h, putNode) (rw (e, f))
 
-pub node-out : (k : ℕ) (node line : List ℕ) → 15 ≤ k → line ≡ putNode k node line
+pub node-out : (k : ℕ) (node line : List ℕ) → MAX-NODES ≤ k → line ≡ putNode k node line
 unfolding putNode
-node-out k node line h = rw (le-ltb k 15 h, putNode)
+node-out k node line h = rw (le-ltb k MAX-NODES h, putNode)
 
 -- a node after the others
 pub store-more : (k : ℕ) (steps : List (Step Place)) (s : Step Place) (line : List ℕ)

@@ -10,13 +10,14 @@ use lib.ListN.{length, set, getD, length-set, length-append}
 use Rattle.text.specs.Class.{close-bracket, space}
 use Rattle.text.specs.Rest.{Rest, left, rest, found, mark, size}
 use Rattle.text.specs.RestLaws.{rest-in, found-in, found-out, size-rest, less-mark}
+use Rattle.grammar.specs.Limits.{MAX-TEXT}
 use Rattle.grammar.specs.Book.{Place}
 use Rattle.grammar.specs.Postfix.{Step}
 use Rattle.grammar.specs.Reader.{Parsed, item, after}
 use Rattle.grammar.specs.Expression.{Waiting, waiting, Begun, opened, whole, begun, Machine, machine, goesOn, begin, turn, work, outcome, expressionSteps}
 use Rattle.grammar.specs.ExpressionReads.{sizeBegun, begun-less, work-stop, turn-opened, turn-whole, turn-space, turn-close}
 use Rattle.book.specs.Layout.{nodeWords}
-use Rattle.book.specs.Expressions.{putNode, storeNodes, kindOf, Operates, waitingCode, Waits, none-waits, one-waits, Shown, shown, shownOf, Shows}
+use Rattle.book.specs.Expressions.{MAX-WAITING, putNode, storeNodes, kindOf, Operates, waitingCode, Waits, none-waits, one-waits, Shown, shown, shownOf, Shows}
 use Rattle.book.specs.ExpressionsLaws.{store-more, three-words, kind-small, waits-push, Costs, costs-opened, costs-whole, begun-costs}
 
 -- what is answered of an expression: the number of its nodes, the position after it, and the line with its nodes
@@ -157,10 +158,10 @@ module _ {text line₀ codes line : List ℕ} {start : Machine} {depth at count 
         open-less : size (rest text next) + 5 ≤ size (rest text at)
         open-less = opened-less (begun (rest text at)) (size (rest text at)) (rest text next) (begun-costs (rest text at)) (rw e at (b .shown-is))
 
-        pub open-fits : length text ≤ 65536 → depth < 13107
+        pub open-fits : length text ≤ MAX-TEXT → depth < MAX-WAITING
         open-fits l = omega (arith, open-less, w .deep)
 
-        pub working-open : length codes ≡ 13107 → length text ≤ 65536 → due ≡ true → Working text line₀ start (set codes depth c) (depth + 1) due next count line
+        pub working-open : length codes ≡ MAX-WAITING → length text ≤ MAX-TEXT → due ≡ true → Working text line₀ start (set codes depth c) (depth + 1) due next count line
         working-open k l d =
             record {
               counted = omega (arith, open-less, w .counted);
@@ -184,7 +185,7 @@ module _ {text line₀ codes line : List ℕ} {start : Machine} {depth at count 
     mark-shorter class next f = omega (arith, ap size f, less-mark class (rest text at) (found-in text at h))
 
     module _ {c next : ℕ} (d : due ≡ false) (deeper : 0 < depth) (e : c ≡ getD codes (depth - 1) 0) where
-      pub working-space : length codes ≡ 13107 → length text ≤ 65536 → 16 ≤ c → rest text next ≡ mark space (rest text at)
+      pub working-space : length codes ≡ MAX-WAITING → length text ≤ MAX-TEXT → 16 ≤ c → rest text next ≡ mark space (rest text at)
           → Working text line₀ start (set codes (depth - 1) (c - 16)) depth true next count line
       working-space k l large f =
           record {

@@ -11,3 +11,4 @@ pub mod ExpressionsLoop
 pub mod Definitions
 pub mod DefinitionsLine
 pub mod DefinitionsLaws
+pub mod DefinitionsLoop

@@ -6,7 +6,7 @@ ghost use lib.ListN.{length};
 ghost use Rattle.text.specs.Rest.{rest};
 ghost use Rattle.text.specs.Reading.{Lent};
 ghost use Rattle.grammar.specs.Expression.{begun, bracket, ownPlace, atPlace, valPlace, wholeOf, expressionSteps};
-ghost use Rattle.book.specs.Expressions.{putNode, operatorCode, Shows};
+ghost use Rattle.book.specs.Expressions.{DEFINITION-WORDS, MAX-WAITING, putNode, operatorCode, Shows};
 ghost use Rattle.book.specs.ExpressionsLoop.{Expresses};
 
 use super::Book;
@@ -32,8 +32,8 @@ const AT: u32 = 1 * 32 + 20;
 
 const VAL: u32 = (22 * 32 + 1) * 32 + 12;
 
-// The most operators that can wait in 65,536 bytes of text, each with five bytes or more.
-pub const DEPTH: usize = 13107;
+// The most operators that can wait: each has five bytes or more.
+pub const MAX_WAITING: usize = Book::MAX_TEXT / 5;
 
 // How an expression begins: with an operator's bracket, which stays open, or as one whole node of a kind and two numbers.
 struct Beginning {
@@ -46,7 +46,7 @@ struct Beginning {
 
 // Node k of a line, where there is room for it.
 fn put_node(line: &mut [u32], k: u32, kind: u8, x: u32, y: u32)
-    requires { ⌜ length (now line) ≡ 49 ⌝ }
+    requires { ⌜ length (now line) ≡ DEFINITION-WORDS ⌝ }
     ensures { λ _. ⌜ now (line .exit) ≡ putNode k (kind ∷ x ∷ y ∷ []) (now (line .entry)) ⌝ }
 {
     if k < Book::MAX_NODES {
@@ -183,7 +183,7 @@ fn begun(t: &[u8; 256], text: &[u8], at: usize) -> Beginning
 
 // Reads an expression: its first nodes to the line, and the number of them all. `waits` is room for the operators that wait, whatever it holds.
 pub fn expression(t: &[u8; 256], text: &[u8], at: usize, waits: &mut [u8], line: &mut [u32]) -> Cursor
-    requires { ⌜ Lent (now t) (now text) × (length (now waits) ≡ 13107) × (length (now line) ≡ 49) ⌝ }
+    requires { ⌜ Lent (now t) (now text) × (length (now waits) ≡ MAX-WAITING) × (length (now line) ≡ DEFINITION-WORDS) ⌝ }
     ensures { λ r. ⌜ Expresses (expressionSteps (rest (now (text .entry)) at)) (now (text .entry)) (now (line .entry)) (r .value) (r .at) (now (line .exit)) ⌝ }
 {
     let mut depth: usize = 0;

@@ -4,4 +4,12 @@ pub mod Held
 pub mod Layout
 pub mod LayoutLaws
 pub mod Lines
+pub mod Order
 pub mod Sections
+pub mod Expressions
+pub mod ExpressionsLaws
+pub mod ExpressionsLoop
+pub mod Definitions
+pub mod DefinitionsLine
+pub mod DefinitionsLaws
+pub mod DefinitionsLoop

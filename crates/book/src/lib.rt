@@ -1,5 +1,8 @@
 // Reading a book's text into arrays, and its conditions 2 to 6.
+pub mod definitions;
+pub mod expression;
 pub mod header;
+pub mod order;
 pub mod owners;
 pub mod rules;
 pub mod spelling;

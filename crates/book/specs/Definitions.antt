@@ -6,11 +6,11 @@ use mathlib.Core.List.{List, [], _∷_}
 use Rattle.text.specs.Class.{space}
 use Rattle.text.specs.Rest.{must, mark}
 use Rattle.text.specs.Numeral.{wordOf}
-use Rattle.grammar.specs.Book.{Place, InheritedDefinition, SynthesizedDefinition}
-use Rattle.grammar.specs.Postfix.{Step, termOf}
-use Rattle.grammar.specs.Reader.{item, after, Reader, pure, _>>=_, _>>_, decimalNumber, opening, closing, naming, section}
-use Rattle.grammar.specs.Expression.{expressionSteps}
-use Rattle.grammar.specs.Parse.{before}
+use Rattle.grammar.specs.Data.Book.{Place, InheritedDefinition, SynthesizedDefinition}
+use Rattle.grammar.specs.Data.Postfix.{Step, termOf}
+use Rattle.grammar.specs.Format.Reader.{result, remaining, Reader, pure, _>>=_, _>>_, decimalNumber, opening, closing, naming, section}
+use Rattle.grammar.specs.Format.Expression.{expressionSteps}
+use Rattle.grammar.specs.Format.Parse.{isBefore}
 use Rattle.book.specs.Layout.{definitionWords}
 
 -- what a line defines
@@ -71,7 +71,7 @@ definition inherited last = do
   mark space
   steps ← expressionSteps
   closing
-  must (before last (ascending d))
+  must (isBefore last (ascending d))
   pure (record { defined = d; steps = steps })
 
 unfoldable pub wordFor : Bool → ℕ

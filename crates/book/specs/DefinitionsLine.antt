@@ -8,9 +8,9 @@ use lib.ListN.{length, set, replicate, length-append}
 use lib.Seq.{set-at, append-snoc}
 use borrow.Author.Tests.{lt-ltb}
 use Rattle.grammar.specs.Limits.{MAX-NODES}
-use Rattle.grammar.specs.Term.{add, sub, min, max}
-use Rattle.grammar.specs.Book.{Place, own, at, val}
-use Rattle.grammar.specs.Postfix.{Step, push, load, operate, select}
+use Rattle.grammar.specs.Data.Term.{add, sub, min, max}
+use Rattle.grammar.specs.Data.Book.{Place, own, at, val}
+use Rattle.grammar.specs.Data.Postfix.{Step, push, load, operate, select}
 use Rattle.book.specs.Layout.{writeAt, nodeWords, nodesWords, definitionWords}
 use Rattle.book.specs.Expressions.{DEFINITION-WORDS, putNode, storeNodes, kindOf}
 use Rattle.book.specs.ExpressionsLaws.{node-out, three-words}

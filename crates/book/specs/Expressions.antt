@@ -9,9 +9,9 @@ use lib.ListN.{getD}
 use Rattle.text.specs.Rest.{Rest, rest}
 use Rattle.text.specs.Numeral.{wordOf}
 use Rattle.grammar.specs.Limits.{MAX-NODES}
-use Rattle.grammar.specs.Book.{Place}
-use Rattle.grammar.specs.Postfix.{Step}
-use Rattle.grammar.specs.Expression.{Waiting, waiting, Begun, opened, whole, either}
+use Rattle.grammar.specs.Data.Book.{Place}
+use Rattle.grammar.specs.Data.Postfix.{Step}
+use Rattle.grammar.specs.Format.Expression.{Waiting, waiting, Begun, opened, whole, either}
 use Rattle.book.specs.Layout.{writeAt, nodeWords}
 
 -- the words of a definition, and the most operators that wait in a text: each has five bytes or more

@@ -18,11 +18,11 @@ use Rattle.text.specs.Reading.{Reads}
 use Rattle.text.specs.Positional.{letters-positional}
 use Rattle.text.specs.NumeralLaws.{past-got}
 use Rattle.grammar.specs.Limits.{MAX-NODES}
-use Rattle.grammar.specs.Term.{add, sub, min, max}
-use Rattle.grammar.specs.Book.{Place, own, at, val}
-use Rattle.grammar.specs.Postfix.{Step, push, load, operate, select}
-use Rattle.grammar.specs.Expression.{Waiting, waiting, Begun, opened, whole, either, wholeOf, bracket, begun}
-use Rattle.grammar.specs.ExpressionReads.{either-cases, begun-bracket, begun-number, sizeBegun, begun-less}
+use Rattle.grammar.specs.Data.Term.{add, sub, min, max}
+use Rattle.grammar.specs.Data.Book.{Place, own, at, val}
+use Rattle.grammar.specs.Data.Postfix.{Step, push, load, operate, select}
+use Rattle.grammar.specs.Format.Expression.{Waiting, waiting, Begun, opened, whole, either, wholeOf, bracket, begun}
+use Rattle.grammar.specs.Format.ExpressionReads.{either-cases, begun-bracket, begun-number, sizeBegun, begun-less}
 use Rattle.book.specs.Layout.{writeAt, nodeWords}
 use Rattle.book.specs.Expressions.{putNode, storeNodes, kindOf, Operates, waitingCode, Waits, none-waits, one-waits, operatorCode, Shown, shown, shownOf, Shows}
 

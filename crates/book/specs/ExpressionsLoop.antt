@@ -11,27 +11,27 @@ use Rattle.text.specs.Class.{close-bracket, space}
 use Rattle.text.specs.Rest.{Rest, left, rest, found, mark, size}
 use Rattle.text.specs.RestLaws.{rest-in, found-in, found-out, size-rest, less-mark}
 use Rattle.grammar.specs.Limits.{MAX-TEXT}
-use Rattle.grammar.specs.Book.{Place}
-use Rattle.grammar.specs.Postfix.{Step}
-use Rattle.grammar.specs.Reader.{Parsed, item, after}
-use Rattle.grammar.specs.Expression.{Waiting, waiting, Begun, opened, whole, begun, Machine, machine, goesOn, begin, turn, work, outcome, expressionSteps}
-use Rattle.grammar.specs.ExpressionReads.{sizeBegun, begun-less, work-stop, turn-opened, turn-whole, turn-space, turn-close}
+use Rattle.grammar.specs.Data.Book.{Place}
+use Rattle.grammar.specs.Data.Postfix.{Step}
+use Rattle.grammar.specs.Format.Reader.{Parsed, result, remaining}
+use Rattle.grammar.specs.Format.Expression.{Waiting, waiting, Begun, opened, whole, begun, Scan, scan, scanMore, begin, scanTurn, scanAll, outcome, expressionSteps}
+use Rattle.grammar.specs.Format.ExpressionReads.{sizeBegun, begun-less, scan-stop, turn-opened, turn-whole, turn-space, turn-close}
 use Rattle.book.specs.Layout.{nodeWords}
 use Rattle.book.specs.Expressions.{MAX-WAITING, putNode, storeNodes, kindOf, Operates, waitingCode, Waits, none-waits, one-waits, Shown, shown, shownOf, Shows}
 use Rattle.book.specs.ExpressionsLaws.{store-more, three-words, kind-small, waits-push, Costs, costs-opened, costs-whole, begun-costs}
 
 -- what is answered of an expression: the number of its nodes, the position after it, and the line with its nodes
 pub record Expresses (p : Parsed (List (Step Place))) (text line₀ : List ℕ) (count next : ℕ) (line : List ℕ) : Type 0 where
-  pub count-is : count ≡ length (item p)
-  pub after-is : rest text next ≡ after p
-  pub line-is : line ≡ storeNodes 0 (item p) line₀
+  pub count-is : count ≡ length (result p)
+  pub remaining-is : rest text next ≡ remaining p
+  pub line-is : line ≡ storeNodes 0 (result p) line₀
 
 -- the machine at a place
-pub data Going (text line₀ : List ℕ) (start : Machine) (codes : List ℕ) (depth : ℕ) (due : Bool) (at count : ℕ) (line : List ℕ) : Type 0 where
+pub data Going (text line₀ : List ℕ) (start : Scan) (codes : List ℕ) (depth : ℕ) (due : Bool) (at count : ℕ) (line : List ℕ) : Type 0 where
   going : (waits : List Waiting) (steps : List (Step Place)) → Waits codes depth waits → count ≡ length steps → line ≡ storeNodes 0 steps line₀
-      → work (machine due (rest text at) waits steps) ≡ work start → Going text line₀ start codes depth due at count line
+      → scanAll (scan due (rest text at) waits steps) ≡ scanAll start → Going text line₀ start codes depth due at count line
 
-pub record Working (text line₀ : List ℕ) (start : Machine) (codes : List ℕ) (depth : ℕ) (due : Bool) (at count : ℕ) (line : List ℕ) : Type 0 where
+pub record Working (text line₀ : List ℕ) (start : Scan) (codes : List ℕ) (depth : ℕ) (due : Bool) (at count : ℕ) (line : List ℕ) : Type 0 where
   pub counted : count + size (rest text at) ≤ length text + 1
   pub deep : 5 * depth + size (rest text at) ≤ length text + 1
   pub now-at : Going text line₀ start codes depth due at count line
@@ -60,19 +60,19 @@ one-more line₀ steps s k i n f =
     let z : 0 + length steps ≡ length steps = omega arith in
     rw (store-more 0 steps s line₀, z) (cc)
 
-lost-stops : (due : Bool) (o : Rest) (waits : List Waiting) (steps : List (Step Place)) → found o ≡ false → goesOn (machine due o waits steps) ≡ false
-unfolding goesOn
+lost-stops : (due : Bool) (o : Rest) (waits : List Waiting) (steps : List (Step Place)) → found o ≡ false → scanMore (scan due o waits steps) ≡ false
+unfolding scanMore
 lost-stops true o waits steps h = h
 lost-stops false o [] steps h = refl
 lost-stops false o (w ∷ waits) steps h = h
 
 none-stops : {codes : List ℕ} {depth : ℕ} {waits : List Waiting} (o : Rest) (steps : List (Step Place)) → depth ≡ 0 → Waits codes depth waits
-    → goesOn (machine false o waits steps) ≡ false
-unfolding goesOn
+    → scanMore (scan false o waits steps) ≡ false
+unfolding scanMore
 none-stops o steps h none-waits = refl
 none-stops o steps h (one-waits operates code w) = absurd (let z : ⊥ = omega arith in z)
 
-module _ (text line₀ : List ℕ) (start : Machine) {codes : List ℕ} {due : Bool} {at count : ℕ} {line : List ℕ} where
+module _ (text line₀ : List ℕ) (start : Scan) {codes : List ℕ} {due : Bool} {at count : ℕ} {line : List ℕ} where
   -- an expression is due: an operator's bracket opens
   go-open : {bs : List ℕ} {depth c x y next bytes : ℕ} (b : Begun) → begun (left bs) ≡ b → Costs bytes b → rest text at ≡ left bs → due ≡ true
       → depth < length codes → shown true c x y (rest text next) ≡ shownOf b → Going text line₀ start codes depth due at count line
@@ -128,27 +128,27 @@ module _ (text line₀ : List ℕ) (start : Machine) {codes : List ℕ} {due : B
       rw z (going waits (steps ++ (s ∷ [])) w (rw k (sym (length-append steps (s ∷ [])))) (one-more line₀ steps s k i (rw x (sym operates)) g)
       (rw (d, f, o) (sym (turn-close waits steps bs s) ∙ (rw (d, o) at same))))
 
-  go-stop : {depth : ℕ} → ((waits : List Waiting) (steps : List (Step Place)) → Waits codes depth waits → goesOn (machine due (rest text at) waits steps) ≡ false)
-      → Going text line₀ start codes depth due at count line → Expresses (outcome (work start)) text line₀ count at line
-  unfolding outcome item after
+  go-stop : {depth : ℕ} → ((waits : List Waiting) (steps : List (Step Place)) → Waits codes depth waits → scanMore (scan due (rest text at) waits steps) ≡ false)
+      → Going text line₀ start codes depth due at count line → Expresses (outcome (scanAll start)) text line₀ count at line
+  unfolding outcome result remaining
   go-stop stops (going waits steps w k i same) =
-      let z : machine due (rest text at) waits steps ≡ work start = sym (work-stop (machine due (rest text at) waits steps) (stops waits steps w)) ∙ same in
-      rw (← z) (record { count-is = k; after-is = refl; line-is = i })
+      let z : scan due (rest text at) waits steps ≡ scanAll start = sym (scan-stop (scan due (rest text at) waits steps) (stops waits steps w)) ∙ same in
+      rw (← z) (record { count-is = k; remaining-is = refl; line-is = i })
 
-  go-lost : {depth : ℕ} → found (rest text at) ≡ false → Going text line₀ start codes depth due at count line → Expresses (outcome (work start)) text line₀ count at line
+  go-lost : {depth : ℕ} → found (rest text at) ≡ false → Going text line₀ start codes depth due at count line → Expresses (outcome (scanAll start)) text line₀ count at line
   go-lost h g = go-stop (λ waits steps w. lost-stops due (rest text at) waits steps h) g
 
-  go-end : {depth : ℕ} → due ≡ false → depth ≡ 0 → Going text line₀ start codes depth due at count line → Expresses (outcome (work start)) text line₀ count at line
+  go-end : {depth : ℕ} → due ≡ false → depth ≡ 0 → Going text line₀ start codes depth due at count line → Expresses (outcome (scanAll start)) text line₀ count at line
   go-end d h g = go-stop (λ waits steps w. rw d (none-stops (rest text at) steps h w)) g
 
 -- The loop
 
-pub working-start : (text line codes : List ℕ) (at : ℕ) → Working text line (machine true (rest text at) [] []) codes 0 true at 0 line
+pub working-start : (text line codes : List ℕ) (at : ℕ) → Working text line (scan true (rest text at) [] []) codes 0 true at 0 line
 unfolding storeNodes
 working-start text line codes at =
     record { counted = omega (arith, size-rest text at); deep = omega (arith, size-rest text at); now-at = going [] [] none-waits refl refl refl }
 
-module _ {text line₀ codes line : List ℕ} {start : Machine} {depth at count : ℕ} {due : Bool} (w : Working text line₀ start codes depth due at count line) where
+module _ {text line₀ codes line : List ℕ} {start : Scan} {depth at count : ℕ} {due : Bool} (w : Working text line₀ start codes depth due at count line) where
   module _ (h : at ≤ length text) where
     module _ {opens : Bool} {c x y next : ℕ} (b : Shows (begun (rest text at)) text opens c x y next) where
       pub begun-shorter : size (rest text next) < size (rest text at)
@@ -204,8 +204,8 @@ module _ {text line₀ codes line : List ℕ} {start : Machine} {depth at count 
           }
 
   -- the text is lost, or nothing is due and nothing waits
-  pub working-lost : length text < at → Expresses (outcome (work start)) text line₀ count at line
+  pub working-lost : length text < at → Expresses (outcome (scanAll start)) text line₀ count at line
   working-lost h = go-lost text line₀ start (found-out text at h) (w .now-at)
 
-  pub working-end : due ≡ false → depth ≡ 0 → Expresses (outcome (work start)) text line₀ count at line
+  pub working-end : due ≡ false → depth ≡ 0 → Expresses (outcome (scanAll start)) text line₀ count at line
   working-end d h = go-end text line₀ start d h (w .now-at)

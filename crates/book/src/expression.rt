@@ -5,7 +5,7 @@ ghost use Prim.Native.Nat.{ℕ, _≤_};
 ghost use lib.ListN.{length};
 ghost use Rattle.text.specs.Rest.{rest};
 ghost use Rattle.text.specs.Reading.{Lent};
-ghost use Rattle.grammar.specs.Expression.{begun, bracket, ownPlace, atPlace, valPlace, wholeOf, expressionSteps};
+ghost use Rattle.grammar.specs.Format.Expression.{begun, bracket, ownPlace, atPlace, valPlace, wholeOf, expressionSteps};
 ghost use Rattle.book.specs.Expressions.{DEFINITION-WORDS, MAX-WAITING, putNode, operatorCode, Shows};
 ghost use Rattle.book.specs.ExpressionsLoop.{Expresses};
 

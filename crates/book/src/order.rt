@@ -1,6 +1,6 @@
 // The order of lines that ascend: keys of three numbers, compared one after another.
 ghost use mathlib.Core.Path.{_≡_};
-ghost use Rattle.grammar.specs.Parse.{before};
+ghost use Rattle.grammar.specs.Format.Parse.{isBefore};
 ghost use Rattle.book.specs.Order.{keyOf, lastKey};
 
 pub struct Key {
@@ -10,8 +10,8 @@ pub struct Key {
 }
 
 // Whether a key stands strictly before another.
-fn before(a: Key, b: Key) -> bool
-    ensures { λ r. ⌜ r ≡ before (keyOf a) (keyOf b) ⌝ }
+fn is_before(a: Key, b: Key) -> bool
+    ensures { λ r. ⌜ r ≡ isBefore (keyOf a) (keyOf b) ⌝ }
 {
     if a.first != b.first {
         return a.first < b.first;
@@ -24,10 +24,10 @@ fn before(a: Key, b: Key) -> bool
 
 // Whether line k may stand after the line before it, whose key is `last`; the first line may stand anywhere.
 pub fn ascends(k: u32, last: Key, key: Key) -> bool
-    ensures { λ r. ⌜ r ≡ before (lastKey k (keyOf last)) (keyOf key) ⌝ }
+    ensures { λ r. ⌜ r ≡ isBefore (lastKey k (keyOf last)) (keyOf key) ⌝ }
 {
     if k == 0 {
         return true;
     }
-    before(last, key)
+    is_before(last, key)
 }

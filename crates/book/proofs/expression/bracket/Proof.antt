@@ -1,6 +1,6 @@
 use native.Mathlib.Omega.{arith}
 use Rattle.text.specs.Numeral.{spelled}
-use Rattle.grammar.specs.Expression.{bracket}
+use Rattle.grammar.specs.Format.Expression.{bracket}
 use Rattle.book.specs.ExpressionsLaws.{bracket-opens, bracket-lost}
 use borrow.Author.Needs.{needs}
 use Rattle.book.proofs.expression.bracket.Statement.{statement}

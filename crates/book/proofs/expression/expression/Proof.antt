@@ -1,6 +1,6 @@
 use borrow.Author.Needs.{needs}
 use Rattle.book.specs.ExpressionsLoop.{Working, working-start, begun-shorter, mark-shorter, open-fits, working-open, working-whole, working-space, working-close, working-lost, working-end}
-use Rattle.grammar.specs.Expression.{machine, expressionSteps}
+use Rattle.grammar.specs.Format.Expression.{scan, expressionSteps}
 use Rattle.text.specs.Rest.{rest, size}
 use lib.ListN.{length, length-set}
 use native.Mathlib.Omega.{arith}
@@ -17,7 +17,7 @@ use Rattle.book.proofs.expression.put_node.Reads as put-node-reads
 use Rattle.text.proofs.mark.Reads as mark-reads
 
 abbrev Inv-loop : tie.InvT-loop
-Inv-loop t text at waits₀ line₀ depth₀ due₀ p₀ count₀ waits line depth due p count = (length waits ≡ 13107) × (length line ≡ 49) × Working text line₀ (machine true (rest text at) [] []) waits depth due p count line
+Inv-loop t text at waits₀ line₀ depth₀ due₀ p₀ count₀ waits line depth due p count = (length waits ≡ 13107) × (length line ≡ 49) × Working text line₀ (scan true (rest text at) [] []) waits depth due p count line
 
 abbrev μ-loop : tie.MeasureT-loop
 μ-loop t text at waits₀ line₀ depth₀ due₀ p₀ count₀ waits line depth due p count = size (rest text p)

@@ -1,5 +1,5 @@
-use Rattle.grammar.specs.Reader.{item, after}
-use Rattle.grammar.specs.Expression.{valPlace, wholeOf}
+use Rattle.grammar.specs.Format.Reader.{result, remaining}
+use Rattle.grammar.specs.Format.Expression.{valPlace, wholeOf}
 use Rattle.book.specs.Layout.{nodeWords}
 use Rattle.book.specs.Expressions.{shownOf}
 use borrow.Author.Needs.{needs}
@@ -20,7 +20,7 @@ mark-requires c κs = search needs
 
 -- src/expression.rt:116:1
 returns : tie.Need-returns
-unfolding valPlace wholeOf shownOf nodeWords item after
+unfolding valPlace wholeOf shownOf nodeWords result remaining
 returns c = record { shown-is = cc }
 
 pub val-place-spec : {M : Type 1} → statement M

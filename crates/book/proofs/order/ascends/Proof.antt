@@ -5,19 +5,19 @@ use Rattle.book.proofs.order.ascends.Statement.{statement}
 use Rattle.book.proofs.order.ascends.Tie as tie
 use Rattle.book.proofs.order.ascends.Reads as reads
 use Rattle.book.proofs.order.ascends.Lts as lts
-use Rattle.book.proofs.order.before.Reads as before-reads
+use Rattle.book.proofs.order.is_before.Reads as is-before-reads
 
 -- src/order.rt:30:9
 returns : tie.Need-returns
 returns c = first-stands _ _ _ _ (c .if1 .taken)
 
 -- src/order.rt:32:5
-before-requires : tie.Need-before-requires
-before-requires c κs = search needs
+is-before-requires : tie.Need-is-before-requires
+is-before-requires c κs = search needs
 
 -- src/order.rt:26:1
 returns-2 : tie.Need-returns-2
-returns-2 c = c .before2 .ensures ∙ later-stands _ _ _ (c .before .if1 .left)
+returns-2 c = c .is-before .ensures ∙ later-stands _ _ _ (c .before .if1 .left)
 
 pub ascends-spec : {M : Type 1} → statement M
-ascends-spec = tie.close (tie.spec returns before-requires returns-2)
+ascends-spec = tie.close (tie.spec returns is-before-requires returns-2)

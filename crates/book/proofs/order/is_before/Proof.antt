@@ -1,10 +1,10 @@
 use borrow.Author.Needs.{needs}
 use Rattle.book.specs.Order.{before-unequal, before-equal, before-one}
 use mathlib.Core.Path.{_∙_}
-use Rattle.book.proofs.order.before.Statement.{statement}
-use Rattle.book.proofs.order.before.Tie as tie
-use Rattle.book.proofs.order.before.Reads as reads
-use Rattle.book.proofs.order.before.Lts as lts
+use Rattle.book.proofs.order.is_before.Statement.{statement}
+use Rattle.book.proofs.order.is_before.Tie as tie
+use Rattle.book.proofs.order.is_before.Reads as reads
+use Rattle.book.proofs.order.is_before.Lts as lts
 
 -- src/order.rt:17:9
 returns : tie.Need-returns
@@ -18,5 +18,5 @@ returns-2 c = before-unequal _ _ _ _ (c .before .before .if2 .taken) ∙ before-
 returns-3 : tie.Need-returns-3
 returns-3 c = before-one _ _ ∙ (before-equal _ _ _ _ (c .before .before .if2 .left) ∙ before-equal _ _ _ _ (c .before .before .before .before .before .if1 .left))
 
-pub before-spec : {M : Type 1} → statement M
-before-spec = tie.close (tie.spec returns returns-2 returns-3)
+pub is-before-spec : {M : Type 1} → statement M
+is-before-spec = tie.close (tie.spec returns returns-2 returns-3)

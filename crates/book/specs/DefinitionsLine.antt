@@ -51,7 +51,7 @@ store-over (suc room) k [] front h e = refl
 store-over (suc room) k (s ∷ steps) front h e =
     let l : length (nodeWords s []) ≡ 3 = ap length (three-words s) in
     let w : putNode k (nodeWords s []) (front ++ (0 ∷ 0 ∷ 0 ∷ nodesWords room [])) ≡ (front ++ nodeWords s []) ++ nodesWords room [] =
-        rw (lt-ltb k MAX-NODES (omega arith), putNode) (write-over (4 + 3 * k) front (nodeWords s []) (0 ∷ 0 ∷ 0 ∷ []) (nodesWords room []) e l ∙ sym (append-assoc front (nodeWords s []) (nodesWords room []))) in
+    rw (lt-ltb k MAX-NODES (omega arith), putNode) (write-over (4 + 3 * k) front (nodeWords s []) (0 ∷ 0 ∷ 0 ∷ []) (nodesWords room []) e l ∙ sym (append-assoc front (nodeWords s []) (nodesWords room []))) in
     rw w (store-over room (suc k) steps (front ++ nodeWords s []) (omega arith) (simp length-append (omega arith))
     ∙ (append-assoc front (nodeWords s []) (nodesWords room steps) ∙ rw (node-front s (nodesWords room steps))))
 

@@ -148,11 +148,11 @@ module _ (word : ℕ) (text : List ℕ) (at : ℕ) where
   bracket-opens e h =
       let P : ℕ → Begun → Type 0 = λ c b. (c ≡ 0 → ⊥) → shown true c 0 0 (rest text at) ≡ shownOf b in
       let z : P (operatorCode word) (bracket word (rest text at)) =
-          either-both P (eqb word (wordOf "add")) (λ _. refl)
-          (either-both P (eqb word (wordOf "sub")) (λ _. refl)
-          (either-both P (eqb word (wordOf "min")) (λ _. refl)
-          (either-both P (eqb word (wordOf "max")) (λ _. refl)
-          (either-both P (eqb word (wordOf "pick")) (λ _. refl) (λ k. absurd (k refl)))))) in
+      either-both P (eqb word (wordOf "add")) (λ _. refl)
+      (either-both P (eqb word (wordOf "sub")) (λ _. refl)
+      (either-both P (eqb word (wordOf "min")) (λ _. refl)
+      (either-both P (eqb word (wordOf "max")) (λ _. refl)
+      (either-both P (eqb word (wordOf "pick")) (λ _. refl) (λ k. absurd (k refl)))))) in
       record { shown-is = rw e (z (λ q. h (e ∙ q))) }
 
   pub bracket-lost : {c n : ℕ} → c ≡ operatorCode word → c ≡ 0 → (word ≡ wordOf "own" → ⊥) → (word ≡ wordOf "at" → ⊥) → (word ≡ wordOf "val" → ⊥)
@@ -161,12 +161,12 @@ module _ (word : ℕ) (text : List ℕ) (at : ℕ) where
   bracket-lost {n = n} e h i j k l =
       let P : ℕ → Begun → Type 0 = λ c b. c ≡ 0 → shown false 8 0 0 lost ≡ shownOf b in
       let z : P (operatorCode word) (bracket word (rest text at)) =
-          either-both P (eqb word (wordOf "add")) (λ q. absurd (let z : ⊥ = omega arith in z))
-          (either-both P (eqb word (wordOf "sub")) (λ q. absurd (let z : ⊥ = omega arith in z))
-          (either-both P (eqb word (wordOf "min")) (λ q. absurd (let z : ⊥ = omega arith in z))
-          (either-both P (eqb word (wordOf "max")) (λ q. absurd (let z : ⊥ = omega arith in z))
-          (either-both P (eqb word (wordOf "pick")) (λ q. absurd (let z : ⊥ = omega arith in z))
-          (λ q. rw (ne-eqb word (wordOf "own") i, ne-eqb word (wordOf "at") j, ne-eqb word (wordOf "val") k)))))) in
+      either-both P (eqb word (wordOf "add")) (λ q. absurd (let z : ⊥ = omega arith in z))
+      (either-both P (eqb word (wordOf "sub")) (λ q. absurd (let z : ⊥ = omega arith in z))
+      (either-both P (eqb word (wordOf "min")) (λ q. absurd (let z : ⊥ = omega arith in z))
+      (either-both P (eqb word (wordOf "max")) (λ q. absurd (let z : ⊥ = omega arith in z))
+      (either-both P (eqb word (wordOf "pick")) (λ q. absurd (let z : ⊥ = omega arith in z))
+      (λ q. rw (ne-eqb word (wordOf "own") i, ne-eqb word (wordOf "at") j, ne-eqb word (wordOf "val") k)))))) in
       record { shown-is = rw (rest-out text n l) (z (sym e ∙ h)) }
 
 -- A beginning by its first byte

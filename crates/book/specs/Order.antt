@@ -1,10 +1,11 @@
 -- Keys of lines that ascend, in code, and the laws of their order.
 -- Assumes nothing.
-use Prim.Native.Nat.{ℕ, zero, suc, _≤_, _<_}
+use Prim.Native.Nat.{ℕ, zero, suc, _+_, _≤_, _<_}
 use mathlib.Core.Path.{_≡_, refl}
 use mathlib.Core.Bool.{Bool, true, false}
 use mathlib.Core.List.{List, [], _∷_}
 use native.Mathlib.Omega.{arith}
+use native.Mathlib.Numerals.{add-one}
 use lib.Dec.{eqb, ltb}
 use borrow.Author.Tests.{eq-eqb, ne-eqb, le-ltb}
 use Rattle.grammar.specs.Format.Parse.{isBefore}
@@ -17,6 +18,11 @@ keyOf k = k .first ∷ k .second ∷ k .third ∷ []
 unfoldable pub lastKey : ℕ → List ℕ → List ℕ
 lastKey zero last = []
 lastKey (suc k) last = last
+
+-- after a line, its key
+pub next-last : (k : ℕ) {key other : List ℕ} → key ≡ other → lastKey (k + 1) key ≡ other
+unfolding lastKey
+next-last k e = rw (add-one k) e
 
 module _ (x y : ℕ) where
   pub before-unequal : (xs ys : List ℕ) → (x ≡ y → ⊥) → ltb x y ≡ isBefore (x ∷ xs) (y ∷ ys)

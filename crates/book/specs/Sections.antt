@@ -114,6 +114,12 @@ pub record Puts {A : Type 0} (words : A → List ℕ) (room k : ℕ) (p : Parsed
   pub remaining-is : rest text next ≡ remaining p
   pub array-is : out ≡ putLine room k (words (result p)) out₀
 
+-- a line that has a key, kept at its place
+pub record PutsKeyed {A : Type 0} (keyed : A → List ℕ) (words : A → List ℕ) (room k : ℕ) (p : Parsed A) (text out₀ key : List ℕ) (next : ℕ) (out : List ℕ)
+    : Type 0 where
+  pub key-is : key ≡ keyed (result p)
+  pub puts : Puts words room k p text out₀ next out
+
 -- by a reader of the line and the store of its words
 pub puts-of : {A : Type 0} {words : A → List ℕ} {room k : ℕ} {p : Parsed A} {text line out₀ out : List ℕ} {x : A} {next : ℕ}
     → Gives p text x next → line ≡ words x → out ≡ putLine room k line out₀ → Puts words room k p text out₀ next out

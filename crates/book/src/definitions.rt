@@ -11,7 +11,6 @@ ghost use Rattle.book.specs.Order.{keyOf, lastKey};
 ghost use Rattle.book.specs.Expressions.{DEFINITION-WORDS, MAX-WAITING};
 ghost use Rattle.book.specs.Definitions.{definedBy, definition, wordFor, definitions};
 ghost use Rattle.book.specs.DefinitionsLoop.{definedOf, Worded, Keeps, Defines};
-
 use super::Book;
 use super::Section;
 use super::expression::expression;
@@ -68,7 +67,14 @@ fn names(t: &[u8; 256], text: &[u8], at: usize, inherited: bool) -> Named
 }
 
 // ` e)`: the words of the line, into zeros.
-fn words(t: &[u8; 256], text: &[u8], at: usize, key: Key, waits: &mut [u8], line: &mut [u32]) -> usize
+fn words(
+    t: &[u8; 256],
+    text: &[u8],
+    at: usize,
+    key: Key,
+    waits: &mut [u8],
+    line: &mut [u32],
+) -> usize
     requires { ⌜ Lent (now t) (now text) × (length (now waits) ≡ MAX-WAITING) × (now line ≡ replicate DEFINITION-WORDS 0) ⌝ }
     ensures { λ r. ⌜ Worded (definedOf key) (rest (now (text .entry)) at) (now (text .entry)) r (now (line .exit)) ⌝ }
 {
@@ -143,7 +149,13 @@ fn definition_lines(
     }
 }
 
-pub fn inherited_definitions(t: &[u8; 256], text: &[u8], at: usize, waits: &mut [u8], out: &mut [u32]) -> Section
+pub fn inherited_definitions(
+    t: &[u8; 256],
+    text: &[u8],
+    at: usize,
+    waits: &mut [u8],
+    out: &mut [u32],
+) -> Section
     requires { ⌜ Lent (now t) (now text) × (length (now waits) ≡ MAX-WAITING) × (MAX-DEFINITIONS * DEFINITION-WORDS ≤ length (now out)) ⌝ }
     ensures { λ r. ⌜ Defines (definitions true (rest (now (text .entry)) at)) 0
         (now (text .entry)) (now (out .entry)) (r .count) (r .at) (now (out .exit)) ⌝ }

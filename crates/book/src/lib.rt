@@ -1,7 +1,9 @@
 // Reading a book's text into arrays, and its conditions 2 to 6.
 pub mod definitions;
 pub mod expression;
+pub mod goes;
 pub mod header;
+pub mod kernels;
 pub mod order;
 pub mod owners;
 pub mod rules;

@@ -9,6 +9,23 @@ pub struct Key {
     pub third: u32,
 }
 
+impl Key {
+    // Before the first line; nothing asks for its numbers.
+    pub fn none() -> Self {
+        Key {
+            first: 0,
+            second: 0,
+            third: 0,
+        }
+    }
+}
+
+// The key of a line, and where the text goes on.
+pub struct Keyed {
+    pub key: Key,
+    pub at: usize,
+}
+
 // Whether a key stands strictly before another.
 fn is_before(a: Key, b: Key) -> bool
     ensures { λ r. ⌜ r ≡ isBefore (keyOf a) (keyOf b) ⌝ }

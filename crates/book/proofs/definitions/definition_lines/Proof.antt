@@ -20,39 +20,30 @@ Inv-loop t text at inherited word first waits₀ out₀ n p₀ k₀ last₀ wait
 abbrev μ-loop : tie.MeasureT-loop
 μ-loop t text at inherited word first waits₀ out₀ n p₀ k₀ last₀ waits out p k last = size (rest text p)
 
--- src/definitions.rt:134:5
 loop-holds : tie.Need-loop-holds Inv-loop μ-loop
 loop-holds c = (search needs, defining-start _ _ _ _ _ _)
 
--- src/definitions.rt:135:13
 opening-requires : tie.Need-opening-requires Inv-loop μ-loop
 opening-requires c κs = search needs
 
--- src/definitions.rt:137:13
 same-length : tie.Need-same-length Inv-loop μ-loop
 same-length c = search needs
 
--- src/definitions.rt:137:13
 same-length-2 : tie.Need-same-length-2 Inv-loop μ-loop
 same-length-2 c = c .before .before .loop .inv .1 .same-length
 
--- src/definitions.rt:137:13
 returns : tie.Need-returns Inv-loop μ-loop
 returns c = defining-done _ _ _ (c .before .before .loop .inv .1) (rw (c .before .before .before .before .before .before .pre .1) at (c .before .opening .ensures)) (c .if1 .taken)
 
--- src/definitions.rt:139:13
 definition-line-requires : tie.Need-definition-line-requires Inv-loop μ-loop
 definition-line-requires c κs = search needs
 
--- src/definitions.rt:142:9
 add-k : tie.Need-add-k Inv-loop μ-loop
 add-k c = search needs
 
--- src/definitions.rt:134:5
 loop-less : tie.Need-loop-less Inv-loop μ-loop
 loop-less c = defining-less _ _ _ (c .before .before .before .before .before .before .before .before .before .before .loop .inv .1) (rw (c .before .before .before .before .before .before .before .before .before .before .before .before .before .before .pre .1) at (c .before .before .before .before .before .before .before .before .before .opening .ensures)) (c .before .before .before .before .before .before .before .before .if1 .left) (c .before .before .before .before .before .definition-line .ensures)
 
--- src/definitions.rt:134:5
 loop-again : tie.Need-loop-again Inv-loop μ-loop
 unfolding ascending
 loop-again c = (search needs, defining-turn _ _ _ (c .before .before .before .before .before .before .before .before .before .before .loop .inv .1) (rw (c .before .before .before .before .before .before .before .before .before .before .before .before .before .before .pre .1) at (c .before .before .before .before .before .before .before .before .before .opening .ensures)) (c .before .before .before .before .before .before .before .before .if1 .left) (c .before .before .before .before .before .definition-line .ensures))

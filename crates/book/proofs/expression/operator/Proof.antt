@@ -7,32 +7,26 @@ use Rattle.book.proofs.expression.operator.Tie as tie
 use Rattle.book.proofs.expression.operator.Reads as reads
 use Rattle.book.proofs.expression.operator.Lts as lts
 
--- src/expression.rt:65:9
 returns : tie.Need-returns
 unfolding operatorCode spelled
 returns c = rw (eq-eqb _ _ (c .if1 .taken))
 
--- src/expression.rt:68:9
 returns-2 : tie.Need-returns-2
 unfolding operatorCode spelled
 returns-2 c = rw (ne-eqb _ _ (c .before .if1 .left), eq-eqb _ _ (c .if2 .taken))
 
--- src/expression.rt:71:9
 returns-3 : tie.Need-returns-3
 unfolding operatorCode spelled
 returns-3 c = rw (ne-eqb _ _ (c .before .before .if1 .left), ne-eqb _ _ (c .before .if2 .left), eq-eqb _ _ (c .if3 .taken))
 
--- src/expression.rt:74:9
 returns-4 : tie.Need-returns-4
 unfolding operatorCode spelled
 returns-4 c = rw (ne-eqb _ _ (c .before .before .before .if1 .left), ne-eqb _ _ (c .before .before .if2 .left), ne-eqb _ _ (c .before .if3 .left), eq-eqb _ _ (c .if4 .taken))
 
--- src/expression.rt:77:9
 returns-5 : tie.Need-returns-5
 unfolding operatorCode spelled
 returns-5 c = rw (ne-eqb _ _ (c .before .before .before .before .if1 .left), ne-eqb _ _ (c .before .before .before .if2 .left), ne-eqb _ _ (c .before .before .if3 .left), ne-eqb _ _ (c .before .if4 .left), eq-eqb _ _ (c .if5 .taken))
 
--- src/expression.rt:61:1
 returns-6 : tie.Need-returns-6
 unfolding operatorCode spelled
 returns-6 c = rw (ne-eqb _ _ (c .before .before .before .before .if1 .left), ne-eqb _ _ (c .before .before .before .if2 .left), ne-eqb _ _ (c .before .before .if3 .left), ne-eqb _ _ (c .before .if4 .left), ne-eqb _ _ (c .if5 .left))

@@ -12,19 +12,15 @@ use Rattle.text.proofs.keyword.Reads as keyword-reads
 use Rattle.text.proofs.mark.Reads as mark-reads
 use Rattle.text.proofs.number.Reads as number-reads
 
--- src/expression.rt:87:9
 keyword-requires : tie.Need-keyword-requires
 keyword-requires c κs = search needs
 
--- src/expression.rt:88:9
 number-requires : tie.Need-number-requires
 number-requires c κs = search needs
 
--- src/expression.rt:94:13
 mark-requires : tie.Need-mark-requires
 mark-requires c κs = search needs
 
--- src/expression.rt:83:1
 returns : tie.Need-returns
 unfolding ownPlace spelled wholeOf shownOf nodeWords result remaining
 returns c = record { shown-is = cc }

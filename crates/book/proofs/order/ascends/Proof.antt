@@ -7,15 +7,12 @@ use Rattle.book.proofs.order.ascends.Reads as reads
 use Rattle.book.proofs.order.ascends.Lts as lts
 use Rattle.book.proofs.order.is_before.Reads as is-before-reads
 
--- src/order.rt:30:9
 returns : tie.Need-returns
 returns c = first-stands _ _ _ _ (c .if1 .taken)
 
--- src/order.rt:32:5
 is-before-requires : tie.Need-is-before-requires
 is-before-requires c κs = search needs
 
--- src/order.rt:26:1
 returns-2 : tie.Need-returns-2
 returns-2 c = c .is-before .ensures ∙ later-stands _ _ _ (c .before .if1 .left)
 

@@ -8,7 +8,7 @@ use Rattle.text.specs.Rest.{must, mark}
 use Rattle.text.specs.Numeral.{wordOf}
 use Rattle.grammar.specs.Book.{Place, InheritedDefinition, SynthesizedDefinition}
 use Rattle.grammar.specs.Postfix.{Step, termOf}
-use Rattle.grammar.specs.Reader.{item, after, Reader, pure, _>>=_, _>>_, decimalNumber, opening, closing, naming, section}
+use Rattle.grammar.specs.Reader.{Reader, pure, _>>=_, _>>_, decimalNumber, opening, closing, naming, section}
 use Rattle.grammar.specs.Expression.{expressionSteps}
 use Rattle.grammar.specs.Parse.{before}
 use Rattle.book.specs.Layout.{definitionWords}

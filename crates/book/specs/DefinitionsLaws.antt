@@ -1,28 +1,28 @@
 -- Laws of the lines of definitions: a book's definitions are these lines with the expression that their steps build, and nothing else differs.
 -- Assumes nothing.
-use Prim.Native.Nat.{ℕ, zero, suc, _≤_, _<_}
-use mathlib.Core.Path.{_≡_, refl, sym, ap, _∙_}
+use Prim.Native.Nat.{ℕ, zero, suc}
+use mathlib.Core.Path.{_≡_, refl}
 use mathlib.Core.Bool.{Bool, true, false}
 use mathlib.Core.List.{List, [], _∷_, map}
-use lib.Dec.{eqb, ltb}
-use Rattle.text.specs.Rest.{Rest, found, must, size}
-use Rattle.grammar.specs.Book.{InheritedDefinition, SynthesizedDefinition}
+use Rattle.text.specs.Rest.{Rest, found, size}
 use Rattle.grammar.specs.Ordered.{inheritedKey, synthesizedKey}
-use Rattle.grammar.specs.Reader.{Parsed, parsed, item, after, Reader, opening, many, section}
+use Rattle.grammar.specs.Reader.{parsed, item, after, Reader, opening, many, section}
 use Rattle.grammar.specs.Expression.{expression}
 use Rattle.grammar.specs.Parse.{before, inheritedDefinition, synthesizedDefinition, inheritedDefinitions, synthesizedDefinitions}
-use Rattle.book.specs.Definitions.{Defined, Definition, inheritedOf, synthesizedOf, ascending, nextKey, inheritedDefined, synthesizedDefined, definedBy, definition, wordFor, definitions}
+use Rattle.book.specs.Definitions.{inheritedOf, synthesizedOf, ascending, nextKey, inheritedDefined, synthesizedDefined, definedBy}
+use Rattle.book.specs.Definitions.{definition, wordFor, definitions}
 
 -- Sections of lines that correspond
 
 -- two readers of lines, from corresponding states: they leave the same, read corresponding items, and go on in corresponding states
-pub record Same {A B S T : Type 0} (f : A → B) (R : S → T → Type 0) (one : S → Reader A) (next : S → A → S) (other : T → Reader B) (then : T → B → T) : Type 0 where
+pub record Same {A B S T : Type 0} (f : A → B) (R : S → T → Type 0) (one : S → Reader A) (next : S → A → S) (other : T → Reader B) (then : T → B → T)
+    : Type 0 where
   pub same-after : (s : S) (t : T) → R s t → (o : Rest) → after (other t o) ≡ after (one s o)
   pub same-item : (s : S) (t : T) → R s t → (o : Rest) → item (other t o) ≡ f (item (one s o))
   pub same-next : (s : S) (t : T) → R s t → (o : Rest) → R (next s (item (one s o))) (then t (item (other t o)))
 
-module _ {A B S T : Type 0} (head : Rest → Rest) (f : A → B) (R : S → T → Type 0) (one : S → Reader A) (next : S → A → S) (other : T → Reader B) (then : T → B → T)
-    (same : Same f R one next other then) where
+module _ {A B S T : Type 0} (head : Rest → Rest) (f : A → B) (R : S → T → Type 0) (one : S → Reader A) (next : S → A → S)
+    (other : T → Reader B) (then : T → B → T) (same : Same f R one next other then) where
   many-map : (fuel : ℕ) (s : S) (t : T) → R s t → (o : Rest)
       → many head other then fuel t o ≡ parsed (map f (item (many head one next fuel s o))) (after (many head one next fuel s o))
   unfolding many item after

@@ -11,7 +11,6 @@ ghost use Rattle.book.specs.Order.{keyOf, lastKey};
 ghost use Rattle.book.specs.Expressions.{DEFINITION-WORDS, MAX-WAITING};
 ghost use Rattle.book.specs.Definitions.{definedBy, definition, wordFor, definitions};
 ghost use Rattle.book.specs.DefinitionsLoop.{definedOf, Worded, Keeps, Defines};
-
 use super::Book;
 use super::Section;
 use super::expression::expression;
@@ -68,8 +67,15 @@ fn names(t: &[u8; 256], text: &[u8], at: usize, inherited: bool) -> Named
 }
 
 // ` e)`: the words of the line, into zeros.
-fn words(t: &[u8; 256], text: &[u8], at: usize, key: Key, waits: &mut [u8], line: &mut [u32]) -> usize
-    requires { ⌜ Lent (now t) (now text) × (length (now waits) ≡ MAX-WAITING) × (now line ≡ replicate DEFINITION-WORDS 0) ⌝ }
+fn words(
+    t: &[u8; 256],
+    text: &[u8],
+    at: usize,
+    key: Key,
+    waits: &mut [u8],
+    line: &mut [u32],
+) -> usize
+    requires { ⌜ Lent (now t) (now text) × (MAX-WAITING ≤ length (now waits)) × (now line ≡ replicate DEFINITION-WORDS 0) ⌝ }
     ensures { λ r. ⌜ Worded (definedOf key) (rest (now (text .entry)) at) (now (text .entry)) r (now (line .exit)) ⌝ }
 {
     let a = text::mark(t, text, at, text::SPACE);
@@ -93,7 +99,8 @@ fn definition_line(
     waits: &mut [u8],
     out: &mut [u32],
 ) -> Named
-    requires { ⌜ Lent (now t) (now text) × (length (now waits) ≡ MAX-WAITING) × (MAX-DEFINITIONS * DEFINITION-WORDS ≤ length (now out)) × (k ≤ 65537) × (first ≤ 65537) ⌝ }
+    requires { ⌜ Lent (now t) (now text) × (k ≤ 65537) × (first ≤ 65537)
+        × (MAX-WAITING ≤ length (now waits)) × (MAX-DEFINITIONS * DEFINITION-WORDS ≤ length (now out)) ⌝ }
     ensures { λ r. ⌜ Keeps (definition inherited (lastKey k (keyOf last)) (rest (now (text .entry)) at)) (first + k)
         (now (text .entry)) (now (out .entry)) (definedOf (r .key)) (r .at) (now (out .exit)) ⌝ }
 {
@@ -119,7 +126,8 @@ fn definition_lines(
     waits: &mut [u8],
     out: &mut [u32],
 ) -> Section
-    requires { ⌜ Lent (now t) (now text) × (word ≡ wordFor inherited) × (first ≤ 65537) × (length (now waits) ≡ MAX-WAITING) × (MAX-DEFINITIONS * DEFINITION-WORDS ≤ length (now out)) ⌝ }
+    requires { ⌜ Lent (now t) (now text) × (word ≡ wordFor inherited) × (first ≤ 65537)
+        × (MAX-WAITING ≤ length (now waits)) × (MAX-DEFINITIONS * DEFINITION-WORDS ≤ length (now out)) ⌝ }
     ensures { λ r. ⌜ Defines (definitions inherited (rest (now (text .entry)) at)) first
         (now (text .entry)) (now (out .entry)) (r .count) (r .at) (now (out .exit)) ⌝ }
 {
@@ -143,8 +151,14 @@ fn definition_lines(
     }
 }
 
-pub fn inherited_definitions(t: &[u8; 256], text: &[u8], at: usize, waits: &mut [u8], out: &mut [u32]) -> Section
-    requires { ⌜ Lent (now t) (now text) × (length (now waits) ≡ MAX-WAITING) × (MAX-DEFINITIONS * DEFINITION-WORDS ≤ length (now out)) ⌝ }
+pub fn inherited_definitions(
+    t: &[u8; 256],
+    text: &[u8],
+    at: usize,
+    waits: &mut [u8],
+    out: &mut [u32],
+) -> Section
+    requires { ⌜ Lent (now t) (now text) × (MAX-WAITING ≤ length (now waits)) × (MAX-DEFINITIONS * DEFINITION-WORDS ≤ length (now out)) ⌝ }
     ensures { λ r. ⌜ Defines (definitions true (rest (now (text .entry)) at)) 0
         (now (text .entry)) (now (out .entry)) (r .count) (r .at) (now (out .exit)) ⌝ }
 {
@@ -159,7 +173,8 @@ pub fn synthesized_definitions(
     waits: &mut [u8],
     out: &mut [u32],
 ) -> Section
-    requires { ⌜ Lent (now t) (now text) × (first ≤ 65537) × (length (now waits) ≡ MAX-WAITING) × (MAX-DEFINITIONS * DEFINITION-WORDS ≤ length (now out)) ⌝ }
+    requires { ⌜ Lent (now t) (now text) × (first ≤ 65537)
+        × (MAX-WAITING ≤ length (now waits)) × (MAX-DEFINITIONS * DEFINITION-WORDS ≤ length (now out)) ⌝ }
     ensures { λ r. ⌜ Defines (definitions false (rest (now (text .entry)) at)) first
         (now (text .entry)) (now (out .entry)) (r .count) (r .at) (now (out .exit)) ⌝ }
 {

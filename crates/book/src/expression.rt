@@ -8,7 +8,6 @@ ghost use Rattle.text.specs.Reading.{Lent};
 ghost use Rattle.grammar.specs.Expression.{begun, bracket, ownPlace, atPlace, valPlace, wholeOf, expressionSteps};
 ghost use Rattle.book.specs.Expressions.{DEFINITION-WORDS, MAX-WAITING, putNode, operatorCode, Shows};
 ghost use Rattle.book.specs.ExpressionsLoop.{Expresses};
-
 use super::Book;
 use super::spelling::I;
 use super::spelling::S;
@@ -182,8 +181,14 @@ fn begun(t: &[u8; 256], text: &[u8], at: usize) -> Beginning
 }
 
 // Reads an expression: its first nodes to the line, and the number of them all. `waits` is room for the operators that wait, whatever it holds.
-pub fn expression(t: &[u8; 256], text: &[u8], at: usize, waits: &mut [u8], line: &mut [u32]) -> Cursor
-    requires { ⌜ Lent (now t) (now text) × (length (now waits) ≡ MAX-WAITING) × (length (now line) ≡ DEFINITION-WORDS) ⌝ }
+pub fn expression(
+    t: &[u8; 256],
+    text: &[u8],
+    at: usize,
+    waits: &mut [u8],
+    line: &mut [u32],
+) -> Cursor
+    requires { ⌜ Lent (now t) (now text) × (MAX-WAITING ≤ length (now waits)) × (length (now line) ≡ DEFINITION-WORDS) ⌝ }
     ensures { λ r. ⌜ Expresses (expressionSteps (rest (now (text .entry)) at)) (now (text .entry)) (now (line .entry)) (r .value) (r .at) (now (line .exit)) ⌝ }
 {
     let mut depth: usize = 0;

@@ -1,26 +1,19 @@
-use Rattle.book.specs.Definitions.{wordFor}
 use Rattle.text.specs.Numeral.{spelled}
+use Rattle.book.specs.Definitions.{wordFor}
 use borrow.Author.Needs.{needs}
 use Rattle.book.proofs.definitions.synthesized_definitions.Statement.{statement}
 use Rattle.book.proofs.definitions.synthesized_definitions.Tie as tie
-use Rattle.book.proofs.definitions.synthesized_definitions.Reads as reads
-use Rattle.book.proofs.definitions.synthesized_definitions.Lts as lts
-use Rattle.book.proofs.definitions.definition_lines.Reads as definition-lines-reads
 
--- src/definitions.rt:166:5
 definition-lines-requires : tie.Need-definition-lines-requires
 unfolding wordFor spelled
 definition-lines-requires c κs = search needs
 
--- src/definitions.rt:154:1
 same-length : tie.Need-same-length
 same-length c = search needs
 
--- src/definitions.rt:154:1
 same-length-2 : tie.Need-same-length-2
 same-length-2 c = search needs
 
--- src/definitions.rt:154:1
 returns : tie.Need-returns
 returns c = search needs
 

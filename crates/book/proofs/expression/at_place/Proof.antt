@@ -6,29 +6,19 @@ use Rattle.book.specs.Expressions.{shownOf}
 use borrow.Author.Needs.{needs}
 use Rattle.book.proofs.expression.at_place.Statement.{statement}
 use Rattle.book.proofs.expression.at_place.Tie as tie
-use Rattle.book.proofs.expression.at_place.Reads as reads
-use Rattle.book.proofs.expression.at_place.Lts as lts
-use Rattle.book.proofs.spelling.naming.Reads as naming-reads
-use Rattle.text.proofs.mark.Reads as mark-reads
-use Rattle.text.proofs.number.Reads as number-reads
 
--- src/expression.rt:103:9
 number-requires : tie.Need-number-requires
 number-requires c κs = search needs
 
--- src/expression.rt:104:9
 naming-requires : tie.Need-naming-requires
 naming-requires c κs = search needs
 
--- src/expression.rt:105:9
 number-requires-2 : tie.Need-number-requires-2
 number-requires-2 c κs = search needs
 
--- src/expression.rt:111:13
 mark-requires : tie.Need-mark-requires
 mark-requires c κs = search needs
 
--- src/expression.rt:99:1
 returns : tie.Need-returns
 unfolding atPlace spelled wholeOf shownOf nodeWords item after
 returns c = record { shown-is = cc }

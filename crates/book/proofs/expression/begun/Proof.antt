@@ -2,38 +2,28 @@ use Rattle.book.specs.ExpressionsLaws.{shows-bracket, shows-number}
 use borrow.Author.Needs.{needs}
 use Rattle.book.proofs.expression.begun.Statement.{statement}
 use Rattle.book.proofs.expression.begun.Tie as tie
-use Rattle.book.proofs.expression.begun.Reads as reads
-use Rattle.book.proofs.expression.begun.Lts as lts
-use Rattle.book.proofs.expression.bracket.Reads as bracket-reads
-use Rattle.text.proofs.mark.Reads as mark-reads
-use Rattle.text.proofs.number.Reads as number-reads
-use Rattle.text.proofs.word.Reads as word-reads
 
--- src/expression.rt:168:9
 mark-requires : tie.Need-mark-requires
 mark-requires c κs = search needs
 
--- src/expression.rt:170:13
 word-requires : tie.Need-word-requires
 word-requires c κs = search needs
 
--- src/expression.rt:171:13
 mark-requires-2 : tie.Need-mark-requires-2
 mark-requires-2 c κs = search needs
 
--- src/expression.rt:172:9
 bracket-requires : tie.Need-bracket-requires
 bracket-requires c κs = search needs
 
--- src/expression.rt:172:9
 returns : tie.Need-returns
-returns c = shows-bracket _ (c .before .before .before .before .mark .ensures) _ (c .before .before .before .if1 .taken) (c .before .before .word .ensures) (c .before .mark2 .ensures) (c .bracket .ensures)
+returns c =
+    let word = c .before .before in
+    let opened = word .before .before in
+    shows-bracket _ (opened .mark .ensures) _ (word .before .if1 .taken) (word .word .ensures) (c .before .mark2 .ensures) (c .bracket .ensures)
 
--- src/expression.rt:174:9
 number-requires : tie.Need-number-requires
 number-requires c κs = search needs
 
--- src/expression.rt:164:1
 returns-2 : tie.Need-returns-2
 returns-2 c = shows-number _ (c .before .before .mark .ensures) (c .before .if1 .left) (c .number .ensures)
 

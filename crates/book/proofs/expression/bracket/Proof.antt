@@ -5,56 +5,44 @@ use Rattle.book.specs.ExpressionsLaws.{bracket-opens, bracket-lost}
 use borrow.Author.Needs.{needs}
 use Rattle.book.proofs.expression.bracket.Statement.{statement}
 use Rattle.book.proofs.expression.bracket.Tie as tie
-use Rattle.book.proofs.expression.bracket.Reads as reads
-use Rattle.book.proofs.expression.bracket.Lts as lts
-use Rattle.book.proofs.expression.at_place.Reads as at-place-reads
-use Rattle.book.proofs.expression.operator.Reads as operator-reads
-use Rattle.book.proofs.expression.own_place.Reads as own-place-reads
-use Rattle.book.proofs.expression.val_place.Reads as val-place-reads
 
--- src/expression.rt:135:9
 operator-requires : tie.Need-operator-requires
 operator-requires c κs = search needs
 
--- src/expression.rt:137:9
 returns : tie.Need-returns
 returns c = bracket-opens _ _ _ (c .before .operator .ensures) (c .if1 .taken)
 
--- src/expression.rt:146:9
 own-place-requires : tie.Need-own-place-requires
 own-place-requires c κs = search needs
 
--- src/expression.rt:146:9
 returns-2 : tie.Need-returns-2
 unfolding bracket spelled
 returns-2 c = rw (c .before .if2 .taken) (c .own-place .ensures)
 
--- src/expression.rt:149:9
 at-place-requires : tie.Need-at-place-requires
 at-place-requires c κs = search needs
 
--- src/expression.rt:149:9
 returns-3 : tie.Need-returns-3
 unfolding bracket spelled
 returns-3 c = rw (c .before .if3 .taken) (c .at-place .ensures)
 
--- src/expression.rt:152:9
 val-place-requires : tie.Need-val-place-requires
 val-place-requires c κs = search needs
 
--- src/expression.rt:152:9
 returns-4 : tie.Need-returns-4
 unfolding bracket spelled
 returns-4 c = rw (c .before .if4 .taken) (c .val-place .ensures)
 
--- src/expression.rt:159:13
 add-t8 : tie.Need-add-t8
 add-t8 c = search needs
 
--- src/expression.rt:131:1
 returns-5 : tie.Need-returns-5
 unfolding spelled
-returns-5 c = bracket-lost _ _ _ (c .before .before .before .before .operator .ensures) (c .before .before .before .if1 .left) (c .before .before .if2 .left) (c .before .if3 .left) (c .if4 .left) (omega arith)
+returns-5 c =
+    let no-at = c .before in
+    let no-own = no-at .before in
+    let no-operator = no-own .before in
+    bracket-lost _ _ _ (no-operator .before .operator .ensures) (no-operator .if1 .left) (no-own .if2 .left) (no-at .if3 .left) (c .if4 .left) (omega arith)
 
 pub bracket-spec : {M : Type 1} → statement M
 bracket-spec =

@@ -1,158 +1,161 @@
-use borrow.Author.Needs.{needs}
-use Rattle.book.specs.ExpressionsLoop.{Working, working-start, begun-shorter, mark-shorter, open-fits, working-open, working-whole, working-space, working-close, working-lost, working-end}
-use Rattle.grammar.specs.Expression.{machine, expressionSteps}
-use Rattle.text.specs.Rest.{rest, size}
-use lib.ListN.{length, length-set}
-use native.Mathlib.Omega.{arith}
 use mathlib.Core.List.{[]}
 use mathlib.Core.Bool.{true}
 use mathlib.Core.Path.{_≡_, refl}
-use Prim.Native.Nat.{ℕ}
+use native.Mathlib.Omega.{arith}
+use lib.ListN.{length, length-set}
+use Rattle.text.specs.Rest.{rest, size}
+use Rattle.grammar.specs.Expression.{machine, expressionSteps}
+use Rattle.book.specs.Expressions.{DEFINITION-WORDS}
+use Rattle.book.specs.ExpressionsLoop.{Working, working-start, begun-shorter, mark-shorter, open-fits, working-open, working-whole, working-space, working-close, working-lost, working-end}
+use borrow.Author.Needs.{needs}
 use Rattle.book.proofs.expression.expression.Statement.{statement}
 use Rattle.book.proofs.expression.expression.Tie as tie
-use Rattle.book.proofs.expression.expression.Reads as reads
-use Rattle.book.proofs.expression.expression.Lts as lts
-use Rattle.book.proofs.expression.begun.Reads as begun-reads
-use Rattle.book.proofs.expression.put_node.Reads as put-node-reads
-use Rattle.text.proofs.mark.Reads as mark-reads
 
 abbrev Inv-loop : tie.InvT-loop
-Inv-loop t text at waits₀ line₀ depth₀ due₀ p₀ count₀ waits line depth due p count = (length waits ≡ 13107) × (length line ≡ 49) × Working text line₀ (machine true (rest text at) [] []) waits depth due p count line
+Inv-loop t text at waits₀ line₀ depth₀ due₀ p₀ count₀ waits line depth due p count =
+    (length waits ≡ length waits₀) × (length line ≡ DEFINITION-WORDS)
+    × Working text line₀ (machine true (rest text at) [] []) waits depth due p count line
 
 abbrev μ-loop : tie.MeasureT-loop
 μ-loop t text at waits₀ line₀ depth₀ due₀ p₀ count₀ waits line depth due p count = size (rest text p)
 
--- src/expression.rt:193:5
 loop-holds : tie.Need-loop-holds Inv-loop μ-loop
 loop-holds c = (search needs, search needs, working-start _ _ _ _)
 
--- src/expression.rt:195:17
 begun-requires : tie.Need-begun-requires Inv-loop μ-loop
 begun-requires c κs = search needs
 
--- src/expression.rt:198:17
 slice-write-waits : tie.Need-slice-write-waits Inv-loop μ-loop
 slice-write-waits c =
-    let l = c .before .before .before .before in
-    omega (arith, open-fits (l .loop .inv .2) (c .before .before .before .loop-test .taken) (c .before .begun .ensures) (c .if2 .taken) (l .before .before .before .before .pre .0 .short))
+    let begins = c .before in
+    let turn = begins .before .before in
+    let start = turn .before .before .before .before .before in
+    omega (arith, open-fits (turn .before .loop .inv .2) (turn .loop-test .taken) (begins .begun .ensures) (c .if2 .taken) (start .pre .0 .short))
 
--- src/expression.rt:199:17
 add-depth : tie.Need-add-depth Inv-loop μ-loop
 add-depth c =
-    let l = c .before .before .before .before in
-    omega (arith, open-fits (l .loop .inv .2) (c .before .before .before .loop-test .taken) (c .before .begun .ensures) (c .if2 .taken) (l .before .before .before .before .pre .0 .short))
+    let begins = c .before in
+    let turn = begins .before .before in
+    let start = turn .before .before .before .before .before in
+    omega (arith, open-fits (turn .before .loop .inv .2) (turn .loop-test .taken) (begins .begun .ensures) (c .if2 .taken) (start .pre .0 .short))
 
--- src/expression.rt:193:5
 loop-less : tie.Need-loop-less Inv-loop μ-loop
-loop-less c = begun-shorter (c .before .before .before .before .loop .inv .2) (c .before .before .before .loop-test .taken) (c .before .begun .ensures)
+loop-less c =
+    let begins = c .before in
+    let turn = begins .before .before in
+    begun-shorter (turn .before .loop .inv .2) (turn .loop-test .taken) (begins .begun .ensures)
 
--- src/expression.rt:193:5
 loop-again : tie.Need-loop-again Inv-loop μ-loop
 loop-again c =
-    let l = c .before .before .before .before in
-    let d = c .before .before .if1 .taken in
-    (simp length-set (l .loop .inv .0), l .loop .inv .1,
-    working-open (l .loop .inv .2) (c .before .before .before .loop-test .taken) (c .before .begun .ensures) (c .if2 .taken) (l .loop .inv .0) (l .before .before .before .before .pre .0 .short) d)
+    let begins = c .before in
+    let turn = begins .before .before in
+    let inv = turn .before .loop .inv in
+    let start = turn .before .before .before .before .before in (
+      simp length-set (inv .0),
+      inv .1,
+      working-open (inv .2) (turn .loop-test .taken) (begins .begun .ensures) (c .if2 .taken) (omega arith) (start .pre .0 .short) (begins .before .if1 .taken),
+    )
 
--- src/expression.rt:202:13
 put-node-requires : tie.Need-put-node-requires Inv-loop μ-loop
 put-node-requires c κs = search needs
 
--- src/expression.rt:203:13
 add-count : tie.Need-add-count Inv-loop μ-loop
 add-count c = search needs
 
--- src/expression.rt:193:5
 loop-less-2 : tie.Need-loop-less-2 Inv-loop μ-loop
-loop-less-2 c = let b = c .before .before .before .before .before in begun-shorter (b .before .before .before .loop .inv .2) (b .before .before .loop-test .taken) (b .begun .ensures)
+loop-less-2 c =
+    let begins = c .before .before .before .before .before in
+    let turn = begins .before .before in
+    begun-shorter (turn .before .loop .inv .2) (turn .loop-test .taken) (begins .begun .ensures)
 
--- src/expression.rt:193:5
 loop-again-2 : tie.Need-loop-again-2 Inv-loop μ-loop
 loop-again-2 c =
-    let b = c .before .before .before .before .before in
-    (b .before .before .before .loop .inv .0, search needs,
-    working-whole (b .before .before .before .loop .inv .2) (b .before .before .loop-test .taken) (b .begun .ensures) (c .before .before .before .before .if2 .left) (b .before .if1 .taken) (c .before .before .put-node .ensures))
+    let node = c .before .before in
+    let begins = node .before .before .before in
+    let turn = begins .before .before in
+    let inv = turn .before .loop .inv in (
+      inv .0,
+      search needs,
+      working-whole (inv .2) (turn .loop-test .taken) (begins .begun .ensures) (node .before .before .if2 .left) (begins .before .if1 .taken) (node .put-node .ensures),
+    )
 
--- src/expression.rt:208:13
 same-length : tie.Need-same-length Inv-loop μ-loop
 same-length c = search needs
 
--- src/expression.rt:208:13
 same-length-2 : tie.Need-same-length-2 Inv-loop μ-loop
 same-length-2 c = search needs
 
--- src/expression.rt:208:13
 returns : tie.Need-returns Inv-loop μ-loop
 unfolding expressionSteps
 returns c = working-end (c .before .before .before .loop .inv .2) (c .before .if1 .left) (c .if3 .taken)
 
--- src/expression.rt:213:26
 sub-code : tie.Need-sub-code Inv-loop μ-loop
 sub-code c = search needs
 
--- src/expression.rt:213:20
 slice-read-code : tie.Need-slice-read-code Inv-loop μ-loop
 slice-read-code c = search needs
 
--- src/expression.rt:215:13
 mark-requires : tie.Need-mark-requires Inv-loop μ-loop
 mark-requires c κs = search needs
 
--- src/expression.rt:216:13
 put-node-requires-2 : tie.Need-put-node-requires-2 Inv-loop μ-loop
 put-node-requires-2 c κs = search needs
 
--- src/expression.rt:217:13
 add-count-2 : tie.Need-add-count-2 Inv-loop μ-loop
 add-count-2 c = search needs
 
--- src/expression.rt:218:13
 sub-depth : tie.Need-sub-depth Inv-loop μ-loop
 sub-depth c = search needs
 
--- src/expression.rt:193:5
 loop-less-3 : tie.Need-loop-less-3 Inv-loop μ-loop
-loop-less-3 c = let m = c .before .before .before .before in mark-shorter (m .before .before .before .before .before .before .loop .inv .2) (m .before .before .before .before .before .loop-test .taken) _ _ (m .mark .ensures)
+loop-less-3 c =
+    let closed = c .before .before .before .before in
+    let turn = closed .before .before .before .before .before in
+    mark-shorter (turn .before .loop .inv .2) (turn .loop-test .taken) _ _ (closed .mark .ensures)
 
--- src/expression.rt:193:5
 loop-again-3 : tie.Need-loop-again-3 Inv-loop μ-loop
 loop-again-3 c =
-    let m = c .before .before .before .before in
-    (m .before .before .before .before .before .before .loop .inv .0, search needs,
-    working-close (m .before .before .before .before .before .before .loop .inv .2) (m .before .before .before .before .before .loop-test .taken) (m .before .before .before .before .if1 .left) (omega arith) refl (m .before .if4 .taken) (m .mark .ensures) (c .before .before .put-node2 .ensures))
+    let node = c .before .before in
+    let closed = node .before .before in
+    let turn = closed .before .before .before .before .before in
+    let inv = turn .before .loop .inv in (
+      inv .0,
+      search needs,
+      working-close (inv .2) (turn .loop-test .taken) (closed .before .before .before .before .if1 .left) (omega arith) refl (closed .before .if4 .taken) (closed .mark .ensures)
+          (node .put-node2 .ensures),
+    )
 
--- src/expression.rt:221:9
 mark-requires-2 : tie.Need-mark-requires-2 Inv-loop μ-loop
 mark-requires-2 c κs = search needs
 
--- src/expression.rt:222:15
 sub-waits : tie.Need-sub-waits Inv-loop μ-loop
 sub-waits c = search needs
 
--- src/expression.rt:222:9
 slice-write-waits-2 : tie.Need-slice-write-waits-2 Inv-loop μ-loop
 slice-write-waits-2 c = search needs
 
--- src/expression.rt:193:5
 loop-less-4 : tie.Need-loop-less-4 Inv-loop μ-loop
-loop-less-4 c = mark-shorter (c .before .before .before .before .before .before .loop .inv .2) (c .before .before .before .before .before .loop-test .taken) _ _ (c .mark2 .ensures)
+loop-less-4 c =
+    let turn = c .before .before .before .before .before in
+    mark-shorter (turn .before .loop .inv .2) (turn .loop-test .taken) _ _ (c .mark2 .ensures)
 
--- src/expression.rt:193:5
 loop-again-4 : tie.Need-loop-again-4 Inv-loop μ-loop
 loop-again-4 c =
-    let l = c .before .before .before .before .before .before in
-    (simp length-set (l .loop .inv .0), l .loop .inv .1,
-    working-space (l .loop .inv .2) (c .before .before .before .before .before .loop-test .taken) (c .before .before .before .before .if1 .left) (omega arith) refl (l .loop .inv .0) (l .before .before .before .before .pre .0 .short) (c .before .if4 .left) (c .mark2 .ensures))
+    let turn = c .before .before .before .before .before in
+    let inv = turn .before .loop .inv in
+    let start = turn .before .before .before .before .before in (
+      simp length-set (inv .0),
+      inv .1,
+      working-space (inv .2) (turn .loop-test .taken) (c .before .before .before .before .if1 .left) (omega arith) refl (omega arith) (start .pre .0 .short) (c .before .if4 .left)
+          (c .mark2 .ensures),
+    )
 
--- src/expression.rt:185:1
 same-length-3 : tie.Need-same-length-3 Inv-loop μ-loop
 same-length-3 c = search needs
 
--- src/expression.rt:185:1
 same-length-4 : tie.Need-same-length-4 Inv-loop μ-loop
 same-length-4 c = search needs
 
--- src/expression.rt:185:1
 returns-2 : tie.Need-returns-2 Inv-loop μ-loop
 unfolding expressionSteps
 returns-2 c = working-lost (c .before .loop .inv .2) (c .loop-test .left)

@@ -6,25 +6,16 @@ use Rattle.book.specs.Expressions.{shownOf}
 use borrow.Author.Needs.{needs}
 use Rattle.book.proofs.expression.own_place.Statement.{statement}
 use Rattle.book.proofs.expression.own_place.Tie as tie
-use Rattle.book.proofs.expression.own_place.Reads as reads
-use Rattle.book.proofs.expression.own_place.Lts as lts
-use Rattle.text.proofs.keyword.Reads as keyword-reads
-use Rattle.text.proofs.mark.Reads as mark-reads
-use Rattle.text.proofs.number.Reads as number-reads
 
--- src/expression.rt:87:9
 keyword-requires : tie.Need-keyword-requires
 keyword-requires c κs = search needs
 
--- src/expression.rt:88:9
 number-requires : tie.Need-number-requires
 number-requires c κs = search needs
 
--- src/expression.rt:94:13
 mark-requires : tie.Need-mark-requires
 mark-requires c κs = search needs
 
--- src/expression.rt:83:1
 returns : tie.Need-returns
 unfolding ownPlace spelled wholeOf shownOf nodeWords item after
 returns c = record { shown-is = cc }

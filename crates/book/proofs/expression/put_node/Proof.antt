@@ -4,58 +4,43 @@ use Rattle.book.specs.ExpressionsLaws.{node-in, node-out}
 use borrow.Author.Needs.{needs}
 use Rattle.book.proofs.expression.put_node.Statement.{statement}
 use Rattle.book.proofs.expression.put_node.Tie as tie
-use Rattle.book.proofs.expression.put_node.Reads as reads
-use Rattle.book.proofs.expression.put_node.Lts as lts
 
--- src/expression.rt:53:21
 mul-i : tie.Need-mul-i
 mul-i c = search needs
 
--- src/expression.rt:53:17
 add-i : tie.Need-add-i
 add-i c = search needs
 
--- src/expression.rt:54:9
 mul-line : tie.Need-mul-line
 mul-line c = search needs
 
--- src/expression.rt:54:9
 slice-write-line : tie.Need-slice-write-line
 slice-write-line c = search needs
 
--- src/expression.rt:55:14
 add-line : tie.Need-add-line
 add-line c = search needs
 
--- src/expression.rt:55:9
 mul-line-2 : tie.Need-mul-line-2
 mul-line-2 c = search needs
 
--- src/expression.rt:55:9
 slice-write-line-2 : tie.Need-slice-write-line-2
 slice-write-line-2 c = simp length-set (omega arith)
 
--- src/expression.rt:56:14
 add-line-2 : tie.Need-add-line-2
 add-line-2 c = search needs
 
--- src/expression.rt:56:9
 mul-line-3 : tie.Need-mul-line-3
 mul-line-3 c = search needs
 
--- src/expression.rt:56:9
 slice-write-line-3 : tie.Need-slice-write-line-3
 slice-write-line-3 c = simp length-set (omega arith)
 
--- src/expression.rt:48:1
 same-length : tie.Need-same-length
 same-length c = search needs
 
--- src/expression.rt:48:1
 returns : tie.Need-returns
 returns c = node-in _ _ _ _ _ (c .if1 .taken)
 
--- src/expression.rt:48:1
 returns-2 : tie.Need-returns-2
 returns-2 c = node-out _ _ _ (c .if1 .left)
 

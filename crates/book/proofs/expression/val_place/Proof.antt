@@ -5,20 +5,13 @@ use Rattle.book.specs.Expressions.{shownOf}
 use borrow.Author.Needs.{needs}
 use Rattle.book.proofs.expression.val_place.Statement.{statement}
 use Rattle.book.proofs.expression.val_place.Tie as tie
-use Rattle.book.proofs.expression.val_place.Reads as reads
-use Rattle.book.proofs.expression.val_place.Lts as lts
-use Rattle.text.proofs.mark.Reads as mark-reads
-use Rattle.text.proofs.number.Reads as number-reads
 
--- src/expression.rt:120:9
 number-requires : tie.Need-number-requires
 number-requires c κs = search needs
 
--- src/expression.rt:126:13
 mark-requires : tie.Need-mark-requires
 mark-requires c κs = search needs
 
--- src/expression.rt:116:1
 returns : tie.Need-returns
 unfolding valPlace wholeOf shownOf nodeWords item after
 returns c = record { shown-is = cc }

@@ -1,21 +1,15 @@
-use Rattle.book.specs.Order.{first-stands, later-stands}
 use mathlib.Core.Path.{_∙_}
+use Rattle.book.specs.Order.{first-stands, later-stands}
 use borrow.Author.Needs.{needs}
 use Rattle.book.proofs.order.ascends.Statement.{statement}
 use Rattle.book.proofs.order.ascends.Tie as tie
-use Rattle.book.proofs.order.ascends.Reads as reads
-use Rattle.book.proofs.order.ascends.Lts as lts
-use Rattle.book.proofs.order.before.Reads as before-reads
 
--- src/order.rt:30:9
 returns : tie.Need-returns
 returns c = first-stands _ _ _ _ (c .if1 .taken)
 
--- src/order.rt:32:5
 before-requires : tie.Need-before-requires
 before-requires c κs = search needs
 
--- src/order.rt:26:1
 returns-2 : tie.Need-returns-2
 returns-2 c = c .before2 .ensures ∙ later-stands _ _ _ (c .before .if1 .left)
 

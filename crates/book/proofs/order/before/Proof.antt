@@ -1,20 +1,14 @@
-use borrow.Author.Needs.{needs}
-use Rattle.book.specs.Order.{before-unequal, before-equal, before-one}
 use mathlib.Core.Path.{_∙_}
+use Rattle.book.specs.Order.{before-unequal, before-equal, before-one}
 use Rattle.book.proofs.order.before.Statement.{statement}
 use Rattle.book.proofs.order.before.Tie as tie
-use Rattle.book.proofs.order.before.Reads as reads
-use Rattle.book.proofs.order.before.Lts as lts
 
--- src/order.rt:17:9
 returns : tie.Need-returns
 returns c = before-unequal _ _ _ _ (c .before .before .if1 .taken)
 
--- src/order.rt:20:9
 returns-2 : tie.Need-returns-2
 returns-2 c = before-unequal _ _ _ _ (c .before .before .if2 .taken) ∙ before-equal _ _ _ _ (c .before .before .before .before .before .if1 .left)
 
--- src/order.rt:13:1
 returns-3 : tie.Need-returns-3
 returns-3 c = before-one _ _ ∙ (before-equal _ _ _ _ (c .before .before .if2 .left) ∙ before-equal _ _ _ _ (c .before .before .before .before .before .if1 .left))
 

@@ -8,7 +8,7 @@ use Rattle.text.specs.Rest.{must, mark}
 use Rattle.text.specs.Numeral.{wordOf}
 use Rattle.grammar.specs.Data.Book.{Place, InheritedDefinition, SynthesizedDefinition}
 use Rattle.grammar.specs.Data.Postfix.{Step, termOf}
-use Rattle.grammar.specs.Format.Reader.{result, remaining, Reader, pure, _>>=_, _>>_, decimalNumber, opening, closing, naming, section}
+use Rattle.grammar.specs.Format.Reader.{Reader, pure, _>>=_, _>>_, decimalNumber, opening, closing, naming, section}
 use Rattle.grammar.specs.Format.Expression.{expressionSteps}
 use Rattle.grammar.specs.Format.Parse.{isBefore}
 use Rattle.book.specs.Layout.{definitionWords}

@@ -1,28 +1,28 @@
 -- Laws of the lines of definitions: a book's definitions are these lines with the expression that their steps build, and nothing else differs.
 -- Assumes nothing.
-use Prim.Native.Nat.{ℕ, zero, suc, _≤_, _<_}
-use mathlib.Core.Path.{_≡_, refl, sym, ap, _∙_}
+use Prim.Native.Nat.{ℕ, zero, suc}
+use mathlib.Core.Path.{_≡_, refl}
 use mathlib.Core.Bool.{Bool, true, false}
 use mathlib.Core.List.{List, [], _∷_, map}
-use lib.Dec.{eqb, ltb}
-use Rattle.text.specs.Rest.{Rest, found, must, size}
-use Rattle.grammar.specs.Data.Book.{InheritedDefinition, SynthesizedDefinition}
+use Rattle.text.specs.Rest.{Rest, found, size}
 use Rattle.grammar.specs.Format.Ordered.{inheritedKey, synthesizedKey}
-use Rattle.grammar.specs.Format.Reader.{Parsed, parsed, result, remaining, Reader, opening, many, section}
+use Rattle.grammar.specs.Format.Reader.{parsed, result, remaining, Reader, opening, many, section}
 use Rattle.grammar.specs.Format.Expression.{expression}
 use Rattle.grammar.specs.Format.Parse.{isBefore, inheritedDefinitionLine, synthesizedDefinitionLine, inheritedDefinitionLines, synthesizedDefinitionLines}
-use Rattle.book.specs.Definitions.{Defined, Definition, inheritedOf, synthesizedOf, ascending, nextKey, inheritedDefined, synthesizedDefined, definedBy, definition, wordFor, definitions}
+use Rattle.book.specs.Definitions.{inheritedOf, synthesizedOf, ascending, nextKey, inheritedDefined, synthesizedDefined, definedBy}
+use Rattle.book.specs.Definitions.{definition, wordFor, definitions}
 
 -- Sections of lines that correspond
 
 -- two readers of lines, from corresponding states: they leave the same, read corresponding items, and go on in corresponding states
-pub record Same {A B S T : Type 0} (f : A → B) (R : S → T → Type 0) (one : S → Reader A) (next : S → A → S) (other : T → Reader B) (then : T → B → T) : Type 0 where
+pub record Same {A B S T : Type 0} (f : A → B) (R : S → T → Type 0) (one : S → Reader A) (next : S → A → S) (other : T → Reader B) (then : T → B → T)
+    : Type 0 where
   pub same-remaining : (s : S) (t : T) → R s t → (o : Rest) → remaining (other t o) ≡ remaining (one s o)
   pub same-result : (s : S) (t : T) → R s t → (o : Rest) → result (other t o) ≡ f (result (one s o))
   pub same-next : (s : S) (t : T) → R s t → (o : Rest) → R (next s (result (one s o))) (then t (result (other t o)))
 
-module _ {A B S T : Type 0} (head : Rest → Rest) (f : A → B) (R : S → T → Type 0) (one : S → Reader A) (next : S → A → S) (other : T → Reader B) (then : T → B → T)
-    (same : Same f R one next other then) where
+module _ {A B S T : Type 0} (head : Rest → Rest) (f : A → B) (R : S → T → Type 0) (one : S → Reader A) (next : S → A → S)
+    (other : T → Reader B) (then : T → B → T) (same : Same f R one next other then) where
   many-map : (fuel : ℕ) (s : S) (t : T) → R s t → (o : Rest)
       → many head other then fuel t o ≡ parsed (map f (result (many head one next fuel s o))) (remaining (many head one next fuel s o))
   unfolding many result remaining

@@ -1,6 +1,6 @@
 -- The words of a definition's line, as code makes them: nodes written into a line of zeros, and four numbers before them.
 -- Assumes nothing.
-use Prim.Native.Nat.{ℕ, zero, suc, _+_, _*_, _≤_, _<_}
+use Prim.Native.Nat.{ℕ, zero, suc, _+_, _*_, _≤_}
 use mathlib.Core.Path.{_≡_, refl, sym, ap, _∙_}
 use mathlib.Core.List.{List, [], _∷_, _++_, append-assoc}
 use native.Mathlib.Omega.{arith}
@@ -12,7 +12,7 @@ use Rattle.grammar.specs.Data.Term.{add, sub, min, max}
 use Rattle.grammar.specs.Data.Book.{Place, own, at, val}
 use Rattle.grammar.specs.Data.Postfix.{Step, push, load, operate, select}
 use Rattle.book.specs.Layout.{writeAt, nodeWords, nodesWords, definitionWords}
-use Rattle.book.specs.Expressions.{DEFINITION-WORDS, putNode, storeNodes, kindOf}
+use Rattle.book.specs.Expressions.{DEFINITION-WORDS, putNode, storeNodes}
 use Rattle.book.specs.ExpressionsLaws.{node-out, three-words}
 
 -- words written over as many others
@@ -51,7 +51,9 @@ store-over (suc room) k [] front h e = refl
 store-over (suc room) k (s ∷ steps) front h e =
     let l : length (nodeWords s []) ≡ 3 = ap length (three-words s) in
     let w : putNode k (nodeWords s []) (front ++ (0 ∷ 0 ∷ 0 ∷ nodesWords room [])) ≡ (front ++ nodeWords s []) ++ nodesWords room [] =
-    rw (lt-ltb k MAX-NODES (omega arith), putNode) (write-over (4 + 3 * k) front (nodeWords s []) (0 ∷ 0 ∷ 0 ∷ []) (nodesWords room []) e l ∙ sym (append-assoc front (nodeWords s []) (nodesWords room []))) in
+    rw (lt-ltb k MAX-NODES (omega arith), putNode)
+    (write-over (4 + 3 * k) front (nodeWords s []) (0 ∷ 0 ∷ 0 ∷ []) (nodesWords room []) e l
+    ∙ sym (append-assoc front (nodeWords s []) (nodesWords room []))) in
     rw w (store-over room (suc k) steps (front ++ nodeWords s []) (omega arith) (simp length-append (omega arith))
     ∙ (append-assoc front (nodeWords s []) (nodesWords room steps) ∙ rw (node-front s (nodesWords room steps))))
 
@@ -60,5 +62,5 @@ pub line-made : (P J K n : ℕ) (steps : List (Step Place)) (line : List ℕ) �
     → set (set (set (set line 0 P) 1 J) 2 K) 3 n ≡ definitionWords P J K steps
 unfolding definitionWords nodesWords
 line-made P J K n steps line e h =
-    let z : line ≡ 0 ∷ 0 ∷ 0 ∷ 0 ∷ nodesWords 15 steps = e ∙ store-over 15 0 steps (0 ∷ 0 ∷ 0 ∷ 0 ∷ []) refl refl in
+    let z : line ≡ 0 ∷ 0 ∷ 0 ∷ 0 ∷ nodesWords MAX-NODES steps = e ∙ store-over MAX-NODES 0 steps (0 ∷ 0 ∷ 0 ∷ 0 ∷ []) refl refl in
     rw (z, h)

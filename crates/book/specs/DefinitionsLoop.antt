@@ -1,7 +1,7 @@
 -- Lines of definitions in code: the words of one line, and what the loop over them keeps true. The lines stand in the array from place `first` on.
 -- Assumes nothing.
-use Prim.Native.Nat.{ℕ, zero, suc, _+_, _*_, _≤_, _<_}
-use mathlib.Core.Path.{_≡_, refl, sym, ap, _∙_}
+use Prim.Native.Nat.{ℕ, suc, _+_, _≤_, _<_}
+use mathlib.Core.Path.{_≡_, refl, ap, _∙_}
 use mathlib.Core.Bool.{Bool, true, false}
 use mathlib.Core.List.{List, [], _∷_}
 use native.Mathlib.Omega.{arith}
@@ -12,7 +12,7 @@ use Rattle.text.specs.Rest.{Rest, rest, must, mark, size}
 use Rattle.text.specs.Numeral.{decimal, wordOf}
 use Rattle.text.specs.Reading.{Reads}
 use Rattle.grammar.specs.Limits.{MAX-DEFINITIONS}
-use Rattle.grammar.specs.Format.Reader.{Parsed, result, remaining, opening, closing, naming, section}
+use Rattle.grammar.specs.Format.Reader.{Parsed, result, remaining, opening, closing, naming}
 use Rattle.grammar.specs.Format.ReaderLaws.{shrinking, opening-less}
 use Rattle.grammar.specs.Format.Expression.{expressionSteps}
 use Rattle.grammar.specs.Format.ExpressionReads.{steps-size}
@@ -21,10 +21,11 @@ use Rattle.book.specs.declared.order.Key.{Key}
 use Rattle.book.specs.Layout.{definitionWords, putLine, storeLines}
 use Rattle.book.specs.LayoutLaws.{length-put}
 use Rattle.book.specs.Sections.{Gives, Puts, Shrinks, Reading, keepFrom, reading-start, reading-less, reading-turn, reading-done}
-use Rattle.book.specs.Order.{keyOf, lastKey}
+use Rattle.book.specs.Order.{lastKey}
 use Rattle.book.specs.Expressions.{DEFINITION-WORDS}
 use Rattle.book.specs.ExpressionsLoop.{Expresses}
-use Rattle.book.specs.Definitions.{Defined, Definition, wordsOf, ascending, nextKey, inheritedDefined, synthesizedDefined, definedBy, definition, wordFor, definitions}
+use Rattle.book.specs.Definitions.{Defined, Definition, wordsOf, ascending, nextKey, inheritedDefined, synthesizedDefined, definedBy}
+use Rattle.book.specs.Definitions.{definition, wordFor, definitions}
 use Rattle.book.specs.DefinitionsLine.{line-made}
 
 -- what a line defines, as the code holds it
@@ -110,7 +111,8 @@ pub record Defines (p : Parsed (List Definition)) (first : ℕ) (text out₀ : L
   pub array-is : out ≡ storeLines wordsOf MAX-DEFINITIONS first (result p) out₀
 
 -- amid a section: the line before has the key `last`
-pub record Defining (inherited : Bool) (first : ℕ) (text : List ℕ) (start : Parsed (List Definition)) (out₀ last : List ℕ) (k at : ℕ) (out : List ℕ) : Type 0 where
+pub record Defining (inherited : Bool) (first : ℕ) (text : List ℕ) (start : Parsed (List Definition)) (out₀ last : List ℕ) (k at : ℕ) (out : List ℕ)
+    : Type 0 where
   pub same-length : length out ≡ length out₀
   pub reading : Reading (opening (wordFor inherited)) (definition inherited) nextKey (keepFirst first)
       text start out₀ (lastKey k last) k at out
@@ -149,7 +151,9 @@ module _ (inherited : Bool) (first : ℕ) (text : List ℕ) where
       unfolding keepFirst lastKey
       defining-turn =
           record {
-            same-length = ap length (l .puts .array-is) ∙ (length-put MAX-DEFINITIONS (first + k) (wordsOf (result (definition inherited (lastKey k last) (rest text a)))) out ∙ r .same-length);
+            same-length =
+                ap length (l .puts .array-is)
+                ∙ (length-put MAX-DEFINITIONS (first + k) (wordsOf (result (definition inherited (lastKey k last) (rest text a)))) out ∙ r .same-length);
             reading =
                 reading-turn (opening (wordFor inherited)) (definition inherited) nextKey (keepFirst first) (definition-shrinks inherited) text
                 (r .reading) e h (l .puts .remaining-is) (rw (add-one k) (ap ascending (l .defined-is))) (l .puts .array-is);

@@ -9,8 +9,9 @@ use lib.ListN.{getD}
 use Rattle.text.specs.Rest.{Rest, rest}
 use Rattle.text.specs.Numeral.{wordOf}
 use Rattle.grammar.specs.Limits.{MAX-NODES}
+use Rattle.grammar.specs.Data.Term.{add, sub, min, max}
 use Rattle.grammar.specs.Data.Book.{Place}
-use Rattle.grammar.specs.Data.Postfix.{Step}
+use Rattle.grammar.specs.Data.Postfix.{Step, operate, select}
 use Rattle.grammar.specs.Format.Expression.{Waiting, waiting, Begun, opened, whole, either}
 use Rattle.book.specs.Layout.{writeAt, nodeWords}
 
@@ -50,11 +51,11 @@ pub data Waits (codes : List ℕ) : ℕ → List Waiting → Type 0 where
 -- the number of the operator that a word names, 0 where it names none
 unfoldable pub operatorCode : ℕ → ℕ
 operatorCode word =
-    either (eqb word (wordOf "add")) 20
-    (either (eqb word (wordOf "sub")) 21
-    (either (eqb word (wordOf "min")) 22
-    (either (eqb word (wordOf "max")) 23
-    (either (eqb word (wordOf "pick")) 40 0))))
+    either (eqb word (wordOf "add")) (waitingCode (waiting (operate add) 1))
+    (either (eqb word (wordOf "sub")) (waitingCode (waiting (operate sub) 1))
+    (either (eqb word (wordOf "min")) (waitingCode (waiting (operate min) 1))
+    (either (eqb word (wordOf "max")) (waitingCode (waiting (operate max) 1))
+    (either (eqb word (wordOf "pick")) (waitingCode (waiting select 2)) 0))))
 
 -- how an expression begins, in numbers: whether a bracket is left open, its operator's number or the node's three words, and what is left
 pub data Shown : Type 0 where

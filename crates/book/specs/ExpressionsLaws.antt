@@ -1,18 +1,17 @@
 -- Laws of an expression in code: its nodes in a line, its operators in an array, and that an operator takes at least five bytes of text.
 -- Assumes nothing.
-use Prim.Native.Nat.{ℕ, zero, suc, _+_, _*_, _-_, _≤_, _<_}
+use Prim.Native.Nat.{ℕ, suc, _+_, _*_, _-_, _≤_, _<_}
 use mathlib.Core.Path.{_≡_, refl, sym, ap, _∙_}
 use mathlib.Core.Bool.{Bool, true, false}
 use mathlib.Core.List.{List, [], _∷_, _++_}
 use native.Mathlib.Omega.{arith}
-use native.Mathlib.Numerals.{add-one}
-use lib.Dec.{ltb, eqb}
-use lib.ListN.{length, set, getD, replicate}
-use lib.Seq.{getD-set-same, getD-set-other, set-at}
+use lib.Dec.{eqb}
+use lib.ListN.{length, set, getD}
+use lib.Seq.{getD-set-same, getD-set-other}
 use borrow.Author.Tests.{eqb-true, ne-eqb, lt-ltb, le-ltb}
 use Rattle.text.specs.Class.{open-bracket, space}
 use Rattle.text.specs.Rest.{Rest, lost, left, rest, found, mark, size}
-use Rattle.text.specs.RestLaws.{rest-out, found-in, found-out, found-got, found-left, size-mark, less-mark, found-mark}
+use Rattle.text.specs.RestLaws.{rest-out, found-in, found-out, less-mark, found-mark}
 use Rattle.text.specs.Numeral.{decimal, letters, Read, bad, got, written, write, numberOf, restOf, read, value, past, wordOf, spelled}
 use Rattle.text.specs.Reading.{Reads}
 use Rattle.text.specs.Positional.{letters-positional}
@@ -22,14 +21,16 @@ use Rattle.grammar.specs.Data.Term.{add, sub, min, max}
 use Rattle.grammar.specs.Data.Book.{Place, own, at, val}
 use Rattle.grammar.specs.Data.Postfix.{Step, push, load, operate, select}
 use Rattle.grammar.specs.Format.Expression.{Waiting, waiting, Begun, opened, whole, either, wholeOf, bracket, begun}
-use Rattle.grammar.specs.Format.ExpressionReads.{either-cases, begun-bracket, begun-number, sizeBegun, begun-less}
+use Rattle.grammar.specs.Format.ExpressionReads.{either-cases, begun-bracket, begun-number}
 use Rattle.book.specs.Layout.{writeAt, nodeWords}
-use Rattle.book.specs.Expressions.{putNode, storeNodes, kindOf, Operates, waitingCode, Waits, none-waits, one-waits, operatorCode, Shown, shown, shownOf, Shows}
+use Rattle.book.specs.Expressions.{putNode, storeNodes, kindOf, Operates, waitingCode, Waits, none-waits, one-waits, operatorCode, shown}
+use Rattle.book.specs.Expressions.{shownOf, Shows}
 
 -- Nodes
 
 -- a node in code: three stores, where there is room for it
-pub node-in : (k a b c : ℕ) (line : List ℕ) → k < MAX-NODES → set (set (set line (4 + 3 * k) a) (4 + 3 * k + 1) b) (4 + 3 * k + 2) c ≡ putNode k (a ∷ b ∷ c ∷ []) line
+pub node-in : (k a b c : ℕ) (line : List ℕ) → k < MAX-NODES
+    → set (set (set line (4 + 3 * k) a) (4 + 3 * k + 1) b) (4 + 3 * k + 2) c ≡ putNode k (a ∷ b ∷ c ∷ []) line
 unfolding putNode writeAt
 node-in k a b c line h =
     let e : 4 + 3 * k + 1 ≡ suc (4 + 3 * k) = omega arith in
@@ -157,7 +158,7 @@ module _ (word : ℕ) (text : List ℕ) (at : ℕ) where
 
   pub bracket-lost : {c n : ℕ} → c ≡ operatorCode word → c ≡ 0 → (word ≡ wordOf "own" → ⊥) → (word ≡ wordOf "at" → ⊥) → (word ≡ wordOf "val" → ⊥)
       → length text < n → Shows (bracket word (rest text at)) text false 8 0 0 n
-  unfolding bracket operatorCode shownOf nodeWords
+  unfolding bracket operatorCode waitingCode shownOf nodeWords
   bracket-lost {n = n} e h i j k l =
       let P : ℕ → Begun → Type 0 = λ c b. c ≡ 0 → shown false 8 0 0 lost ≡ shownOf b in
       let z : P (operatorCode word) (bracket word (rest text at)) =
@@ -172,8 +173,8 @@ module _ (word : ℕ) (text : List ℕ) (at : ℕ) where
 -- A beginning by its first byte
 
 module _ {text : List ℕ} (at : ℕ) {a : ℕ} (e : rest text a ≡ mark open-bracket (rest text at)) where
-  pub shows-bracket : (b : ℕ) {word next code x y done : ℕ} {opens : Bool} → a ≤ length text → Reads letters text a word next → rest text b ≡ mark space (rest text next)
-      → Shows (bracket word (rest text b)) text opens code x y done → Shows (begun (rest text at)) text opens code x y done
+  pub shows-bracket : (b : ℕ) {word next code x y done : ℕ} {opens : Bool} → a ≤ length text → Reads letters text a word next
+      → rest text b ≡ mark space (rest text next) → Shows (bracket word (rest text b)) text opens code x y done → Shows (begun (rest text at)) text opens code x y done
   shows-bracket b h r f s =
       record {
         shown-is =

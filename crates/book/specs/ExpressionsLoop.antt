@@ -6,7 +6,7 @@ use mathlib.Core.Bool.{Bool, true, false}
 use mathlib.Core.List.{List, [], _∷_, _++_}
 use native.Mathlib.Omega.{arith}
 use native.Mathlib.Numerals.{add-one}
-use lib.ListN.{length, set, getD, length-set, length-append}
+use lib.ListN.{length, set, getD, length-append}
 use Rattle.text.specs.Class.{close-bracket, space}
 use Rattle.text.specs.Rest.{Rest, left, rest, found, mark, size}
 use Rattle.text.specs.RestLaws.{rest-in, found-in, found-out, size-rest, less-mark}
@@ -14,10 +14,10 @@ use Rattle.grammar.specs.Limits.{MAX-TEXT}
 use Rattle.grammar.specs.Data.Book.{Place}
 use Rattle.grammar.specs.Data.Postfix.{Step}
 use Rattle.grammar.specs.Format.Reader.{Parsed, result, remaining}
-use Rattle.grammar.specs.Format.Expression.{Waiting, waiting, Begun, opened, whole, begun, Scan, scan, scanMore, begin, scanTurn, scanAll, outcome, expressionSteps}
+use Rattle.grammar.specs.Format.Expression.{Waiting, waiting, Begun, opened, whole, begun, Scan, scan, scanMore, scanAll, outcome}
 use Rattle.grammar.specs.Format.ExpressionReads.{sizeBegun, begun-less, scan-stop, turn-opened, turn-whole, turn-space, turn-close}
 use Rattle.book.specs.Layout.{nodeWords}
-use Rattle.book.specs.Expressions.{MAX-WAITING, putNode, storeNodes, kindOf, Operates, waitingCode, Waits, none-waits, one-waits, Shown, shown, shownOf, Shows}
+use Rattle.book.specs.Expressions.{MAX-WAITING, putNode, storeNodes, kindOf, waitingCode, Waits, none-waits, one-waits, Shown, shown, shownOf, Shows}
 use Rattle.book.specs.ExpressionsLaws.{store-more, three-words, kind-small, waits-push, Costs, costs-opened, costs-whole, begun-costs}
 
 -- what is answered of an expression: the number of its nodes, the position after it, and the line with its nodes
@@ -26,7 +26,7 @@ pub record Expresses (p : Parsed (List (Step Place))) (text line₀ : List ℕ) 
   pub remaining-is : rest text next ≡ remaining p
   pub line-is : line ≡ storeNodes 0 (result p) line₀
 
--- the machine at a place
+-- what is known at a turn of the loop: the machine, with some operators waiting and some steps made, goes on as it did from the start
 pub data Going (text line₀ : List ℕ) (start : Scan) (codes : List ℕ) (depth : ℕ) (due : Bool) (at count : ℕ) (line : List ℕ) : Type 0 where
   going : (waits : List Waiting) (steps : List (Step Place)) → Waits codes depth waits → count ≡ length steps → line ≡ storeNodes 0 steps line₀
       → scanAll (scan due (rest text at) waits steps) ≡ scanAll start → Going text line₀ start codes depth due at count line
@@ -49,13 +49,16 @@ begins-less : (o r : Rest) {opens : Bool} {c x y : ℕ} → found o ≡ true →
 unfolding sizeShown
 begins-less o r h e = omega (arith, ap sizeShown e, size-shown (begun o), begun-less o h)
 
+apart : {c x y d u v : ℕ} {o r : Rest} → shown true c x y o ≡ shown false d u v r → ⊥
+apart e = let z : _≡_ {A = ℕ} 0 1 = cc in omega arith
+
 opened-less : (b : Begun) (m : ℕ) (r : Rest) {c x y : ℕ} → Costs m b → shown true c x y r ≡ shownOf b → size r + 5 ≤ m
 unfolding shownOf sizeShown
 opened-less (opened w o) m r (costs-opened operates l) e = omega (arith, ap sizeShown e)
-opened-less (whole s o) m r costs-whole e = absurd (let z : _≡_ {A = ℕ} 0 1 = cc in let y : ⊥ = omega arith in y)
+opened-less (whole s o) m r costs-whole e = absurd (apart e)
 
-one-more : {count : ℕ} {line line′ node : List ℕ} (line₀ : List ℕ) (steps : List (Step Place)) (s : Step Place) → count ≡ length steps → line ≡ storeNodes 0 steps line₀
-    → node ≡ nodeWords s [] → line′ ≡ putNode count node line → line′ ≡ storeNodes 0 (steps ++ (s ∷ [])) line₀
+one-more : {count : ℕ} {line line′ node : List ℕ} (line₀ : List ℕ) (steps : List (Step Place)) (s : Step Place) → count ≡ length steps
+    → line ≡ storeNodes 0 steps line₀ → node ≡ nodeWords s [] → line′ ≡ putNode count node line → line′ ≡ storeNodes 0 (steps ++ (s ∷ [])) line₀
 one-more line₀ steps s k i n f =
     let z : 0 + length steps ≡ length steps = omega arith in
     rw (store-more 0 steps s line₀, z) (cc)
@@ -82,7 +85,7 @@ module _ (text line₀ : List ℕ) (start : Scan) {codes : List ℕ} {due : Bool
       let a : rest text next ≡ r = cc in
       going (waiting s n ∷ waits) steps (rw (add-one depth) (waits-push codes c fits operates (cc) w)) k i
       (rw (d, a) (sym (turn-opened waits steps bs r (waiting s n) q) ∙ (rw (d, o) at same)))
-  go-open (whole s r) q l o d fits e g = absurd (let z : _≡_ {A = ℕ} 0 1 = cc in let y : ⊥ = omega arith in y)
+  go-open (whole s r) q l o d fits e g = absurd (apart e)
 
   -- it is one step
   go-whole : {bs : List ℕ} {depth c x y next : ℕ} {line′ : List ℕ} (b : Begun) → begun (left bs) ≡ b → rest text at ≡ left bs → due ≡ true
@@ -93,7 +96,7 @@ module _ (text line₀ : List ℕ) (start : Scan) {codes : List ℕ} {due : Bool
       let a : rest text next ≡ r = cc in
       going waits (steps ++ (s ∷ [])) w (rw k (sym (length-append steps (s ∷ [])))) (one-more line₀ steps s k i (cc (three-words s)) f)
       (rw a (sym (turn-whole waits steps bs r s q) ∙ (rw (d, o) at same)))
-  go-whole (opened w r) q o d e f g = absurd (let z : _≡_ {A = ℕ} 0 1 = cc in let y : ⊥ = omega arith in y)
+  go-whole (opened w r) q o d e f g = absurd (apart (sym e))
 
   -- an operand was read: the operator on top waits for another
   go-space : {bs : List ℕ} {depth c next : ℕ} → rest text at ≡ left bs → due ≡ false → 0 < depth → depth ≤ length codes → c ≡ getD codes (depth - 1) 0 → 16 ≤ c
@@ -128,17 +131,21 @@ module _ (text line₀ : List ℕ) (start : Scan) {codes : List ℕ} {due : Bool
       rw z (going waits (steps ++ (s ∷ [])) w (rw k (sym (length-append steps (s ∷ [])))) (one-more line₀ steps s k i (rw x (sym operates)) g)
       (rw (d, f, o) (sym (turn-close waits steps bs s) ∙ (rw (d, o) at same))))
 
-  go-stop : {depth : ℕ} → ((waits : List Waiting) (steps : List (Step Place)) → Waits codes depth waits → scanMore (scan due (rest text at) waits steps) ≡ false)
+  -- the machine stops
+  go-stop : {depth : ℕ}
+      → ((waits : List Waiting) (steps : List (Step Place)) → Waits codes depth waits → scanMore (scan due (rest text at) waits steps) ≡ false)
       → Going text line₀ start codes depth due at count line → Expresses (outcome (scanAll start)) text line₀ count at line
   unfolding outcome result remaining
   go-stop stops (going waits steps w k i same) =
       let z : scan due (rest text at) waits steps ≡ scanAll start = sym (scan-stop (scan due (rest text at) waits steps) (stops waits steps w)) ∙ same in
       rw (← z) (record { count-is = k; remaining-is = refl; line-is = i })
 
-  go-lost : {depth : ℕ} → found (rest text at) ≡ false → Going text line₀ start codes depth due at count line → Expresses (outcome (scanAll start)) text line₀ count at line
+  go-lost : {depth : ℕ} → found (rest text at) ≡ false → Going text line₀ start codes depth due at count line
+      → Expresses (outcome (scanAll start)) text line₀ count at line
   go-lost h g = go-stop (λ waits steps w. lost-stops due (rest text at) waits steps h) g
 
-  go-end : {depth : ℕ} → due ≡ false → depth ≡ 0 → Going text line₀ start codes depth due at count line → Expresses (outcome (scanAll start)) text line₀ count at line
+  go-end : {depth : ℕ} → due ≡ false → depth ≡ 0 → Going text line₀ start codes depth due at count line
+      → Expresses (outcome (scanAll start)) text line₀ count at line
   go-end d h g = go-stop (λ waits steps w. rw d (none-stops (rest text at) steps h w)) g
 
 -- The loop
@@ -161,7 +168,8 @@ module _ {text line₀ codes line : List ℕ} {start : Scan} {depth at count : �
         pub open-fits : length text ≤ MAX-TEXT → depth < MAX-WAITING
         open-fits l = omega (arith, open-less, w .deep)
 
-        pub working-open : length codes ≡ MAX-WAITING → length text ≤ MAX-TEXT → due ≡ true → Working text line₀ start (set codes depth c) (depth + 1) due next count line
+        pub working-open : MAX-WAITING ≤ length codes → length text ≤ MAX-TEXT → due ≡ true
+            → Working text line₀ start (set codes depth c) (depth + 1) due next count line
         working-open k l d =
             record {
               counted = omega (arith, open-less, w .counted);
@@ -178,14 +186,15 @@ module _ {text line₀ codes line : List ℕ} {start : Scan} {depth at count : �
             counted = omega (arith, begun-shorter, w .counted);
             deep = omega (arith, begun-shorter, w .deep);
             now-at =
-                go-whole text line₀ start (begun (rest text at)) (sym (ap begun (rest-in text at h))) (rest-in text at h) d (rw e at (b .shown-is)) f (w .now-at);
+                go-whole text line₀ start (begun (rest text at)) (sym (ap begun (rest-in text at h))) (rest-in text at h) d
+                (rw e at (b .shown-is)) f (w .now-at);
           }
 
     pub mark-shorter : (class next : ℕ) → rest text next ≡ mark class (rest text at) → size (rest text next) < size (rest text at)
     mark-shorter class next f = omega (arith, ap size f, less-mark class (rest text at) (found-in text at h))
 
     module _ {c next : ℕ} (d : due ≡ false) (deeper : 0 < depth) (e : c ≡ getD codes (depth - 1) 0) where
-      pub working-space : length codes ≡ MAX-WAITING → length text ≤ MAX-TEXT → 16 ≤ c → rest text next ≡ mark space (rest text at)
+      pub working-space : MAX-WAITING ≤ length codes → length text ≤ MAX-TEXT → 16 ≤ c → rest text next ≡ mark space (rest text at)
           → Working text line₀ start (set codes (depth - 1) (c - 16)) depth true next count line
       working-space k l large f =
           record {

@@ -75,7 +75,7 @@ fn words(
     waits: &mut [u8],
     line: &mut [u32],
 ) -> usize
-    requires { ⌜ Lent (now t) (now text) × (length (now waits) ≡ MAX-WAITING) × (now line ≡ replicate DEFINITION-WORDS 0) ⌝ }
+    requires { ⌜ Lent (now t) (now text) × (MAX-WAITING ≤ length (now waits)) × (now line ≡ replicate DEFINITION-WORDS 0) ⌝ }
     ensures { λ r. ⌜ Worded (definedOf key) (rest (now (text .entry)) at) (now (text .entry)) r (now (line .exit)) ⌝ }
 {
     let a = text::mark(t, text, at, text::SPACE);
@@ -99,7 +99,8 @@ fn definition_line(
     waits: &mut [u8],
     out: &mut [u32],
 ) -> Named
-    requires { ⌜ Lent (now t) (now text) × (length (now waits) ≡ MAX-WAITING) × (MAX-DEFINITIONS * DEFINITION-WORDS ≤ length (now out)) × (k ≤ 65537) × (first ≤ 65537) ⌝ }
+    requires { ⌜ Lent (now t) (now text) × (k ≤ 65537) × (first ≤ 65537)
+        × (MAX-WAITING ≤ length (now waits)) × (MAX-DEFINITIONS * DEFINITION-WORDS ≤ length (now out)) ⌝ }
     ensures { λ r. ⌜ Keeps (definition inherited (lastKey k (keyOf last)) (rest (now (text .entry)) at)) (first + k)
         (now (text .entry)) (now (out .entry)) (definedOf (r .key)) (r .at) (now (out .exit)) ⌝ }
 {
@@ -125,7 +126,8 @@ fn definition_lines(
     waits: &mut [u8],
     out: &mut [u32],
 ) -> Section
-    requires { ⌜ Lent (now t) (now text) × (word ≡ wordFor inherited) × (first ≤ 65537) × (length (now waits) ≡ MAX-WAITING) × (MAX-DEFINITIONS * DEFINITION-WORDS ≤ length (now out)) ⌝ }
+    requires { ⌜ Lent (now t) (now text) × (word ≡ wordFor inherited) × (first ≤ 65537)
+        × (MAX-WAITING ≤ length (now waits)) × (MAX-DEFINITIONS * DEFINITION-WORDS ≤ length (now out)) ⌝ }
     ensures { λ r. ⌜ Defines (definitions inherited (rest (now (text .entry)) at)) first
         (now (text .entry)) (now (out .entry)) (r .count) (r .at) (now (out .exit)) ⌝ }
 {
@@ -156,7 +158,7 @@ pub fn inherited_definitions(
     waits: &mut [u8],
     out: &mut [u32],
 ) -> Section
-    requires { ⌜ Lent (now t) (now text) × (length (now waits) ≡ MAX-WAITING) × (MAX-DEFINITIONS * DEFINITION-WORDS ≤ length (now out)) ⌝ }
+    requires { ⌜ Lent (now t) (now text) × (MAX-WAITING ≤ length (now waits)) × (MAX-DEFINITIONS * DEFINITION-WORDS ≤ length (now out)) ⌝ }
     ensures { λ r. ⌜ Defines (definitions true (rest (now (text .entry)) at)) 0
         (now (text .entry)) (now (out .entry)) (r .count) (r .at) (now (out .exit)) ⌝ }
 {
@@ -171,7 +173,8 @@ pub fn synthesized_definitions(
     waits: &mut [u8],
     out: &mut [u32],
 ) -> Section
-    requires { ⌜ Lent (now t) (now text) × (first ≤ 65537) × (length (now waits) ≡ MAX-WAITING) × (MAX-DEFINITIONS * DEFINITION-WORDS ≤ length (now out)) ⌝ }
+    requires { ⌜ Lent (now t) (now text) × (first ≤ 65537)
+        × (MAX-WAITING ≤ length (now waits)) × (MAX-DEFINITIONS * DEFINITION-WORDS ≤ length (now out)) ⌝ }
     ensures { λ r. ⌜ Defines (definitions false (rest (now (text .entry)) at)) first
         (now (text .entry)) (now (out .entry)) (r .count) (r .at) (now (out .exit)) ⌝ }
 {

@@ -188,7 +188,7 @@ pub fn expression(
     waits: &mut [u8],
     line: &mut [u32],
 ) -> Cursor
-    requires { ⌜ Lent (now t) (now text) × (length (now waits) ≡ MAX-WAITING) × (length (now line) ≡ DEFINITION-WORDS) ⌝ }
+    requires { ⌜ Lent (now t) (now text) × (MAX-WAITING ≤ length (now waits)) × (length (now line) ≡ DEFINITION-WORDS) ⌝ }
     ensures { λ r. ⌜ Expresses (expressionSteps (rest (now (text .entry)) at)) (now (text .entry)) (now (line .entry)) (r .value) (r .at) (now (line .exit)) ⌝ }
 {
     let mut depth: usize = 0;

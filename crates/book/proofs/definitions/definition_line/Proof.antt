@@ -3,13 +3,6 @@ use Rattle.book.specs.Definitions.{ascending}
 use borrow.Author.Needs.{needs}
 use Rattle.book.proofs.definitions.definition_line.Statement.{statement}
 use Rattle.book.proofs.definitions.definition_line.Tie as tie
-use Rattle.book.proofs.definitions.definition_line.Reads as reads
-use Rattle.book.proofs.definitions.definition_line.Lts as lts
-use Rattle.book.proofs.definitions.names.Reads as names-reads
-use Rattle.book.proofs.definitions.words.Reads as words-reads
-use Rattle.book.proofs.order.ascends.Reads as ascends-reads
-use Rattle.book.proofs.store.put_line.Reads as put-line-reads
-use Rattle.text.proofs.require.Reads as require-reads
 
 names-requires : tie.Need-names-requires
 names-requires c κs = search needs
@@ -46,7 +39,11 @@ same-length-2 c = search needs
 
 returns : tie.Need-returns
 unfolding ascending
-returns c = line-kept _ _ _ _ (c .before .before .before .before .before .before .before .before .before .before .before .before .before .before .names .ensures) (c .before .before .before .before .before .before .before .before .before .before .words .ensures) (c .before .before .before .before .put-line .ensures) (c .before .ascends .ensures) (c .require .ensures)
+returns c =
+    let stored = c .before .before .before .before in
+    let made = stored .before .before .before .before .before .before in
+    let named = made .before .before .before .before in
+    line-kept _ _ _ _ (named .names .ensures) (made .words .ensures) (stored .put-line .ensures) (c .before .ascends .ensures) (c .require .ensures)
 
 pub definition-line-spec : {M : Type 1} → statement M
 definition-line-spec =

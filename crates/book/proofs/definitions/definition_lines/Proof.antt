@@ -1,21 +1,16 @@
-use borrow.Author.Needs.{needs}
+use mathlib.Core.Path.{_≡_}
+use lib.ListN.{length}
+use Rattle.text.specs.Rest.{rest, size}
 use Rattle.book.specs.DefinitionsLoop.{Defining, defining-start, defining-less, defining-turn, defining-done}
 use Rattle.book.specs.Definitions.{ascending, definitions}
-use Rattle.book.specs.Expressions.{MAX-WAITING}
 use Rattle.book.specs.Order.{keyOf}
-use Rattle.text.specs.Rest.{rest, size}
-use lib.ListN.{length}
-use native.Mathlib.Omega.{arith}
-use mathlib.Core.Path.{_≡_}
+use borrow.Author.Needs.{needs}
 use Rattle.book.proofs.definitions.definition_lines.Statement.{statement}
 use Rattle.book.proofs.definitions.definition_lines.Tie as tie
-use Rattle.book.proofs.definitions.definition_lines.Reads as reads
-use Rattle.book.proofs.definitions.definition_lines.Lts as lts
-use Rattle.book.proofs.definitions.definition_line.Reads as definition-line-reads
-use Rattle.book.proofs.spelling.opening.Reads as opening-reads
 
 abbrev Inv-loop : tie.InvT-loop
-Inv-loop t text at inherited word first waits₀ out₀ n p₀ k₀ last₀ waits out p k last = (length waits ≡ MAX-WAITING) × Defining inherited first text (definitions inherited (rest text at)) out₀ (keyOf last) k p out
+Inv-loop t text at inherited word first waits₀ out₀ n p₀ k₀ last₀ waits out p k last =
+    (length waits ≡ length waits₀) × Defining inherited first text (definitions inherited (rest text at)) out₀ (keyOf last) k p out
 
 abbrev μ-loop : tie.MeasureT-loop
 μ-loop t text at inherited word first waits₀ out₀ n p₀ k₀ last₀ waits out p k last = size (rest text p)
@@ -33,7 +28,10 @@ same-length-2 : tie.Need-same-length-2 Inv-loop μ-loop
 same-length-2 c = c .before .before .loop .inv .1 .same-length
 
 returns : tie.Need-returns Inv-loop μ-loop
-returns c = defining-done _ _ _ (c .before .before .loop .inv .1) (rw (c .before .before .before .before .before .before .pre .1) at (c .before .opening .ensures)) (c .if1 .taken)
+returns c =
+    let head = c .before in
+    let start = head .before .before .before .before .before in
+    defining-done _ _ _ (head .before .loop .inv .1) (rw (start .pre .1) at (head .opening .ensures)) (c .if1 .taken)
 
 definition-line-requires : tie.Need-definition-line-requires Inv-loop μ-loop
 definition-line-requires c κs = search needs
@@ -42,11 +40,23 @@ add-k : tie.Need-add-k Inv-loop μ-loop
 add-k c = search needs
 
 loop-less : tie.Need-loop-less Inv-loop μ-loop
-loop-less c = defining-less _ _ _ (c .before .before .before .before .before .before .before .before .before .before .loop .inv .1) (rw (c .before .before .before .before .before .before .before .before .before .before .before .before .before .before .pre .1) at (c .before .before .before .before .before .before .before .before .before .opening .ensures)) (c .before .before .before .before .before .before .before .before .if1 .left) (c .before .before .before .before .before .definition-line .ensures)
+loop-less c =
+    let line = c .before .before .before .before .before in
+    let found = line .before .before .before in
+    let head = found .before in
+    let start = head .before .before .before .before .before in
+    defining-less _ _ _ (head .before .loop .inv .1) (rw (start .pre .1) at (head .opening .ensures)) (found .if1 .left) (line .definition-line .ensures)
 
 loop-again : tie.Need-loop-again Inv-loop μ-loop
 unfolding ascending
-loop-again c = (search needs, defining-turn _ _ _ (c .before .before .before .before .before .before .before .before .before .before .loop .inv .1) (rw (c .before .before .before .before .before .before .before .before .before .before .before .before .before .before .pre .1) at (c .before .before .before .before .before .before .before .before .before .opening .ensures)) (c .before .before .before .before .before .before .before .before .if1 .left) (c .before .before .before .before .before .definition-line .ensures))
+loop-again c =
+    let line = c .before .before .before .before .before in
+    let found = line .before .before .before in
+    let head = found .before in
+    let start = head .before .before .before .before .before in (
+      search needs,
+      defining-turn _ _ _ (head .before .loop .inv .1) (rw (start .pre .1) at (head .opening .ensures)) (found .if1 .left) (line .definition-line .ensures),
+    )
 
 pub definition-lines-spec : {M : Type 1} → statement M
 definition-lines-spec =

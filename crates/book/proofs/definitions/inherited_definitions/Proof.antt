@@ -1,11 +1,8 @@
-use Rattle.book.specs.Definitions.{wordFor}
 use Rattle.text.specs.Numeral.{spelled}
+use Rattle.book.specs.Definitions.{wordFor}
 use borrow.Author.Needs.{needs}
 use Rattle.book.proofs.definitions.inherited_definitions.Statement.{statement}
 use Rattle.book.proofs.definitions.inherited_definitions.Tie as tie
-use Rattle.book.proofs.definitions.inherited_definitions.Reads as reads
-use Rattle.book.proofs.definitions.inherited_definitions.Lts as lts
-use Rattle.book.proofs.definitions.definition_lines.Reads as definition-lines-reads
 
 definition-lines-requires : tie.Need-definition-lines-requires
 unfolding wordFor spelled

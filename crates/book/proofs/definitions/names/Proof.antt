@@ -1,13 +1,8 @@
-use Rattle.book.specs.DefinitionsLoop.{inherited-names, synthesized-names}
 use Rattle.text.specs.Numeral.{spelled}
+use Rattle.book.specs.DefinitionsLoop.{inherited-names, synthesized-names}
 use borrow.Author.Needs.{needs}
 use Rattle.book.proofs.definitions.names.Statement.{statement}
 use Rattle.book.proofs.definitions.names.Tie as tie
-use Rattle.book.proofs.definitions.names.Reads as reads
-use Rattle.book.proofs.definitions.names.Lts as lts
-use Rattle.book.proofs.spelling.naming.Reads as naming-reads
-use Rattle.text.proofs.mark.Reads as mark-reads
-use Rattle.text.proofs.number.Reads as number-reads
 
 number-requires : tie.Need-number-requires
 number-requires c κs = search needs
@@ -26,7 +21,12 @@ number-requires-3 c κs = search needs
 
 returns : tie.Need-returns
 unfolding spelled
-returns c = rw (c .before .before .before .before .if1 .taken) (inherited-names _ _ (c .before .before .before .before .before .number .ensures) (c .before .before .before .mark .ensures) (c .before .before .number2 .ensures) (c .before .naming .ensures) (c .number3 .ensures))
+returns c =
+    let position = c .before .before in
+    let after-rule = position .before in
+    let rule = after-rule .before .before in
+    rw (after-rule .before .if1 .taken)
+    (inherited-names _ _ (rule .number .ensures) (after-rule .mark .ensures) (position .number2 .ensures) (c .before .naming .ensures) (c .number3 .ensures))
 
 naming-requires-2 : tie.Need-naming-requires-2
 naming-requires-2 c κs = search needs
@@ -36,7 +36,9 @@ number-requires-4 c κs = search needs
 
 returns-2 : tie.Need-returns-2
 unfolding spelled
-returns-2 c = rw (c .before .before .if1 .left) (synthesized-names _ (c .before .before .before .number .ensures) (c .before .naming2 .ensures) (c .number4 .ensures))
+returns-2 c =
+    let rule = c .before .before .before in
+    rw (c .before .before .if1 .left) (synthesized-names _ (rule .number .ensures) (c .before .naming2 .ensures) (c .number4 .ensures))
 
 pub names-spec : {M : Type 1} → statement M
 names-spec =

@@ -1,15 +1,10 @@
-use Rattle.book.specs.DefinitionsLoop.{worded}
-use lib.ListN.{length, length-set}
-use native.Mathlib.Omega.{arith}
 use mathlib.Core.Path.{ap}
+use native.Mathlib.Omega.{arith}
+use lib.ListN.{length, length-set}
+use Rattle.book.specs.DefinitionsLoop.{worded}
 use borrow.Author.Needs.{needs}
 use Rattle.book.proofs.definitions.words.Statement.{statement}
 use Rattle.book.proofs.definitions.words.Tie as tie
-use Rattle.book.proofs.definitions.words.Reads as reads
-use Rattle.book.proofs.definitions.words.Lts as lts
-use Rattle.book.proofs.expression.expression.Reads as expression-reads
-use Rattle.book.proofs.spelling.closing.Reads as closing-reads
-use Rattle.text.proofs.mark.Reads as mark-reads
 
 mark-requires : tie.Need-mark-requires
 mark-requires c κs = search needs
@@ -18,16 +13,16 @@ expression-requires : tie.Need-expression-requires
 expression-requires c κs = search needs
 
 slice-write-line : tie.Need-slice-write-line
-slice-write-line c = omega (arith, ap length (c .before .before .before .before .before .before .before .before .before .before .before .pre .2))
+slice-write-line c = let start = c .before .before .before .before .before .before .before .before .before .before .before in omega (arith, ap length (start .pre .2))
 
 slice-write-line-2 : tie.Need-slice-write-line-2
-slice-write-line-2 c = simp length-set (omega (arith, ap length (c .before .before .before .before .before .before .before .before .before .before .before .pre .2)))
+slice-write-line-2 c = let start = c .before .before .before .before .before .before .before .before .before .before .before in simp length-set (omega (arith, ap length (start .pre .2)))
 
 slice-write-line-3 : tie.Need-slice-write-line-3
-slice-write-line-3 c = simp length-set (omega (arith, ap length (c .before .before .before .before .before .before .before .before .before .before .before .pre .2)))
+slice-write-line-3 c = let start = c .before .before .before .before .before .before .before .before .before .before .before in simp length-set (omega (arith, ap length (start .pre .2)))
 
 slice-write-line-4 : tie.Need-slice-write-line-4
-slice-write-line-4 c = simp length-set (omega (arith, ap length (c .before .before .before .before .before .before .before .before .before .before .before .pre .2)))
+slice-write-line-4 c = let start = c .before .before .before .before .before .before .before .before .before .before .before in simp length-set (omega (arith, ap length (start .pre .2)))
 
 closing-requires : tie.Need-closing-requires
 closing-requires c κs = search needs
@@ -39,7 +34,11 @@ same-length-2 : tie.Need-same-length-2
 same-length-2 c = search needs
 
 returns : tie.Need-returns
-returns c = worded _ (c .before .before .before .before .before .before .before .before .mark .ensures) (c .before .before .before .before .before .expression .ensures) (c .before .before .before .before .before .before .before .before .before .before .before .before .pre .2) (c .closing .ensures)
+returns c =
+    let nodes = c .before .before .before .before .before in
+    let space = nodes .before .before .before in
+    let start = space .before .before .before .before in
+    worded _ (space .mark .ensures) (nodes .expression .ensures) (start .pre .2) (c .closing .ensures)
 
 pub words-spec : {M : Type 1} → statement M
 words-spec =

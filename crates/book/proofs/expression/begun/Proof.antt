@@ -2,12 +2,6 @@ use Rattle.book.specs.ExpressionsLaws.{shows-bracket, shows-number}
 use borrow.Author.Needs.{needs}
 use Rattle.book.proofs.expression.begun.Statement.{statement}
 use Rattle.book.proofs.expression.begun.Tie as tie
-use Rattle.book.proofs.expression.begun.Reads as reads
-use Rattle.book.proofs.expression.begun.Lts as lts
-use Rattle.book.proofs.expression.bracket.Reads as bracket-reads
-use Rattle.text.proofs.mark.Reads as mark-reads
-use Rattle.text.proofs.number.Reads as number-reads
-use Rattle.text.proofs.word.Reads as word-reads
 
 mark-requires : tie.Need-mark-requires
 mark-requires c κs = search needs
@@ -22,7 +16,10 @@ bracket-requires : tie.Need-bracket-requires
 bracket-requires c κs = search needs
 
 returns : tie.Need-returns
-returns c = shows-bracket _ (c .before .before .before .before .mark .ensures) _ (c .before .before .before .if1 .taken) (c .before .before .word .ensures) (c .before .mark2 .ensures) (c .bracket .ensures)
+returns c =
+    let word = c .before .before in
+    let opened = word .before .before in
+    shows-bracket _ (opened .mark .ensures) _ (word .before .if1 .taken) (word .word .ensures) (c .before .mark2 .ensures) (c .bracket .ensures)
 
 number-requires : tie.Need-number-requires
 number-requires c κs = search needs

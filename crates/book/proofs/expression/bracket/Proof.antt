@@ -5,12 +5,6 @@ use Rattle.book.specs.ExpressionsLaws.{bracket-opens, bracket-lost}
 use borrow.Author.Needs.{needs}
 use Rattle.book.proofs.expression.bracket.Statement.{statement}
 use Rattle.book.proofs.expression.bracket.Tie as tie
-use Rattle.book.proofs.expression.bracket.Reads as reads
-use Rattle.book.proofs.expression.bracket.Lts as lts
-use Rattle.book.proofs.expression.at_place.Reads as at-place-reads
-use Rattle.book.proofs.expression.operator.Reads as operator-reads
-use Rattle.book.proofs.expression.own_place.Reads as own-place-reads
-use Rattle.book.proofs.expression.val_place.Reads as val-place-reads
 
 operator-requires : tie.Need-operator-requires
 operator-requires c κs = search needs
@@ -44,7 +38,11 @@ add-t8 c = search needs
 
 returns-5 : tie.Need-returns-5
 unfolding spelled
-returns-5 c = bracket-lost _ _ _ (c .before .before .before .before .operator .ensures) (c .before .before .before .if1 .left) (c .before .before .if2 .left) (c .before .if3 .left) (c .if4 .left) (omega arith)
+returns-5 c =
+    let no-at = c .before in
+    let no-own = no-at .before in
+    let no-operator = no-own .before in
+    bracket-lost _ _ _ (no-operator .before .operator .ensures) (no-operator .if1 .left) (no-own .if2 .left) (no-at .if3 .left) (c .if4 .left) (omega arith)
 
 pub bracket-spec : {M : Type 1} → statement M
 bracket-spec =

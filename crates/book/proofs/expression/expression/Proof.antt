@@ -1,23 +1,20 @@
-use borrow.Author.Needs.{needs}
-use Rattle.book.specs.ExpressionsLoop.{Working, working-start, begun-shorter, mark-shorter, open-fits, working-open, working-whole, working-space, working-close, working-lost, working-end}
-use Rattle.grammar.specs.Format.Expression.{scan, expressionSteps}
-use Rattle.text.specs.Rest.{rest, size}
-use lib.ListN.{length, length-set}
-use native.Mathlib.Omega.{arith}
 use mathlib.Core.List.{[]}
 use mathlib.Core.Bool.{true}
 use mathlib.Core.Path.{_≡_, refl}
-use Prim.Native.Nat.{ℕ}
+use native.Mathlib.Omega.{arith}
+use lib.ListN.{length, length-set}
+use Rattle.text.specs.Rest.{rest, size}
+use Rattle.grammar.specs.Format.Expression.{scan, expressionSteps}
+use Rattle.book.specs.Expressions.{DEFINITION-WORDS}
+use Rattle.book.specs.ExpressionsLoop.{Working, working-start, begun-shorter, mark-shorter, open-fits, working-open, working-whole, working-space, working-close, working-lost, working-end}
+use borrow.Author.Needs.{needs}
 use Rattle.book.proofs.expression.expression.Statement.{statement}
 use Rattle.book.proofs.expression.expression.Tie as tie
-use Rattle.book.proofs.expression.expression.Reads as reads
-use Rattle.book.proofs.expression.expression.Lts as lts
-use Rattle.book.proofs.expression.begun.Reads as begun-reads
-use Rattle.book.proofs.expression.put_node.Reads as put-node-reads
-use Rattle.text.proofs.mark.Reads as mark-reads
 
 abbrev Inv-loop : tie.InvT-loop
-Inv-loop t text at waits₀ line₀ depth₀ due₀ p₀ count₀ waits line depth due p count = (length waits ≡ 13107) × (length line ≡ 49) × Working text line₀ (scan true (rest text at) [] []) waits depth due p count line
+Inv-loop t text at waits₀ line₀ depth₀ due₀ p₀ count₀ waits line depth due p count =
+    (length waits ≡ length waits₀) × (length line ≡ DEFINITION-WORDS)
+    × Working text line₀ (scan true (rest text at) [] []) waits depth due p count line
 
 abbrev μ-loop : tie.MeasureT-loop
 μ-loop t text at waits₀ line₀ depth₀ due₀ p₀ count₀ waits line depth due p count = size (rest text p)
@@ -30,24 +27,33 @@ begun-requires c κs = search needs
 
 slice-write-waits : tie.Need-slice-write-waits Inv-loop μ-loop
 slice-write-waits c =
-    let l = c .before .before .before .before in
-    omega (arith, open-fits (l .loop .inv .2) (c .before .before .before .loop-test .taken) (c .before .begun .ensures) (c .if2 .taken) (l .before .before .before .before .pre .0 .short))
+    let begins = c .before in
+    let scanTurn = begins .before .before in
+    let start = scanTurn .before .before .before .before .before in
+    omega (arith, open-fits (scanTurn .before .loop .inv .2) (scanTurn .loop-test .taken) (begins .begun .ensures) (c .if2 .taken) (start .pre .0 .short))
 
 add-depth : tie.Need-add-depth Inv-loop μ-loop
 add-depth c =
-    let l = c .before .before .before .before in
-    omega (arith, open-fits (l .loop .inv .2) (c .before .before .before .loop-test .taken) (c .before .begun .ensures) (c .if2 .taken) (l .before .before .before .before .pre .0 .short))
+    let begins = c .before in
+    let scanTurn = begins .before .before in
+    let start = scanTurn .before .before .before .before .before in
+    omega (arith, open-fits (scanTurn .before .loop .inv .2) (scanTurn .loop-test .taken) (begins .begun .ensures) (c .if2 .taken) (start .pre .0 .short))
 
 loop-less : tie.Need-loop-less Inv-loop μ-loop
-loop-less c = begun-shorter (c .before .before .before .before .loop .inv .2) (c .before .before .before .loop-test .taken) (c .before .begun .ensures)
+loop-less c =
+    let begins = c .before in
+    let scanTurn = begins .before .before in
+    begun-shorter (scanTurn .before .loop .inv .2) (scanTurn .loop-test .taken) (begins .begun .ensures)
 
 loop-again : tie.Need-loop-again Inv-loop μ-loop
 loop-again c =
-    let l = c .before .before .before .before in
-    let d = c .before .before .if1 .taken in (
-      simp length-set (l .loop .inv .0),
-      l .loop .inv .1,
-      working-open (l .loop .inv .2) (c .before .before .before .loop-test .taken) (c .before .begun .ensures) (c .if2 .taken) (l .loop .inv .0) (l .before .before .before .before .pre .0 .short) d,
+    let begins = c .before in
+    let scanTurn = begins .before .before in
+    let inv = scanTurn .before .loop .inv in
+    let start = scanTurn .before .before .before .before .before in (
+      simp length-set (inv .0),
+      inv .1,
+      working-open (inv .2) (scanTurn .loop-test .taken) (begins .begun .ensures) (c .if2 .taken) (omega arith) (start .pre .0 .short) (begins .before .if1 .taken),
     )
 
 put-node-requires : tie.Need-put-node-requires Inv-loop μ-loop
@@ -57,14 +63,20 @@ add-count : tie.Need-add-count Inv-loop μ-loop
 add-count c = search needs
 
 loop-less-2 : tie.Need-loop-less-2 Inv-loop μ-loop
-loop-less-2 c = let b = c .before .before .before .before .before in begun-shorter (b .before .before .before .loop .inv .2) (b .before .before .loop-test .taken) (b .begun .ensures)
+loop-less-2 c =
+    let begins = c .before .before .before .before .before in
+    let scanTurn = begins .before .before in
+    begun-shorter (scanTurn .before .loop .inv .2) (scanTurn .loop-test .taken) (begins .begun .ensures)
 
 loop-again-2 : tie.Need-loop-again-2 Inv-loop μ-loop
 loop-again-2 c =
-    let b = c .before .before .before .before .before in (
-      b .before .before .before .loop .inv .0,
+    let node = c .before .before in
+    let begins = node .before .before .before in
+    let scanTurn = begins .before .before in
+    let inv = scanTurn .before .loop .inv in (
+      inv .0,
       search needs,
-      working-whole (b .before .before .before .loop .inv .2) (b .before .before .loop-test .taken) (b .begun .ensures) (c .before .before .before .before .if2 .left) (b .before .if1 .taken) (c .before .before .put-node .ensures),
+      working-whole (inv .2) (scanTurn .loop-test .taken) (begins .begun .ensures) (node .before .before .if2 .left) (begins .before .if1 .taken) (node .put-node .ensures),
     )
 
 same-length : tie.Need-same-length Inv-loop μ-loop
@@ -96,14 +108,21 @@ sub-depth : tie.Need-sub-depth Inv-loop μ-loop
 sub-depth c = search needs
 
 loop-less-3 : tie.Need-loop-less-3 Inv-loop μ-loop
-loop-less-3 c = let m = c .before .before .before .before in mark-shorter (m .before .before .before .before .before .before .loop .inv .2) (m .before .before .before .before .before .loop-test .taken) _ _ (m .mark .ensures)
+loop-less-3 c =
+    let closed = c .before .before .before .before in
+    let scanTurn = closed .before .before .before .before .before in
+    mark-shorter (scanTurn .before .loop .inv .2) (scanTurn .loop-test .taken) _ _ (closed .mark .ensures)
 
 loop-again-3 : tie.Need-loop-again-3 Inv-loop μ-loop
 loop-again-3 c =
-    let m = c .before .before .before .before in (
-      m .before .before .before .before .before .before .loop .inv .0,
+    let node = c .before .before in
+    let closed = node .before .before in
+    let scanTurn = closed .before .before .before .before .before in
+    let inv = scanTurn .before .loop .inv in (
+      inv .0,
       search needs,
-      working-close (m .before .before .before .before .before .before .loop .inv .2) (m .before .before .before .before .before .loop-test .taken) (m .before .before .before .before .if1 .left) (omega arith) refl (m .before .if4 .taken) (m .mark .ensures) (c .before .before .put-node2 .ensures),
+      working-close (inv .2) (scanTurn .loop-test .taken) (closed .before .before .before .before .if1 .left) (omega arith) refl (closed .before .if4 .taken) (closed .mark .ensures)
+          (node .put-node2 .ensures),
     )
 
 mark-requires-2 : tie.Need-mark-requires-2 Inv-loop μ-loop
@@ -116,14 +135,19 @@ slice-write-waits-2 : tie.Need-slice-write-waits-2 Inv-loop μ-loop
 slice-write-waits-2 c = search needs
 
 loop-less-4 : tie.Need-loop-less-4 Inv-loop μ-loop
-loop-less-4 c = mark-shorter (c .before .before .before .before .before .before .loop .inv .2) (c .before .before .before .before .before .loop-test .taken) _ _ (c .mark2 .ensures)
+loop-less-4 c =
+    let scanTurn = c .before .before .before .before .before in
+    mark-shorter (scanTurn .before .loop .inv .2) (scanTurn .loop-test .taken) _ _ (c .mark2 .ensures)
 
 loop-again-4 : tie.Need-loop-again-4 Inv-loop μ-loop
 loop-again-4 c =
-    let l = c .before .before .before .before .before .before in (
-      simp length-set (l .loop .inv .0),
-      l .loop .inv .1,
-      working-space (l .loop .inv .2) (c .before .before .before .before .before .loop-test .taken) (c .before .before .before .before .if1 .left) (omega arith) refl (l .loop .inv .0) (l .before .before .before .before .pre .0 .short) (c .before .if4 .left) (c .mark2 .ensures),
+    let scanTurn = c .before .before .before .before .before in
+    let inv = scanTurn .before .loop .inv in
+    let start = scanTurn .before .before .before .before .before in (
+      simp length-set (inv .0),
+      inv .1,
+      working-space (inv .2) (scanTurn .loop-test .taken) (c .before .before .before .before .if1 .left) (omega arith) refl (omega arith) (start .pre .0 .short) (c .before .if4 .left)
+          (c .mark2 .ensures),
     )
 
 same-length-3 : tie.Need-same-length-3 Inv-loop μ-loop

@@ -6,11 +6,6 @@ use Rattle.book.specs.Expressions.{shownOf}
 use borrow.Author.Needs.{needs}
 use Rattle.book.proofs.expression.own_place.Statement.{statement}
 use Rattle.book.proofs.expression.own_place.Tie as tie
-use Rattle.book.proofs.expression.own_place.Reads as reads
-use Rattle.book.proofs.expression.own_place.Lts as lts
-use Rattle.text.proofs.keyword.Reads as keyword-reads
-use Rattle.text.proofs.mark.Reads as mark-reads
-use Rattle.text.proofs.number.Reads as number-reads
 
 keyword-requires : tie.Need-keyword-requires
 keyword-requires c κs = search needs

@@ -4,8 +4,6 @@ use Rattle.book.specs.ExpressionsLaws.{node-in, node-out}
 use borrow.Author.Needs.{needs}
 use Rattle.book.proofs.expression.put_node.Statement.{statement}
 use Rattle.book.proofs.expression.put_node.Tie as tie
-use Rattle.book.proofs.expression.put_node.Reads as reads
-use Rattle.book.proofs.expression.put_node.Lts as lts
 
 mul-i : tie.Need-mul-i
 mul-i c = search needs

@@ -5,10 +5,6 @@ use Rattle.book.specs.Expressions.{shownOf}
 use borrow.Author.Needs.{needs}
 use Rattle.book.proofs.expression.val_place.Statement.{statement}
 use Rattle.book.proofs.expression.val_place.Tie as tie
-use Rattle.book.proofs.expression.val_place.Reads as reads
-use Rattle.book.proofs.expression.val_place.Lts as lts
-use Rattle.text.proofs.mark.Reads as mark-reads
-use Rattle.text.proofs.number.Reads as number-reads
 
 number-requires : tie.Need-number-requires
 number-requires c κs = search needs

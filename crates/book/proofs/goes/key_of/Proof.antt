@@ -1,8 +1,6 @@
 use Rattle.book.specs.GoLines.{terminal-key, nonterminal-key}
 use Rattle.book.proofs.goes.key_of.Statement.{statement}
 use Rattle.book.proofs.goes.key_of.Tie as tie
-use Rattle.book.proofs.goes.key_of.Reads as reads
-use Rattle.book.proofs.goes.key_of.Lts as lts
 
 returns : tie.Need-returns
 returns c = terminal-key _ _ _ (c .if1 .taken)

@@ -4,12 +4,6 @@ use Rattle.book.specs.Header.{header}
 use borrow.Author.Needs.{needs}
 use Rattle.book.proofs.header.header.Statement.{statement}
 use Rattle.book.proofs.header.header.Tie as tie
-use Rattle.book.proofs.header.header.Reads as reads
-use Rattle.book.proofs.header.header.Lts as lts
-use Rattle.book.proofs.spelling.closing.Reads as closing-reads
-use Rattle.book.proofs.spelling.opening.Reads as opening-reads
-use Rattle.text.proofs.mark.Reads as mark-reads
-use Rattle.text.proofs.number.Reads as number-reads
 
 opening-requires : tie.Need-opening-requires
 opening-requires c κs = search needs

@@ -2,8 +2,6 @@ use mathlib.Core.Path.{_∙_}
 use Rattle.book.specs.Order.{before-one, first-stands, later-stands}
 use Rattle.book.proofs.kernels.follows.Statement.{statement}
 use Rattle.book.proofs.kernels.follows.Tie as tie
-use Rattle.book.proofs.kernels.follows.Reads as reads
-use Rattle.book.proofs.kernels.follows.Lts as lts
 
 returns : tie.Need-returns
 returns c = first-stands _ _ _ _ (c .if1 .taken)

@@ -11,14 +11,6 @@ use Rattle.book.specs.KernelLines.{seen, see, looks-of, lookahead-read, 
 use borrow.Author.Needs.{needs}
 use Rattle.book.proofs.kernels.lookaheads.Statement.{statement}
 use Rattle.book.proofs.kernels.lookaheads.Tie as tie
-use Rattle.book.proofs.kernels.lookaheads.Reads as reads
-use Rattle.book.proofs.kernels.lookaheads.Lts as lts
-use Rattle.book.proofs.kernels.follows.Reads as follows-reads
-use Rattle.book.proofs.kernels.with_lookahead.Reads as with-lookahead-reads
-use Rattle.book.proofs.spelling.naming.Reads as naming-reads
-use Rattle.sets.proofs.empty.Reads as empty-reads
-use Rattle.text.proofs.number.Reads as number-reads
-use Rattle.text.proofs.require.Reads as require-reads
 
 abbrev Inv-loop : tie.InvT-loop
 Inv-loop t text at n p₀ count₀ last₀ set₀ p count last set =

@@ -2,9 +2,6 @@ use Rattle.book.specs.KernelLines.{with-large}
 use borrow.Author.Needs.{needs}
 use Rattle.book.proofs.kernels.with_lookahead.Statement.{statement}
 use Rattle.book.proofs.kernels.with_lookahead.Tie as tie
-use Rattle.book.proofs.kernels.with_lookahead.Reads as reads
-use Rattle.book.proofs.kernels.with_lookahead.Lts as lts
-use Rattle.sets.proofs.with.Reads as with-reads
 
 with-requires : tie.Need-with-requires
 with-requires c κs = search needs

@@ -3,9 +3,6 @@ use mathlib.Core.Path.{_∙_}
 use borrow.Author.Needs.{needs}
 use Rattle.book.proofs.order.ascends.Statement.{statement}
 use Rattle.book.proofs.order.ascends.Tie as tie
-use Rattle.book.proofs.order.ascends.Reads as reads
-use Rattle.book.proofs.order.ascends.Lts as lts
-use Rattle.book.proofs.order.is_before.Reads as is-before-reads
 
 returns : tie.Need-returns
 returns c = first-stands _ _ _ _ (c .if1 .taken)

@@ -1,10 +1,7 @@
-use borrow.Author.Needs.{needs}
 use Rattle.book.specs.Order.{before-unequal, before-equal, before-one}
 use mathlib.Core.Path.{_∙_}
 use Rattle.book.proofs.order.is_before.Statement.{statement}
 use Rattle.book.proofs.order.is_before.Tie as tie
-use Rattle.book.proofs.order.is_before.Reads as reads
-use Rattle.book.proofs.order.is_before.Lts as lts
 
 returns : tie.Need-returns
 returns c = before-unequal _ _ _ _ (c .before .before .if1 .taken)

@@ -3,14 +3,6 @@ use Rattle.book.specs.Lines.{owner-steps}
 use borrow.Author.Needs.{needs}
 use Rattle.book.proofs.owners.owner_line.Statement.{statement}
 use Rattle.book.proofs.owners.owner_line.Tie as tie
-use Rattle.book.proofs.owners.owner_line.Reads as reads
-use Rattle.book.proofs.owners.owner_line.Lts as lts
-use Rattle.book.proofs.spelling.closing.Reads as closing-reads
-use Rattle.book.proofs.spelling.naming.Reads as naming-reads
-use Rattle.book.proofs.store.put_line.Reads as put-line-reads
-use Rattle.text.proofs.keyword.Reads as keyword-reads
-use Rattle.text.proofs.number.Reads as number-reads
-use Rattle.text.proofs.require.Reads as require-reads
 
 keyword-requires : tie.Need-keyword-requires
 keyword-requires c κs = search needs

@@ -9,10 +9,6 @@ use Rattle.book.specs.Lines.{owner-shrinks}
 use borrow.Author.Needs.{needs}
 use Rattle.book.proofs.owners.owner_lines.Statement.{statement}
 use Rattle.book.proofs.owners.owner_lines.Tie as tie
-use Rattle.book.proofs.owners.owner_lines.Reads as reads
-use Rattle.book.proofs.owners.owner_lines.Lts as lts
-use Rattle.book.proofs.owners.owner_line.Reads as owner-line-reads
-use Rattle.book.proofs.spelling.opening.Reads as opening-reads
 
 abbrev Inv-loop : tie.InvT-loop
 Inv-loop t text at word letter room out₀ n p₀ k₀ out p k =

@@ -8,12 +8,6 @@ use Rattle.book.specs.Lines.{symbolWords, symbols-shrink}
 use borrow.Author.Needs.{needs}
 use Rattle.book.proofs.rules.right_side.Statement.{statement}
 use Rattle.book.proofs.rules.right_side.Tie as tie
-use Rattle.book.proofs.rules.right_side.Reads as reads
-use Rattle.book.proofs.rules.right_side.Lts as lts
-use Rattle.book.proofs.store.put_line.Reads as put-line-reads
-use Rattle.book.proofs.symbol.code_of.Reads as code-of-reads
-use Rattle.book.proofs.symbol.symbol.Reads as symbol-reads
-use Rattle.text.proofs.mark.Reads as mark-reads
 
 abbrev Inv-loop : tie.InvT-loop
 Inv-loop t text at out₀ n p₀ m₀ out p m =

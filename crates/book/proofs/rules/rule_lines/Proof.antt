@@ -11,10 +11,6 @@ use Rattle.book.specs.Lines.{rule-shrinks}
 use borrow.Author.Needs.{needs}
 use Rattle.book.proofs.rules.rule_lines.Statement.{statement}
 use Rattle.book.proofs.rules.rule_lines.Tie as tie
-use Rattle.book.proofs.rules.rule_lines.Reads as reads
-use Rattle.book.proofs.rules.rule_lines.Lts as lts
-use Rattle.book.proofs.rules.rule_line.Reads as rule-line-reads
-use Rattle.book.proofs.spelling.opening.Reads as opening-reads
 
 abbrev Inv-loop : tie.InvT-loop
 Inv-loop t text at out₀ n p₀ k₀ out p k =

@@ -2,9 +2,6 @@ use Rattle.grammar.specs.Format.Reader.{closing}
 use borrow.Author.Needs.{needs}
 use Rattle.book.proofs.spelling.closing.Statement.{statement}
 use Rattle.book.proofs.spelling.closing.Tie as tie
-use Rattle.book.proofs.spelling.closing.Reads as reads
-use Rattle.book.proofs.spelling.closing.Lts as lts
-use Rattle.text.proofs.mark.Reads as mark-reads
 
 mark-requires : tie.Need-mark-requires
 mark-requires c κs = search needs

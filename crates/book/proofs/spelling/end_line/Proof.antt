@@ -3,11 +3,6 @@ use Rattle.grammar.specs.Format.Parse.{endLine}
 use borrow.Author.Needs.{needs}
 use Rattle.book.proofs.spelling.end_line.Statement.{statement}
 use Rattle.book.proofs.spelling.end_line.Tie as tie
-use Rattle.book.proofs.spelling.end_line.Reads as reads
-use Rattle.book.proofs.spelling.end_line.Lts as lts
-use Rattle.book.proofs.spelling.closing.Reads as closing-reads
-use Rattle.text.proofs.keyword.Reads as keyword-reads
-use Rattle.text.proofs.mark.Reads as mark-reads
 
 mark-requires : tie.Need-mark-requires
 mark-requires c κs = search needs

@@ -2,10 +2,6 @@ use Rattle.grammar.specs.Format.Reader.{naming}
 use borrow.Author.Needs.{needs}
 use Rattle.book.proofs.spelling.naming.Statement.{statement}
 use Rattle.book.proofs.spelling.naming.Tie as tie
-use Rattle.book.proofs.spelling.naming.Reads as reads
-use Rattle.book.proofs.spelling.naming.Lts as lts
-use Rattle.text.proofs.keyword.Reads as keyword-reads
-use Rattle.text.proofs.mark.Reads as mark-reads
 
 mark-requires : tie.Need-mark-requires
 mark-requires c κs = search needs

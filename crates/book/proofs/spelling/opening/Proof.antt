@@ -2,10 +2,6 @@ use Rattle.grammar.specs.Format.Reader.{opening}
 use borrow.Author.Needs.{needs}
 use Rattle.book.proofs.spelling.opening.Statement.{statement}
 use Rattle.book.proofs.spelling.opening.Tie as tie
-use Rattle.book.proofs.spelling.opening.Reads as reads
-use Rattle.book.proofs.spelling.opening.Lts as lts
-use Rattle.text.proofs.keyword.Reads as keyword-reads
-use Rattle.text.proofs.mark.Reads as mark-reads
 
 mark-requires : tie.Need-mark-requires
 mark-requires c κs = search needs

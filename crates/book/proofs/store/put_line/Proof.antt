@@ -5,9 +5,6 @@ use Rattle.book.specs.LayoutLaws.{put-in, put-out, room-for}
 use borrow.Author.Needs.{needs}
 use Rattle.book.proofs.store.put_line.Statement.{statement}
 use Rattle.book.proofs.store.put_line.Tie as tie
-use Rattle.book.proofs.store.put_line.Reads as reads
-use Rattle.book.proofs.store.put_line.Lts as lts
-use Rattle.book.proofs.store.write_at.Reads as write-at-reads
 
 mul-write-at : tie.Need-mul-write-at
 mul-write-at c = let s = c .before .before .before .before in

@@ -4,8 +4,6 @@ use Rattle.book.specs.LayoutLaws.{Writing, writing-start, writing-turn, 
 use borrow.Author.Needs.{needs}
 use Rattle.book.proofs.store.write_at.Statement.{statement}
 use Rattle.book.proofs.store.write_at.Tie as tie
-use Rattle.book.proofs.store.write_at.Reads as reads
-use Rattle.book.proofs.store.write_at.Lts as lts
 
 abbrev Inv-loop : tie.InvT-loop
 Inv-loop out₀ place line i₀ out i = Writing place line out₀ i out

@@ -2,8 +2,6 @@ use Rattle.book.specs.Lines.{code-none, code-terminal, code-nonterminal}
 use borrow.Author.Needs.{needs}
 use Rattle.book.proofs.symbol.code_of.Statement.{statement}
 use Rattle.book.proofs.symbol.code_of.Tie as tie
-use Rattle.book.proofs.symbol.code_of.Reads as reads
-use Rattle.book.proofs.symbol.code_of.Lts as lts
 
 returns : tie.Need-returns
 returns c = code-none _ _ (c .if1 .taken)

@@ -2,8 +2,6 @@ use borrow.Author.Tests.{eq-eqb, ne-eqb}
 use Rattle.text.specs.Numeral.{spelled}
 use Rattle.book.proofs.symbol.is_letter.Statement.{statement}
 use Rattle.book.proofs.symbol.is_letter.Tie as tie
-use Rattle.book.proofs.symbol.is_letter.Reads as reads
-use Rattle.book.proofs.symbol.is_letter.Lts as lts
 
 returns : tie.Need-returns
 unfolding spelled

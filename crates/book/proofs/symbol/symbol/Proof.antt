@@ -4,12 +4,6 @@ use Rattle.grammar.specs.Format.Parse.{symbol}
 use borrow.Author.Needs.{needs}
 use Rattle.book.proofs.symbol.symbol.Statement.{statement}
 use Rattle.book.proofs.symbol.symbol.Tie as tie
-use Rattle.book.proofs.symbol.symbol.Reads as reads
-use Rattle.book.proofs.symbol.symbol.Lts as lts
-use Rattle.book.proofs.symbol.is_letter.Reads as is-letter-reads
-use Rattle.text.proofs.number.Reads as number-reads
-use Rattle.text.proofs.require.Reads as require-reads
-use Rattle.text.proofs.word.Reads as word-reads
 
 word-requires : tie.Need-word-requires
 word-requires c κs = search needs

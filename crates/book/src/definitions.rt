@@ -15,6 +15,7 @@ use super::Book;
 use super::Section;
 use super::expression::expression;
 use super::order::Key;
+use super::order::Keyed;
 use super::order::ascends;
 use super::spelling::I;
 use super::spelling::INHDEF;
@@ -28,14 +29,8 @@ use super::store::put_line;
 // The words of a definition: rule, position, attribute, number of nodes, and 3 words for each of the nodes that a definition may have.
 pub const WORDS: usize = 4 + 3 * (Book::MAX_NODES as usize);
 
-// What a line defines, and where the text goes on. The key is rule, position (0 of a synthesized attribute) and attribute.
-struct Named {
-    key: Key,
-    at: usize,
-}
-
-// `P J iK`, or `P sK`.
-fn names(t: &[u8; 256], text: &[u8], at: usize, inherited: bool) -> Named
+// What a line defines, `P J iK` or `P sK`: the key is rule, position (0 of a synthesized attribute) and attribute.
+fn names(t: &[u8; 256], text: &[u8], at: usize, inherited: bool) -> Keyed
     requires { ⌜ Lent (now t) (now text) ⌝ }
     ensures { λ r. ⌜ Gives (definedBy inherited (rest (now (text .entry)) at)) (now (text .entry)) (definedOf (r .key)) (r .at) ⌝ }
 {
@@ -45,7 +40,7 @@ fn names(t: &[u8; 256], text: &[u8], at: usize, inherited: bool) -> Named
         let position = text::number(t, text, a);
         let b = naming(t, text, position.at, I);
         let attribute = text::number(t, text, b);
-        return Named {
+        return Keyed {
             key: Key {
                 first: rule.value,
                 second: position.value,
@@ -56,7 +51,7 @@ fn names(t: &[u8; 256], text: &[u8], at: usize, inherited: bool) -> Named
     }
     let a = naming(t, text, rule.at, S);
     let attribute = text::number(t, text, a);
-    Named {
+    Keyed {
         key: Key {
             first: rule.value,
             second: 0,
@@ -98,7 +93,7 @@ fn definition_line(
     first: u32,
     waits: &mut [u8],
     out: &mut [u32],
-) -> Named
+) -> Keyed
     requires { ⌜ Lent (now t) (now text) × (k ≤ 65537) × (first ≤ 65537)
         × (MAX-WAITING ≤ length (now waits)) × (MAX-DEFINITIONS * DEFINITION-WORDS ≤ length (now out)) ⌝ }
     ensures { λ r. ⌜ Keeps (definition inherited (lastKey k (keyOf last)) (rest (now (text .entry)) at)) (first + k)
@@ -109,7 +104,7 @@ fn definition_line(
     let mut line = [0u32; WORDS];
     let a = words(t, text, named.at, key, waits, &mut line);
     put_line(out, Book::MAX_DEFINITIONS as usize, first + k, &line);
-    Named {
+    Keyed {
         key,
         at: text::require(text, a, ascends(k, last, key)),
     }
@@ -134,11 +129,7 @@ fn definition_lines(
     let n = text.len();
     let mut p = at;
     let mut k: u32 = 0;
-    let mut last = Key {
-        first: 0,
-        second: 0,
-        third: 0,
-    };
+    let mut last = Key::none();
     loop {
         let a = opening(t, text, p, word);
         if n < a {

@@ -15,6 +15,9 @@ Inv-loop t text at inherited word first waits₀ out₀ n p₀ k₀ last₀ wait
 abbrev μ-loop : tie.MeasureT-loop
 μ-loop t text at inherited word first waits₀ out₀ n p₀ k₀ last₀ waits out p k last = size (rest text p)
 
+none-requires : tie.Need-none-requires Inv-loop μ-loop
+none-requires c κs = search needs
+
 loop-holds : tie.Need-loop-holds Inv-loop μ-loop
 loop-holds c = (search needs, defining-start _ _ _ _ _ _)
 
@@ -30,7 +33,7 @@ same-length-2 c = c .before .before .loop .inv .1 .same-length
 returns : tie.Need-returns Inv-loop μ-loop
 returns c =
     let head = c .before in
-    let start = head .before .before .before .before .before in
+    let start = head .before .before .before .before .before .before in
     defining-done _ _ _ (head .before .loop .inv .1) (rw (start .pre .1) at (head .opening .ensures)) (c .if1 .taken)
 
 definition-line-requires : tie.Need-definition-line-requires Inv-loop μ-loop
@@ -44,7 +47,7 @@ loop-less c =
     let line = c .before .before .before .before .before in
     let found = line .before .before .before in
     let head = found .before in
-    let start = head .before .before .before .before .before in
+    let start = head .before .before .before .before .before .before in
     defining-less _ _ _ (head .before .loop .inv .1) (rw (start .pre .1) at (head .opening .ensures)) (found .if1 .left) (line .definition-line .ensures)
 
 loop-again : tie.Need-loop-again Inv-loop μ-loop
@@ -53,7 +56,7 @@ loop-again c =
     let line = c .before .before .before .before .before in
     let found = line .before .before .before in
     let head = found .before in
-    let start = head .before .before .before .before .before in (
+    let start = head .before .before .before .before .before .before in (
       search needs,
       defining-turn _ _ _ (head .before .loop .inv .1) (rw (start .pre .1) at (head .opening .ensures)) (found .if1 .left) (line .definition-line .ensures),
     )
@@ -64,6 +67,7 @@ definition-lines-spec =
     (tie.spec
     Inv-loop
     μ-loop
+    none-requires
     loop-holds
     opening-requires
     same-length

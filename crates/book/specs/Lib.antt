@@ -1,1 +1,5 @@
+pub mod Counts
 pub mod Layout
+pub mod LayoutLaws
+pub mod Lines
+pub mod Sections

@@ -1,0 +1,1 @@
+// The line `(book T N Q)`.

@@ -1,0 +1,51 @@
+// The sections `(inh iK nA)` and `(syn sK nA)`: the owner A of each attribute.
+ghost use Prim.Native.Nat.{ℕ, _≤_};
+ghost use lib.ListN.{length};
+ghost use Rattle.text.specs.Rest.{rest};
+ghost use Rattle.text.specs.Reading.{Lent};
+ghost use Rattle.grammar.specs.Parse.{owner, owners};
+ghost use Rattle.book.specs.Layout.{ownerWords};
+ghost use Rattle.book.specs.Sections.{Gives, Fills};
+
+use super::Section;
+use super::spelling::N;
+use super::spelling::closing;
+use super::spelling::naming;
+use super::spelling::opening;
+use super::store::put_line;
+use text::Cursor;
+
+// After the head, `iK nA)` with the letter and K given: A.
+fn owner(t: &[u8; 256], text: &[u8], at: usize, letter: u32, k: u32) -> Cursor
+    requires { ⌜ Lent (now t) (now text) ⌝ }
+    ensures { λ r. ⌜ Gives (owner letter k (rest (now (text .entry)) at)) (now (text .entry)) (r .value) (r .at) ⌝ }
+{
+    let a = text::keyword(t, text, at, letter);
+    let number = text::number(t, text, a);
+    let b = text::require(text, number.at, number.value == k);
+    let c = naming(t, text, b, N);
+    let nonterminal = text::number(t, text, c);
+    Cursor {
+        value: nonterminal.value,
+        at: closing(t, text, nonterminal.at),
+    }
+}
+
+pub fn owner_lines(t: &[u8; 256], text: &[u8], at: usize, word: u32, letter: u32, room: usize, out: &mut [u32]) -> Section
+    requires { ⌜ Lent (now t) (now text) × (room ≤ length (now out)) ⌝ }
+    ensures { λ r. ⌜ Fills ownerWords room (owners word letter (rest (now (text .entry)) at)) (now (text .entry)) (now (out .entry)) (r .count) (r .at) (now (out .exit)) ⌝ }
+{
+    let n = text.len();
+    let mut p = at;
+    let mut k: u32 = 0;
+    loop {
+        let a = opening(t, text, p, word);
+        if n < a {
+            return Section { count: k, at: p };
+        }
+        let line = owner(t, text, a, letter, k);
+        put_line(out, room, k, &[line.value]);
+        p = line.at;
+        k += 1;
+    }
+}

@@ -1,4 +1,5 @@
 pub mod Counts
+pub mod Held
 pub mod Layout
 pub mod LayoutLaws
 pub mod Lines

@@ -6,7 +6,6 @@ ghost use Rattle.text.specs.Reading.{Lent};
 ghost use Rattle.grammar.specs.Parse.{owner, owners};
 ghost use Rattle.book.specs.Layout.{ownerWords};
 ghost use Rattle.book.specs.Sections.{Gives, Fills};
-
 use super::Section;
 use super::spelling::N;
 use super::spelling::closing;
@@ -31,7 +30,15 @@ fn owner(t: &[u8; 256], text: &[u8], at: usize, letter: u32, k: u32) -> Cursor
     }
 }
 
-pub fn owner_lines(t: &[u8; 256], text: &[u8], at: usize, word: u32, letter: u32, room: usize, out: &mut [u32]) -> Section
+pub fn owner_lines(
+    t: &[u8; 256],
+    text: &[u8],
+    at: usize,
+    word: u32,
+    letter: u32,
+    room: usize,
+    out: &mut [u32],
+) -> Section
     requires { ⌜ Lent (now t) (now text) × (room ≤ length (now out)) ⌝ }
     ensures { λ r. ⌜ Fills ownerWords room (owners word letter (rest (now (text .entry)) at)) (now (text .entry)) (now (out .entry)) (r .count) (r .at) (now (out .exit)) ⌝ }
 {

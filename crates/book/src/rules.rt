@@ -10,7 +10,6 @@ ghost use Rattle.grammar.specs.Parse.{symbols, rule, rules};
 ghost use Rattle.book.specs.Layout.{putLine, ruleWords};
 ghost use Rattle.book.specs.Lines.{symbolWords, RULE-WORDS};
 ghost use Rattle.book.specs.Sections.{Fills};
-
 use super::Book;
 use super::Section;
 use super::spelling::N;
@@ -36,7 +35,12 @@ fn right_side(t: &[u8; 256], text: &[u8], at: usize, out: &mut [u32]) -> Section
             return Section { count: m, at: p };
         }
         let x = symbol(t, text, a);
-        put_line(out, Book::MAX_RIGHT as usize, m, &[code_of(x.terminal, x.number)]);
+        put_line(
+            out,
+            Book::MAX_RIGHT as usize,
+            m,
+            &[code_of(x.terminal, x.number)],
+        );
         p = x.at;
         m += 1;
     }

@@ -8,7 +8,6 @@ ghost use Rattle.text.specs.Reading.{Lent};
 ghost use Rattle.grammar.specs.Parse.{symbol, symbolOf};
 ghost use Rattle.book.specs.Layout.{symbolCode};
 ghost use Rattle.book.specs.Sections.{Gives};
-
 use super::spelling::N;
 use super::spelling::T;
 

@@ -1,5 +1,6 @@
 pub mod Counts
 pub mod Held
+pub mod HeldLaws
 pub mod Layout
 pub mod LayoutLaws
 pub mod Lines

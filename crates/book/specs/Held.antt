@@ -139,7 +139,16 @@ pub record Held (b : Book) (inherited synthesized rules definitions kernels goes
   pub kernels-in : KernelsIn (b .kernels) kernels
   pub goes-in : GoesIn (b .goes) goes
 
--- the part of a book that has room: of each kind the lines that an array keeps, while the limits are still to be asked
+-- no kind has more lines than its array has room for
+pub record HasRoom (b : Book) : Type 0 where
+  pub inherited-room : length (b .inheritedOwners) ≤ MAX-INHERITED
+  pub synthesized-room : length (b .synthesizedOwners) ≤ MAX-SYNTHESIZED
+  pub rules-room : length (b .rules) ≤ MAX-RULES
+  pub definitions-room : length (b .inheritedDefinitions) + length (b .synthesizedDefinitions) ≤ MAX-DEFINITIONS
+  pub kernels-room : length (b .kernels) ≤ MAX-KERNELS
+  pub goes-room : length (b .goes) ≤ MAX-GOES
+
+-- of each kind the lines that have room, which are kept while the limits are still to be asked
 unfoldable pub kept : Book → Book
 kept b = record {
   terminals = b .terminals;

@@ -56,6 +56,7 @@ use Rattle.book.specs.Held.{
   KernelsIn,
   GoesIn,
   Held,
+  HasRoom,
   kept,
 }
 use Rattle.book.specs.LayoutLaws.{length-write, length-put, length-store, put-in, put-out, room-for}
@@ -315,11 +316,22 @@ held b inherited synthesized rules definitions kernels goes i s r d k g =
       goes-in = goes-in (b .goes) goes g;
     }
 
--- within the limits, all of a book is kept
-pub kept-within : (b : Book) → WithinLimits b → kept b ≡ b
+-- where there is room, all of a book is kept
+pub kept-all : (b : Book) → HasRoom b → kept b ≡ b
 unfolding kept
-kept-within b w =
-    rw (take-all MAX-INHERITED (b .inheritedOwners) (w .inherited-limit), take-all MAX-SYNTHESIZED (b .synthesizedOwners) (w .synthesized-limit),
-    take-all MAX-RULES (b .rules) (w .rules-limit .high), take-all MAX-DEFINITIONS (b .inheritedDefinitions) (omega (arith, w .definitions-limit)),
-    take-all (MAX-DEFINITIONS - length (b .inheritedDefinitions)) (b .synthesizedDefinitions) (omega (arith, w .definitions-limit)),
-    take-all MAX-KERNELS (b .kernels) (w .kernels-limit), take-all MAX-GOES (b .goes) (w .goes-limit))
+kept-all b h =
+    rw (take-all MAX-INHERITED (b .inheritedOwners) (h .inherited-room), take-all MAX-SYNTHESIZED (b .synthesizedOwners) (h .synthesized-room),
+    take-all MAX-RULES (b .rules) (h .rules-room), take-all MAX-DEFINITIONS (b .inheritedDefinitions) (omega (arith, h .definitions-room)),
+    take-all (MAX-DEFINITIONS - length (b .inheritedDefinitions)) (b .synthesizedDefinitions) (omega (arith, h .definitions-room)),
+    take-all MAX-KERNELS (b .kernels) (h .kernels-room), take-all MAX-GOES (b .goes) (h .goes-room))
+
+pub within-room : {b : Book} → WithinLimits b → HasRoom b
+within-room w =
+    record {
+      inherited-room = w .inherited-limit;
+      synthesized-room = w .synthesized-limit;
+      rules-room = w .rules-limit .high;
+      definitions-room = w .definitions-limit;
+      kernels-room = w .kernels-limit;
+      goes-room = w .goes-limit;
+    }

@@ -1,4 +1,6 @@
+pub mod Answers
 pub mod Counts
+pub mod Header
 pub mod Held
 pub mod HeldLaws
 pub mod Layout

@@ -1,20 +1,26 @@
 -- Laws of single lines: how much they leave, and their words.
 -- Assumes nothing.
 use Prim.Native.Nat.{ℕ, suc, _+_, _≤_, _<_}
-use mathlib.Core.Path.{_≡_, refl, sym, ap, _∙_}
+use mathlib.Core.Path.{_≡_, refl, _∙_}
 use mathlib.Core.Bool.{Bool, true, false}
 use mathlib.Core.List.{List, [], _∷_}
 use native.Mathlib.Omega.{arith}
+use lib.Dec.{eqb}
+use lib.ListN.{length, getD}
 use borrow.Author.Tests.{lt-ltb, le-ltb}
 use Rattle.text.specs.Class.{space}
-use Rattle.text.specs.Rest.{Rest, size, mark}
+use Rattle.text.specs.Rest.{Rest, rest, must, mark, size}
 use Rattle.text.specs.RestLaws.{found-mark}
-use Rattle.grammar.specs.Symbol.{Symbol}
-use Rattle.grammar.specs.Reader.{item, after, opening, section}
+use Rattle.text.specs.Numeral.{decimal, wordOf, keyword}
+use Rattle.text.specs.Reading.{Reads}
+use Rattle.grammar.specs.Limits.{MAX-RULES, MAX-RIGHT}
+use Rattle.grammar.specs.Symbol.{Symbol, Rule}
+use Rattle.grammar.specs.Reader.{item, after, opening, closing, naming}
 use Rattle.grammar.specs.ReaderLaws.{shrinking, opening-less}
 use Rattle.grammar.specs.Parse.{symbolOf, symbol, symbols, owner, rule}
-use Rattle.book.specs.Layout.{codeOf, symbolCode}
-use Rattle.book.specs.Sections.{Shrinks, size-section}
+use Rattle.book.specs.Layout.{writeAt, putLine, storeLines, codeOf, symbolCode, codes, ruleWords}
+use Rattle.book.specs.LayoutLaws.{put-out}
+use Rattle.book.specs.Sections.{Gives, Shrinks, size-section, Fills, Puts}
 
 -- a right symbol
 unfoldable pub symbolWords : Symbol → List ℕ
@@ -56,6 +62,57 @@ most-symbols m o h = omega (arith, size-section (mark space) (λ (s : Unit {0}).
 pub rule-shrinks : (word : ℕ) → Shrinks (opening word) rule
 unfolding rule after
 rule-shrinks word = record { head-less = opening-less word; one-less = λ K o. search (shrinking, most-symbols) depth 20 }
+
+-- The steps of an owner's line: its letter, its number, the check of it, the letter of the owner, the owner, the end
+pub owner-steps : {text : List ℕ} {u : Rest} {p₁ n p₂ p₃ A p₄ p₅ : ℕ} (letter k : ℕ) (o : Rest)
+    → rest text p₁ ≡ keyword letter o → Reads decimal text p₁ n p₂ → u ≡ must (eqb n k) (rest text p₂) → rest text p₃ ≡ naming (wordOf "n") u
+    → Reads decimal text p₃ A p₄ → rest text p₅ ≡ closing (rest text p₄) → Gives (owner letter k o) text A p₅
+unfolding owner item after
+owner-steps letter k o kind number due naming owner end = record { item-is = cc; after-is = cc }
+
+-- The words of a rule's line, and its steps
+
+store-full : {A : Type 0} (words : A → List ℕ) (room k : ℕ) (xs : List A) (out : List ℕ) → room ≤ k → storeLines words room k xs out ≡ out
+unfolding storeLines
+store-full words room k [] out h = refl
+store-full words room k (x ∷ xs) out h = store-full words room (suc k) xs _ (omega arith) ∙ put-out room k (words x) out h
+
+abbrev pub zeros : List ℕ
+zeros = 0 ∷ 0 ∷ 0 ∷ 0 ∷ 0 ∷ 0 ∷ 0 ∷ 0 ∷ []
+
+-- the first eight codes, zeros after the last
+right-codes : (xs : List Symbol) → (let cs : List ℕ = codes xs in
+    storeLines symbolWords MAX-RIGHT 0 xs zeros
+    ≡ getD cs 0 0 ∷ getD cs 1 0 ∷ getD cs 2 0 ∷ getD cs 3 0 ∷ getD cs 4 0 ∷ getD cs 5 0 ∷ getD cs 6 0 ∷ getD cs 7 0 ∷ [])
+unfolding storeLines symbolWords codes putLine writeAt
+right-codes [] = refl
+right-codes (a ∷ []) = refl
+right-codes (a ∷ b ∷ []) = refl
+right-codes (a ∷ b ∷ c ∷ []) = refl
+right-codes (a ∷ b ∷ c ∷ d ∷ []) = refl
+right-codes (a ∷ b ∷ c ∷ d ∷ e ∷ []) = refl
+right-codes (a ∷ b ∷ c ∷ d ∷ e ∷ f ∷ []) = refl
+right-codes (a ∷ b ∷ c ∷ d ∷ e ∷ f ∷ g ∷ []) = refl
+right-codes (a ∷ b ∷ c ∷ d ∷ e ∷ f ∷ g ∷ h ∷ xs) = store-full symbolWords MAX-RIGHT 8 xs _ (omega arith)
+
+abbrev pub ruleLine : ℕ → ℕ → List ℕ → List ℕ
+ruleLine A m cs =
+    A ∷ m ∷ getD cs 0 0 ∷ getD cs 1 0 ∷ getD cs 2 0 ∷ getD cs 3 0 ∷ getD cs 4 0 ∷ getD cs 5 0 ∷ getD cs 6 0 ∷ getD cs 7 0 ∷ []
+
+rule-line : {A m : ℕ} {right : List ℕ} (r : Rule) → A ≡ r .left → m ≡ length (r .right) → right ≡ storeLines symbolWords MAX-RIGHT 0 (r .right) zeros
+    → ruleLine A m right ≡ ruleWords r
+unfolding ruleWords
+rule-line r e f g = rw (e, f, g ∙ right-codes (r .right))
+
+-- its number, the check of it, the letter of the left side, the left side, the right side, the end, the store
+module _ {text right out out′ : List ℕ} {o : Rest} {k at n p₁ p₂ A p₃ m p₄ p₅ : ℕ} where
+  pub rule-steps : Reads decimal text at n p₁ → o ≡ must (eqb n k) (rest text p₁) → rest text p₂ ≡ naming (wordOf "n") o → Reads decimal text p₂ A p₃
+      → Fills symbolWords MAX-RIGHT (symbols (rest text p₃)) text zeros m p₄ right → rest text p₅ ≡ closing (rest text p₄)
+      → out′ ≡ putLine MAX-RULES k (ruleLine A m right) out → Puts ruleWords MAX-RULES k (rule k (rest text at)) text out p₅ out′
+  unfolding rule item after
+  rule-steps number due letter left right-side end stored =
+      let words : ruleLine A m right ≡ ruleWords (item (rule k (rest text at))) = rule-line {right = right} (item (rule k (rest text at))) (cc) (cc) (cc) in
+      record { after-is = cc; array-is = stored ∙ rw words }
 
 -- opens every definition of this module
 unfoldable pub opens : Unit {0}

@@ -1,6 +1,6 @@
 -- Reading the lines of a section one after another and keeping each at once: what a loop in code keeps true, over any head, line and store.
 -- A loop is proved by four laws: it starts, turns, leaves less, and is done. Assumes nothing.
-use Prim.Native.Nat.{ℕ, zero, suc, _+_, _≤_, _<_}
+use Prim.Native.Nat.{ℕ, suc, _+_, _≤_, _<_}
 use mathlib.Core.Path.{_≡_, refl, sym, ap, _∙_}
 use mathlib.Core.Bool.{true, false}
 use mathlib.Core.List.{List, [], _∷_}
@@ -108,6 +108,16 @@ unfolding keepFrom keepLine storeLines
 kept-lines words room k [] out = refl
 kept-lines words room k (x ∷ xs) out = kept-lines words room (suc k) xs (putLine room k (words x) out)
 
+-- one line, kept at its place: the position after it, and the array
+pub record Puts {A : Type 0} (words : A → List ℕ) (room k : ℕ) (p : Parsed A) (text out₀ : List ℕ) (next : ℕ) (out : List ℕ) : Type 0 where
+  pub after-is : rest text next ≡ after p
+  pub array-is : out ≡ putLine room k (words (item p)) out₀
+
+-- by a reader of the line and the store of its words
+pub puts-of : {A : Type 0} {words : A → List ℕ} {room k : ℕ} {p : Parsed A} {text line out₀ out : List ℕ} {x : A} {next : ℕ}
+    → Gives p text x next → line ≡ words x → out ≡ putLine room k line out₀ → Puts words room k p text out₀ next out
+puts-of g e f = record { after-is = g .after-is; array-is = f ∙ rw (e, g .item-is) }
+
 -- a whole section: the position after it, the number of its lines, and the array that holds them
 pub record Fills {A : Type 0} (words : A → List ℕ) (room : ℕ) (p : Parsed (List A)) (text out₀ : List ℕ) (count next : ℕ) (out : List ℕ) : Type 0 where
   pub after-is : rest text next ≡ after p
@@ -131,14 +141,13 @@ module _ {A S : Type 0} (head : Rest → Rest) (one : S → Reader A) (next : S 
     pub filling-less : {o : Rest} → a ≤ length text → o ≡ after (one s (rest text a)) → size o < size (rest text at)
     filling-less h f = reading-less head one next (keepLine words room) shrinks text (r .reading) e h f
 
-    pub filling-turn : {s′ : S} {at′ : ℕ} {line out′ : List ℕ} → a ≤ length text → rest text at′ ≡ after (one s (rest text a))
-        → s′ ≡ next s (item (one s (rest text a))) → line ≡ words (item (one s (rest text a))) → out′ ≡ putLine room k line out
-        → Filling head one next words room text start out₀ s′ (k + 1) at′ out′
+    pub filling-turn : {s′ : S} {at′ : ℕ} {out′ : List ℕ} → a ≤ length text → Puts words room k (one s (rest text a)) text out at′ out′
+        → s′ ≡ next s (item (one s (rest text a))) → Filling head one next words room text start out₀ s′ (k + 1) at′ out′
     unfolding keepLine
-    filling-turn {line = line} h f g i j =
+    filling-turn h p g =
         record {
-          same-length = ap length j ∙ (length-put room k line out ∙ r .same-length);
-          reading = reading-turn head one next (keepLine words room) shrinks text (r .reading) e h f g (j ∙ rw i);
+          same-length = ap length (p .array-is) ∙ (length-put room k (words (item (one s (rest text a)))) out ∙ r .same-length);
+          reading = reading-turn head one next (keepLine words room) shrinks text (r .reading) e h (p .after-is) g (p .array-is);
         }
 
     -- it was not

@@ -1,13 +1,20 @@
 // The sections `(inh iK nA)` and `(syn sK nA)`: the owner A of each attribute.
-ghost use Prim.Native.Nat.{ℕ, _≤_};
+ghost use Prim.Native.Nat.{_≤_};
 ghost use lib.ListN.{length};
 ghost use Rattle.text.specs.Rest.{rest};
+ghost use Rattle.text.specs.Numeral.{wordOf};
 ghost use Rattle.text.specs.Reading.{Lent};
+ghost use Rattle.grammar.specs.Limits.{MAX-INHERITED, MAX-SYNTHESIZED};
 ghost use Rattle.grammar.specs.Parse.{owner, owners};
 ghost use Rattle.book.specs.Layout.{ownerWords};
 ghost use Rattle.book.specs.Sections.{Gives, Fills};
+use super::Book;
 use super::Section;
+use super::spelling::I;
+use super::spelling::INH;
 use super::spelling::N;
+use super::spelling::S;
+use super::spelling::SYN;
 use super::spelling::closing;
 use super::spelling::naming;
 use super::spelling::opening;
@@ -30,7 +37,8 @@ fn owner(t: &[u8; 256], text: &[u8], at: usize, letter: u32, k: u32) -> Cursor
     }
 }
 
-pub fn owner_lines(
+// The lines of one kind, with the kind's word and letter given.
+fn owner_lines(
     t: &[u8; 256],
     text: &[u8],
     at: usize,
@@ -55,4 +63,18 @@ pub fn owner_lines(
         p = line.at;
         k += 1;
     }
+}
+
+pub fn inherited_lines(t: &[u8; 256], text: &[u8], at: usize, out: &mut [u32]) -> Section
+    requires { ⌜ Lent (now t) (now text) × (MAX-INHERITED ≤ length (now out)) ⌝ }
+    ensures { λ r. ⌜ Fills ownerWords MAX-INHERITED (owners (wordOf "inh") (wordOf "i") (rest (now (text .entry)) at)) (now (text .entry)) (now (out .entry)) (r .count) (r .at) (now (out .exit)) ⌝ }
+{
+    owner_lines(t, text, at, INH, I, Book::MAX_INHERITED as usize, out)
+}
+
+pub fn synthesized_lines(t: &[u8; 256], text: &[u8], at: usize, out: &mut [u32]) -> Section
+    requires { ⌜ Lent (now t) (now text) × (MAX-SYNTHESIZED ≤ length (now out)) ⌝ }
+    ensures { λ r. ⌜ Fills ownerWords MAX-SYNTHESIZED (owners (wordOf "syn") (wordOf "s") (rest (now (text .entry)) at)) (now (text .entry)) (now (out .entry)) (r .count) (r .at) (now (out .exit)) ⌝ }
+{
+    owner_lines(t, text, at, SYN, S, Book::MAX_SYNTHESIZED as usize, out)
 }

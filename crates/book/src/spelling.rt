@@ -1,8 +1,9 @@
-// The parts of a line that stand in every kind: its head, its end, and the letters of names.
+// What lines have in common: the head, the end, and the letters of names; and the last line, which has nothing else.
 ghost use mathlib.Core.Path.{_≡_};
 ghost use Rattle.text.specs.Rest.{rest};
 ghost use Rattle.text.specs.Reading.{Lent};
 ghost use Rattle.grammar.specs.Reader.{opening, closing, naming};
+ghost use Rattle.grammar.specs.Parse.{endLine};
 
 // The words of lines and the letters of names, as numbers in base 32: a is 1, z is 26.
 pub const BOOK: u32 = ((2 * 32 + 15) * 32 + 15) * 32 + 11;
@@ -57,4 +58,14 @@ pub fn naming(t: &[u8; 256], text: &[u8], at: usize, letter: u32) -> usize
 {
     let a = text::mark(t, text, at, text::SPACE);
     text::keyword(t, text, a, letter)
+}
+
+// `(end)` and the line feed.
+pub fn end_line(t: &[u8; 256], text: &[u8], at: usize) -> usize
+    requires { ⌜ Lent (now t) (now text) ⌝ }
+    ensures { λ r. ⌜ rest (now (text .entry)) r ≡ endLine (rest (now (text .entry)) at) ⌝ }
+{
+    let a = text::mark(t, text, at, text::OPEN);
+    let b = text::keyword(t, text, a, END);
+    closing(t, text, b)
 }

@@ -1,6 +1,6 @@
 // Lines in arrays: each line of a kind has the same number of words, and stands at its place among the lines of its kind.
 ghost use mathlib.Core.Path.{_≡_};
-ghost use Prim.Native.Nat.{ℕ, _+_, _*_, _≤_};
+ghost use Prim.Native.Nat.{_+_, _*_, _≤_};
 ghost use lib.ListN.{length};
 ghost use Rattle.book.specs.Layout.{writeAt, putLine};
 

@@ -1,6 +1,5 @@
 use Rattle.text.specs.Numeral.{spelled}
-use Rattle.grammar.specs.Reader.{item, after}
-use Rattle.grammar.specs.Parse.{owner}
+use Rattle.book.specs.Lines.{owner-steps}
 use borrow.Author.Needs.{needs}
 use Rattle.book.proofs.owners.owner.Statement.{statement}
 use Rattle.book.proofs.owners.owner.Tie as tie
@@ -38,8 +37,14 @@ closing-requires c κs = search needs
 
 -- src/owners.rt:19:1
 returns : tie.Need-returns
-unfolding owner item after spelled
-returns c = record { item-is = cc; after-is = cc }
+unfolding spelled
+returns c =
+    let nonterminal = c .before in
+    let naming = nonterminal .before in
+    let due = naming .before in
+    let number = due .before .before in
+    owner-steps _ _ _ (number .before .keyword .ensures) (number .number .ensures) (due .require .ensures) (naming .naming .ensures)
+    (nonterminal .number2 .ensures) (c .closing .ensures)
 
 pub owner-spec : {M : Type 1} → statement M
 owner-spec =

@@ -1,12 +1,11 @@
-use mathlib.Core.Path.{ap}
-use mathlib.Core.List.{[], _∷_}
+use mathlib.Core.Path.{refl}
 use Prim.Native.Nat.{suc}
 use native.Mathlib.Numerals.{add-one}
 use Rattle.text.specs.Rest.{rest, size}
 use Rattle.grammar.specs.Reader.{opening}
 use Rattle.grammar.specs.Parse.{owner, owners}
 use Rattle.book.specs.Layout.{ownerWords}
-use Rattle.book.specs.Sections.{Filling, filling-start, filling-turn, filling-less, filling-done}
+use Rattle.book.specs.Sections.{puts-of, Filling, filling-start, filling-turn, filling-less, filling-done}
 use Rattle.book.specs.Lines.{owner-shrinks}
 use borrow.Author.Needs.{needs}
 use Rattle.book.proofs.owners.owner_lines.Statement.{statement}
@@ -69,7 +68,7 @@ loop-again c = let stored = c .before .before in
     let line = stored .before .before .before in
     let head = line .before .before in
     filling-turn _ _ _ _ _ (owner-shrinks _ _) _ (head .before .loop .inv) (head .opening .ensures) (line .before .if1 .left)
-    (line .owner .ensures .after-is) (add-one _) (ap (λ x. x ∷ []) (line .owner .ensures .item-is)) (stored .put-line .ensures)
+    (puts-of (line .owner .ensures) refl (stored .put-line .ensures)) (add-one _)
 
 pub owner-lines-spec : {M : Type 1} → statement M
 owner-lines-spec =

@@ -1,11 +1,9 @@
-use mathlib.Core.Path.{refl, ap, _∙_}
-use mathlib.Core.List.{[], _∷_}
+use mathlib.Core.Path.{refl}
 use Rattle.text.specs.Class.{space}
 use Rattle.text.specs.Rest.{rest, size, mark}
 use Rattle.grammar.specs.Limits.{MAX-RIGHT}
 use Rattle.grammar.specs.Parse.{symbol, symbols}
-use Rattle.book.specs.Layout.{symbolCode}
-use Rattle.book.specs.Sections.{Filling, filling-start, filling-turn, filling-less, filling-done}
+use Rattle.book.specs.Sections.{puts-of, Filling, filling-start, filling-turn, filling-less, filling-done}
 use Rattle.book.specs.Lines.{symbolWords, symbols-shrink}
 use borrow.Author.Needs.{needs}
 use Rattle.book.proofs.rules.right_side.Statement.{statement}
@@ -78,7 +76,7 @@ loop-again c = let stored = c .before .before in
     let line = code .before .before in
     let head = line .before .before in
     filling-turn _ _ _ _ _ symbols-shrink _ (head .before .loop .inv) (head .mark .ensures) (line .before .if1 .left)
-    (line .symbol .ensures .after-is) refl (ap (λ x. x ∷ []) (code .code-of .ensures ∙ ap symbolCode (line .symbol .ensures .item-is))) (stored .put-line .ensures)
+    (puts-of (line .symbol .ensures) (rw (code .code-of .ensures)) (stored .put-line .ensures)) refl
 
 pub right-side-spec : {M : Type 1} → statement M
 right-side-spec =

@@ -1,5 +1,4 @@
 use Rattle.book.specs.Lines.{code-none, code-terminal, code-nonterminal}
-use mathlib.Core.Path.{sym}
 use borrow.Author.Needs.{needs}
 use Rattle.book.proofs.symbol.code_of.Statement.{statement}
 use Rattle.book.proofs.symbol.code_of.Tie as tie

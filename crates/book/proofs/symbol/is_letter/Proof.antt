@@ -1,6 +1,5 @@
 use borrow.Author.Tests.{eq-eqb, ne-eqb}
 use Rattle.text.specs.Numeral.{spelled}
-use borrow.Author.Needs.{needs}
 use Rattle.book.proofs.symbol.is_letter.Statement.{statement}
 use Rattle.book.proofs.symbol.is_letter.Tie as tie
 use Rattle.book.proofs.symbol.is_letter.Reads as reads

@@ -1,0 +1,126 @@
+use Rattle.text.specs.Numeral.{spelled}
+use Rattle.book.specs.Lines.{rule-steps}
+use borrow.Author.Needs.{needs}
+use Rattle.book.proofs.rules.rule_line.Statement.{statement}
+use Rattle.book.proofs.rules.rule_line.Tie as tie
+use Rattle.book.proofs.rules.rule_line.Reads as reads
+use Rattle.book.proofs.rules.rule_line.Lts as lts
+use Rattle.book.proofs.rules.right_side.Reads as right-side-reads
+use Rattle.book.proofs.spelling.closing.Reads as closing-reads
+use Rattle.book.proofs.spelling.naming.Reads as naming-reads
+use Rattle.book.proofs.store.put_line.Reads as put-line-reads
+use Rattle.text.proofs.number.Reads as number-reads
+use Rattle.text.proofs.require.Reads as require-reads
+
+-- src/rules.rt:48:9
+number-requires : tie.Need-number-requires
+number-requires c κs = search needs
+
+-- src/rules.rt:49:9
+require-requires : tie.Need-require-requires
+require-requires c κs = search needs
+
+-- src/rules.rt:50:9
+naming-requires : tie.Need-naming-requires
+naming-requires c κs = search needs
+
+-- src/rules.rt:51:9
+number-requires-2 : tie.Need-number-requires-2
+number-requires-2 c κs = search needs
+
+-- src/rules.rt:53:48
+slice-aggregate-right-side : tie.Need-slice-aggregate-right-side
+slice-aggregate-right-side c = search needs
+
+-- src/rules.rt:53:9
+right-side-requires : tie.Need-right-side-requires
+right-side-requires c κs = search needs
+
+-- src/rules.rt:54:44
+array-read-t18 : tie.Need-array-read-t18
+array-read-t18 c = search needs
+
+-- src/rules.rt:54:54
+array-read-t21 : tie.Need-array-read-t21
+array-read-t21 c = search needs
+
+-- src/rules.rt:54:64
+array-read-t24 : tie.Need-array-read-t24
+array-read-t24 c = search needs
+
+-- src/rules.rt:54:74
+array-read-t27 : tie.Need-array-read-t27
+array-read-t27 c = search needs
+
+-- src/rules.rt:54:84
+array-read-t30 : tie.Need-array-read-t30
+array-read-t30 c = search needs
+
+-- src/rules.rt:54:94
+array-read-t33 : tie.Need-array-read-t33
+array-read-t33 c = search needs
+
+-- src/rules.rt:54:104
+array-read-t36 : tie.Need-array-read-t36
+array-read-t36 c = search needs
+
+-- src/rules.rt:54:114
+array-read-t39 : tie.Need-array-read-t39
+array-read-t39 c = search needs
+
+-- src/rules.rt:55:19
+cast-put-line : tie.Need-cast-put-line
+cast-put-line c = search needs
+
+-- src/rules.rt:55:48
+slice-aggregate-put-line : tie.Need-slice-aggregate-put-line
+slice-aggregate-put-line c = search needs
+
+-- src/rules.rt:55:5
+put-line-requires : tie.Need-put-line-requires
+put-line-requires c κs = search needs
+
+-- src/rules.rt:56:5
+closing-requires : tie.Need-closing-requires
+closing-requires c κs = search needs
+
+-- src/rules.rt:44:1
+same-length : tie.Need-same-length
+same-length c = search needs
+
+-- src/rules.rt:44:1
+returns : tie.Need-returns
+unfolding spelled
+returns c =
+    let stored = c .before .before .before in
+    let right = stored .before .before .before .before in
+    let left = right .before .before in
+    let letter = left .before in
+    let due = letter .before in
+    rule-steps (due .before .before .number .ensures) (due .require .ensures) (letter .naming .ensures) (left .number2 .ensures)
+    (right .right-side .ensures) (c .closing .ensures) (stored .put-line .ensures)
+
+pub rule-line-spec : {M : Type 1} → statement M
+rule-line-spec =
+    tie.close
+    (tie.spec
+    number-requires
+    require-requires
+    naming-requires
+    number-requires-2
+    slice-aggregate-right-side
+    right-side-requires
+    array-read-t18
+    array-read-t21
+    array-read-t24
+    array-read-t27
+    array-read-t30
+    array-read-t33
+    array-read-t36
+    array-read-t39
+    cast-put-line
+    slice-aggregate-put-line
+    put-line-requires
+    closing-requires
+    same-length
+    returns)

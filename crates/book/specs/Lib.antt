@@ -5,5 +5,7 @@ pub mod Held
 pub mod HeldLaws
 pub mod Layout
 pub mod LayoutLaws
+pub mod Lent
+pub mod LimitTests
 pub mod Lines
 pub mod Sections

@@ -1,0 +1,28 @@
+-- What functions over a book's arrays are asked: that the numbers and the arrays that they are lent are those of one book.
+-- Assumes nothing.
+use Prim.Native.Nat.{ℕ}
+use mathlib.Core.Path.{_≡_}
+use mathlib.Core.List.{List}
+use lib.ListN.{length}
+use Rattle.grammar.specs.Symbol.{Rule}
+use Rattle.grammar.specs.Book.{Book as Lines}
+use Rattle.book.specs.declared.Book.{Book}
+use Rattle.book.specs.Held.{RulesIn, DefinitionsIn, KernelsIn, GoesIn}
+
+-- the numbers are the book's
+pub record Counted (numbers : Book) (b : Lines) : Type 0 where
+  pub terminals-are : numbers .terminals ≡ b .terminals
+  pub nonterminals-are : numbers .nonterminals ≡ b .nonterminals
+  pub states-are : numbers .states ≡ b .states
+  pub inherited-are : numbers .inherited ≡ length (b .inheritedOwners)
+  pub synthesized-are : numbers .synthesized ≡ length (b .synthesizedOwners)
+  pub rules-are : numbers .rules ≡ length (b .rules)
+  pub inherited-definitions-are : numbers .«inherited_definitions» ≡ length (b .inheritedDefinitions)
+  pub synthesized-definitions-are : numbers .«synthesized_definitions» ≡ length (b .synthesizedDefinitions)
+  pub kernels-are : numbers .kernels ≡ length (b .kernels)
+  pub goes-are : numbers .goes ≡ length (b .goes)
+
+-- the lines of one kind and their number
+pub record RuleLines (rules : List ℕ) (n : ℕ) (G : List Rule) : Type 0 where
+  pub count : n ≡ length G
+  pub lines : RulesIn G rules

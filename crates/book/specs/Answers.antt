@@ -20,6 +20,9 @@ Some {A} H = (x : A) × H x
 pub record Answers {A : Type 0} (H : A → Type 0) (test : A → Bool) (r : Bool) : Type 0 where
   pub for-all : (x : A) → H x → r ≡ test x
 
+pub answers-same : {A : Type 0} {H : A → Type 0} {s t : A → Bool} {r : Bool} → ((x : A) → H x → s x ≡ t x) → Answers H s r → Answers H t r
+answers-same e a = record { for-all = λ x h. a .for-all x h ∙ e x h }
+
 -- two tests of one statement are the same
 pub same-test : {s t : Bool} {A : Type 0} → Decides s A → Decides t A → s ≡ t
 same-test {s = true} {t = true} p q = refl
@@ -29,13 +32,17 @@ same-test {s = false} {t = false} p q = refl
 
 -- A test of the numbers below a bound, by parts
 
-then-and : (s t : Bool) → elim s [ true ↦ t | false ↦ false ] ≡ s && t
+pub then-and : (s t : Bool) → elim s [ true ↦ t | false ↦ false ] ≡ s && t
 then-and true t = refl
 then-and false t = refl
 
 and-assoc : (r s t : Bool) → (r && s) && t ≡ r && (s && t)
 and-assoc true s t = refl
 and-assoc false s t = refl
+
+and-true : (t : Bool) → t && true ≡ t
+and-true true = refl
+and-true false = refl
 
 below-more : (f : ℕ → Bool) (n : ℕ) → allBelow (suc n) f ≡ allBelow n f && f n
 unfolding allBelow
@@ -47,13 +54,9 @@ below-same zero h = refl
 below-same {f} {g} (suc n) h = below-more f n ∙ (ap₂ _&&_ (below-same n (λ i l. h i (omega arith))) (h n (omega arith)) ∙ sym (below-more g n))
 
 -- the first of the numbers apart
-below-front : (f : ℕ → Bool) (n : ℕ) → allBelow (suc n) f ≡ f 0 && allBelow n (λ i. f (suc i))
+pub below-front : (f : ℕ → Bool) (n : ℕ) → allBelow (suc n) f ≡ f 0 && allBelow n (λ i. f (suc i))
 unfolding allBelow
-below-front f zero = below-more f zero ∙ and-true (f 0)
-  where
-    and-true : (t : Bool) → true && t ≡ t && true
-    and-true true = refl
-    and-true false = refl
+below-front f zero = below-more f zero ∙ sym (and-true (f 0))
 below-front f (suc n) =
     below-more f (suc n) ∙ (ap (λ (t : Bool). t && f (suc n)) (below-front f n) ∙ (and-assoc (f 0) (allBelow n (λ i. f (suc i))) (f (suc n))
     ∙ ap (λ (t : Bool). f 0 && t) (sym (below-more (λ i. f (suc i)) n))))
@@ -63,6 +66,15 @@ pub all-below : {B : Type 0} (f : B → Bool) (d : B) (xs : List B) → all f xs
 unfolding all allBelow
 all-below f d [] = refl
 all-below f d (x ∷ xs) = then-and (f x) (all f xs) ∙ (ap (λ (t : Bool). f x && t) (all-below f d xs) ∙ sym (below-front (λ i. f (getD (x ∷ xs) i d)) (length xs)))
+
+-- the numbers below m, and n more
+pub below-join : (f : ℕ → Bool) (m n : ℕ) → allBelow (m + n) f ≡ allBelow m f && allBelow n (λ i. f (m + i))
+unfolding allBelow
+below-join f m zero = let e : m + 0 ≡ m = omega arith in
+    rw e (sym (and-true (allBelow m f)))
+below-join f m (suc n) = let e : m + suc n ≡ suc (m + n) = omega arith in
+    rw e (below-more f (m + n) ∙ (ap (λ (t : Bool). t && f (m + n)) (below-join f m n) ∙ (and-assoc (allBelow m f) (allBelow n (λ i. f (m + i))) (f (m + n))
+    ∙ ap (λ (t : Bool). allBelow m f && t) (sym (below-more (λ i. f (m + i)) n)))))
 
 -- a test that fails of one number
 fails : (f : ℕ → Bool) (n i : ℕ) → i < n → f i ≡ false → allBelow n f ≡ false

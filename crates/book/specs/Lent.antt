@@ -1,11 +1,12 @@
 -- What functions over a book's arrays are asked: that the numbers and the arrays that they are lent are those of one book.
 -- Assumes nothing.
-use Prim.Native.Nat.{ℕ}
+use Prim.Native.Nat.{ℕ, _+_}
 use mathlib.Core.Path.{_≡_}
 use mathlib.Core.List.{List}
 use lib.ListN.{length}
 use Rattle.grammar.specs.Symbol.{Rule}
-use Rattle.grammar.specs.Book.{Book as Lines}
+use Rattle.grammar.specs.Book.{Kernel, Book as Lines}
+use Rattle.grammar.specs.Ordered.{Ascending, kernelKey}
 use Rattle.book.specs.declared.Book.{Book}
 use Rattle.book.specs.Held.{RulesIn, DefinitionsIn, KernelsIn, GoesIn}
 
@@ -26,3 +27,12 @@ pub record Counted (numbers : Book) (b : Lines) : Type 0 where
 pub record RuleLines (rules : List ℕ) (n : ℕ) (G : List Rule) : Type 0 where
   pub count : n ≡ length G
   pub lines : RulesIn G rules
+
+pub record DefinitionLines (definitions : List ℕ) (n : ℕ) (b : Lines) : Type 0 where
+  pub count : n ≡ length (b .inheritedDefinitions) + length (b .synthesizedDefinitions)
+  pub lines : DefinitionsIn (b .inheritedDefinitions) (b .synthesizedDefinitions) definitions
+
+pub record KernelLines (kernels : List ℕ) (n : ℕ) (ks : List Kernel) : Type 0 where
+  pub count : n ≡ length ks
+  pub lines : KernelsIn ks kernels
+  pub ascend : Ascending kernelKey ks

@@ -6,6 +6,8 @@ pub mod HeldLaws
 pub mod Layout
 pub mod LayoutLaws
 pub mod Lent
+pub mod LimitLaws
 pub mod LimitTests
 pub mod Lines
+pub mod Runs
 pub mod Sections

@@ -4,11 +4,12 @@ use Prim.Native.Nat.{ℕ, _+_}
 use mathlib.Core.Path.{_≡_}
 use mathlib.Core.List.{List}
 use lib.ListN.{length}
+use Rattle.grammar.specs.Limits.{MAX-INHERITED, MAX-SYNTHESIZED}
 use Rattle.grammar.specs.Symbol.{Rule}
 use Rattle.grammar.specs.Book.{Kernel, Book as Lines}
-use Rattle.grammar.specs.Ordered.{Ascending, kernelKey}
+use Rattle.grammar.specs.Ordered.{Ascending, kernelKey, Ordered}
 use Rattle.book.specs.declared.Book.{Book}
-use Rattle.book.specs.Held.{RulesIn, DefinitionsIn, KernelsIn, GoesIn}
+use Rattle.book.specs.Held.{OwnersIn, RulesIn, DefinitionsIn, KernelsIn, GoesIn, kept}
 
 -- the numbers are the book's
 pub record Counted (numbers : Book) (b : Lines) : Type 0 where
@@ -36,3 +37,23 @@ pub record KernelLines (kernels : List ℕ) (n : ℕ) (ks : List Kernel) : Type 
   pub count : n ≡ length ks
   pub lines : KernelsIn ks kernels
   pub ascend : Ascending kernelKey ks
+
+-- a book, but for its go lines
+pub record Lent (numbers : Book) (inherited synthesized rules definitions kernels : List ℕ) (b : Lines) : Type 0 where
+  pub counted : Counted numbers b
+  pub ordered : Ordered b
+  pub inherited-in : OwnersIn MAX-INHERITED (b .inheritedOwners) inherited
+  pub synthesized-in : OwnersIn MAX-SYNTHESIZED (b .synthesizedOwners) synthesized
+  pub rules-in : RulesIn (b .rules) rules
+  pub definitions-in : DefinitionsIn (b .inheritedDefinitions) (b .synthesizedDefinitions) definitions
+  pub kernels-in : KernelsIn (b .kernels) kernels
+
+-- the same of the lines that have room, as it is before the limits are asked
+pub record Kept (numbers : Book) (inherited synthesized rules definitions kernels : List ℕ) (b : Lines) : Type 0 where
+  pub counted : Counted numbers b
+  pub ordered : Ordered b
+  pub inherited-in : OwnersIn MAX-INHERITED (kept b .inheritedOwners) inherited
+  pub synthesized-in : OwnersIn MAX-SYNTHESIZED (kept b .synthesizedOwners) synthesized
+  pub rules-in : RulesIn (kept b .rules) rules
+  pub definitions-in : DefinitionsIn (kept b .inheritedDefinitions) (kept b .synthesizedDefinitions) definitions
+  pub kernels-in : KernelsIn (kept b .kernels) kernels

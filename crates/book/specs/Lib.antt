@@ -6,6 +6,7 @@ pub mod HeldLaws
 pub mod Layout
 pub mod LayoutLaws
 pub mod Lent
+pub mod LentLaws
 pub mod LimitLaws
 pub mod LimitTests
 pub mod Lines

@@ -10,15 +10,47 @@ use lib.Dec.{eqb, ltb, leb}
 use lib.ListN.{length, getD, drop, drop-of-length-le, length-map, List·getD-map}
 use lib.Seq.{drop-cons}
 use borrow.Author.Tests.{eq-eqb, ne-eqb, eqb-true, eqb-false, lt-ltb, le-ltb}
-use Rattle.grammar.specs.Decides.{count, few, all, allBelow}
-use Rattle.grammar.specs.Limits.{MAX-NODES, MAX-STATE-KERNELS}
+use Rattle.grammar.specs.Decides.{
+  Decides,
+  equivalent,
+  le-decides,
+  and-decides,
+  and3-decides,
+  and4-decides,
+  OneTo,
+  oneTo-decides,
+  all-decides,
+  few-decides,
+  count,
+  few,
+  all,
+  allBelow,
+}
+use Rattle.grammar.specs.ConditionTests.{withinLimits}
+use Rattle.grammar.specs.ConditionTestsLaws.{withinLimits-decides}
+use Rattle.grammar.specs.Limits.{
+  MAX-TERMINALS,
+  MAX-NONTERMINALS,
+  MAX-STATES,
+  MAX-INHERITED,
+  MAX-SYNTHESIZED,
+  MAX-OWNED,
+  MAX-RULES,
+  MAX-RIGHT,
+  MAX-DEFINITIONS,
+  MAX-NODES,
+  MAX-KERNELS,
+  MAX-STATE-KERNELS,
+  MAX-GOES,
+}
 use Rattle.grammar.specs.Term.{nodes}
 use Rattle.grammar.specs.Book.{InheritedDefinition, SynthesizedDefinition, Kernel, Book as Lines}
 use Rattle.grammar.specs.Ordered.{Before, empty, less, same, Ascends, ascends-[], ascends-∷, kernelKey}
 use Rattle.book.specs.Runs.{count-same, count-other, few-front, Sorted, sorted-[], sorted-∷, apart, few-sorted}
-use Rattle.book.specs.Answers.{below-same, below-join, all-below}
+use Rattle.book.specs.Answers.{below-same, below-join, all-below, same-test}
 use Rattle.book.specs.Lent.{DefinitionLines, KernelLines}
-use Rattle.book.specs.LimitTests.{nodesWithin, statesWithin}
+use Rattle.book.specs.Held.{HasRoom}
+use Rattle.book.specs.LimitTests.{numbersWithin, rightsWithin, nodesWithin, statesWithin, linesWithin}
 
 -- counting a word from a place on, n times so far
 pub record Counting (words : List ℕ) (from word n i : ℕ) : Type 0 where
@@ -118,3 +150,60 @@ states-lines {kernels} {n} ks h =
 
     word : (i : ℕ) → i < n → getD kernels (5 * i) 0 ≡ getD states i 0
     word i l = h .lines .state-is i (omega (arith, h .count)) ∙ sym (List·getD-map (λ k. k .state) ks i _)
+
+-- The parts make the whole
+
+module _ (b : Lines) where
+  numbers-decides : Decides (numbersWithin b) (
+    (OneTo MAX-TERMINALS (b .terminals) × OneTo MAX-NONTERMINALS (b .nonterminals) × OneTo MAX-STATES (b .states))
+    × ((length (b .inheritedOwners) ≤ MAX-INHERITED) × (length (b .synthesizedOwners) ≤ MAX-SYNTHESIZED))
+    × OneTo MAX-RULES (length (b .rules))
+    × ((length (b .inheritedDefinitions) + length (b .synthesizedDefinitions) ≤ MAX-DEFINITIONS) × (length (b .kernels) ≤ MAX-KERNELS)
+    × (length (b .goes) ≤ MAX-GOES)))
+  unfolding numbersWithin
+  numbers-decides =
+      and4-decides
+      (and3-decides (oneTo-decides MAX-TERMINALS (b .terminals)) (oneTo-decides MAX-NONTERMINALS (b .nonterminals)) (oneTo-decides MAX-STATES (b .states)))
+      (and-decides (le-decides (length (b .inheritedOwners)) MAX-INHERITED) (le-decides (length (b .synthesizedOwners)) MAX-SYNTHESIZED))
+      (oneTo-decides MAX-RULES (length (b .rules)))
+      (and3-decides (le-decides _ MAX-DEFINITIONS) (le-decides (length (b .kernels)) MAX-KERNELS) (le-decides (length (b .goes)) MAX-GOES))
+
+  pub numbers-room : numbersWithin b ≡ true → HasRoom b
+  numbers-room e =
+      let (first, (i, s), r, (d, k, g)) = numbers-decides .sound e in
+      record { inherited-room = i; synthesized-room = s; rules-room = r .high; definitions-room = d; kernels-room = k; goes-room = g }
+
+  pub limits-parts : numbersWithin b && linesWithin b ≡ withinLimits b
+  unfolding linesWithin rightsWithin nodesWithin statesWithin
+  limits-parts =
+      same-test
+      (equivalent
+      (λ (((t, n, q), (i, s), r, (d, k, g)), ((i-each, s-each), r-each, (i-nodes, s-nodes), k-each)). record {
+        terminals-limit = t;
+        nonterminals-limit = n;
+        states-limit = q;
+        inherited-limit = i;
+        synthesized-limit = s;
+        inherited-each = i-each;
+        synthesized-each = s-each;
+        rules-limit = r;
+        right-limit = r-each;
+        definitions-limit = d;
+        inherited-nodes = i-nodes;
+        synthesized-nodes = s-nodes;
+        kernels-limit = k;
+        kernels-each = k-each;
+        goes-limit = g;
+      })
+      (λ w. (
+        ((w .terminals-limit, w .nonterminals-limit, w .states-limit), (w .inherited-limit, w .synthesized-limit), w .rules-limit,
+        (w .definitions-limit, w .kernels-limit, w .goes-limit)),
+        ((w .inherited-each, w .synthesized-each), w .right-limit, (w .inherited-nodes, w .synthesized-nodes), w .kernels-each),
+      ))
+      (and-decides numbers-decides
+      (and4-decides (and-decides (few-decides MAX-OWNED (b .inheritedOwners)) (few-decides MAX-OWNED (b .synthesizedOwners)))
+      (all-decides (λ r. le-decides (length (r .right)) MAX-RIGHT) (b .rules))
+      (and-decides (all-decides (λ d. le-decides (nodes (d .expression)) MAX-NODES) (b .inheritedDefinitions))
+      (all-decides (λ d. le-decides (nodes (d .expression)) MAX-NODES) (b .synthesizedDefinitions)))
+      (few-decides MAX-STATE-KERNELS (map (λ k. k .state) (b .kernels))))))
+      (withinLimits-decides b)

@@ -47,7 +47,12 @@ nodesWithin b = all (λ d. leb (nodes (d .expression)) MAX-NODES) (b .inheritedD
 unfoldable pub statesWithin : List Kernel → Bool
 statesWithin ks = few MAX-STATE-KERNELS (map (λ k. k .state) ks)
 
+-- all lines
+unfoldable pub linesWithin : Lines → Bool
+linesWithin b =
+    (few MAX-OWNED (b .inheritedOwners) && few MAX-OWNED (b .synthesizedOwners)) && rightsWithin (b .rules) && nodesWithin b && statesWithin (b .kernels)
+
 -- opens every definition of this module
 unfoldable pub opens : Unit {0}
-unfolding numbersWithin rightsWithin nodesWithin statesWithin
+unfolding numbersWithin rightsWithin nodesWithin statesWithin linesWithin
 opens = tt

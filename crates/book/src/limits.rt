@@ -3,9 +3,10 @@ ghost use mathlib.Core.Path.{_≡_};
 ghost use Prim.Native.Nat.{_≤_};
 ghost use lib.ListN.{length, drop};
 ghost use Rattle.grammar.specs.Decides.{oneTo, count, few};
+ghost use Rattle.grammar.specs.ConditionTests.{withinLimits};
 ghost use Rattle.book.specs.Answers.{Some, Answers};
-ghost use Rattle.book.specs.Lent.{Counted, RuleLines, DefinitionLines, KernelLines};
-ghost use Rattle.book.specs.LimitTests.{numbersWithin, rightsWithin, nodesWithin, statesWithin};
+ghost use Rattle.book.specs.Lent.{Counted, RuleLines, DefinitionLines, KernelLines, Kept, Lent};
+ghost use Rattle.book.specs.LimitTests.{numbersWithin, rightsWithin, nodesWithin, statesWithin, linesWithin};
 
 use super::Book;
 
@@ -100,4 +101,35 @@ fn states_within(kernels: &[u32], n: usize) -> bool
         i += 1;
     }
     true
+}
+
+// Whether the lines are within the limits, where each has room.
+fn lines_within(book: Book, inherited: &[u32], synthesized: &[u32], rules: &[u32], definitions: &[u32], kernels: &[u32]) -> bool
+    requires { ⌜ Some (Lent book (now inherited) (now synthesized) (now rules) (now definitions) (now kernels)) ⌝ }
+    ensures {
+        λ r. ⌜ Answers
+            (Lent book (now (inherited .entry)) (now (synthesized .entry)) (now (rules .entry)) (now (definitions .entry)) (now (kernels .entry)))
+            linesWithin r ⌝
+    }
+{
+    let i = book.inherited as usize;
+    let s = book.synthesized as usize;
+    let owners = few(&inherited[..i], 4) & few(&synthesized[..s], 4);
+    let n = book.inherited_definitions as usize + book.synthesized_definitions as usize;
+    owners & rights_within(rules, book.rules as usize) & nodes_within(definitions, n) & states_within(kernels, book.kernels as usize)
+}
+
+// Whether the book is within its limits. Of lines past an array's room only the number is known, and that is too large.
+pub fn within_limits(book: Book, inherited: &[u32], synthesized: &[u32], rules: &[u32], definitions: &[u32], kernels: &[u32]) -> bool
+    requires { ⌜ Some (Kept book (now inherited) (now synthesized) (now rules) (now definitions) (now kernels)) ⌝ }
+    ensures {
+        λ r. ⌜ Answers
+            (Kept book (now (inherited .entry)) (now (synthesized .entry)) (now (rules .entry)) (now (definitions .entry)) (now (kernels .entry)))
+            withinLimits r ⌝
+    }
+{
+    if numbers_within(book) {
+        return lines_within(book, inherited, synthesized, rules, definitions, kernels);
+    }
+    false
 }

@@ -1,3 +1,4 @@
+pub mod Answers
 pub mod Counts
 pub mod Definitions
 pub mod DefinitionsLaws
@@ -9,9 +10,15 @@ pub mod ExpressionsLoop
 pub mod GoLines
 pub mod Header
 pub mod Held
+pub mod HeldLaws
 pub mod KernelLines
 pub mod Layout
 pub mod LayoutLaws
+pub mod Lent
+pub mod LentLaws
+pub mod LimitLaws
+pub mod LimitTests
 pub mod Lines
 pub mod Order
+pub mod Runs
 pub mod Sections

@@ -20,7 +20,7 @@ use Rattle.grammar.specs.Format.Parse.{isBefore}
 use Rattle.book.specs.declared.order.Key.{Key}
 use Rattle.book.specs.Layout.{definitionWords, putLine, storeLines}
 use Rattle.book.specs.LayoutLaws.{length-put}
-use Rattle.book.specs.Sections.{Gives, Puts, Shrinks, Reading, keepFrom, reading-start, reading-less, reading-turn, reading-done}
+use Rattle.book.specs.Sections.{Gives, Puts, Shrinks, size-section, Reading, keepFrom, reading-start, reading-less, reading-turn, reading-done}
 use Rattle.book.specs.Order.{lastKey}
 use Rattle.book.specs.Expressions.{DEFINITION-WORDS}
 use Rattle.book.specs.ExpressionsLoop.{Expresses}
@@ -90,6 +90,10 @@ definition-shrinks : (inherited : Bool) → Shrinks (opening (wordFor inherited)
 unfolding definition remaining
 definition-shrinks inherited =
     record { head-less = opening-less (wordFor inherited); one-less = λ last o. search (shrinking, most-steps, most-defined) depth 20 }
+
+pub definitions-size : (inherited : Bool) (o : Rest) → size (remaining (definitions inherited o)) ≤ size o
+unfolding definitions
+definitions-size inherited o = size-section (opening (wordFor inherited)) (definition inherited) nextKey (definition-shrinks inherited) [] o
 
 -- line k at its place
 unfoldable pub keepFirst : ℕ → ℕ → Definition → List ℕ → List ℕ

@@ -1,20 +1,20 @@
 -- The lines of the section go: the key of a line, how much a line leaves, and that the code's steps, one after another, read and keep a whole line.
 -- Assumes nothing.
-use Prim.Native.Nat.{ℕ}
+use Prim.Native.Nat.{ℕ, _≤_}
 use mathlib.Core.Path.{_≡_, refl}
 use mathlib.Core.Bool.{Bool, true, false}
 use mathlib.Core.List.{List, [], _∷_}
 use Rattle.text.specs.Class.{space}
 use Rattle.text.specs.Rest.{Rest, rest, must, mark, size}
-use Rattle.text.specs.Numeral.{decimal}
+use Rattle.text.specs.Numeral.{decimal, wordOf}
 use Rattle.text.specs.Reading.{Reads}
 use Rattle.grammar.specs.Limits.{MAX-GOES}
 use Rattle.grammar.specs.Format.Ordered.{symbolKey, goKey}
 use Rattle.grammar.specs.Format.Reader.{result, remaining, opening, closing}
 use Rattle.grammar.specs.Format.ReaderLaws.{shrinking, opening-less}
-use Rattle.grammar.specs.Format.Parse.{isBefore, symbolOf, symbol, goLine}
+use Rattle.grammar.specs.Format.Parse.{isBefore, symbolOf, symbol, goLine, goLines}
 use Rattle.book.specs.Layout.{putLine, symbolCode, goWords}
-use Rattle.book.specs.Sections.{Gives, Shrinks, PutsKeyed}
+use Rattle.book.specs.Sections.{Gives, Shrinks, size-section, PutsKeyed}
 
 -- the words of a go line
 abbrev pub GO-WORDS : ℕ
@@ -33,6 +33,10 @@ module _ (S K : ℕ) (t : Bool) where
 pub go-shrinks : (word : ℕ) → Shrinks (opening word) goLine
 unfolding goLine symbol remaining
 go-shrinks word = record { head-less = opening-less word; one-less = λ last o. search shrinking depth 20 }
+
+pub goes-size : (o : Rest) → size (remaining (goLines o)) ≤ size o
+unfolding goLines
+goes-size o = size-section (opening (wordOf "go")) goLine (λ last. goKey) (go-shrinks (wordOf "go")) [] o
 
 -- The steps of a line: state, symbol and target, the end, the key, the order, the store
 

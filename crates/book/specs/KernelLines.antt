@@ -19,7 +19,7 @@ use Rattle.grammar.specs.Automaton.ClosureSets.{setOf}
 use Rattle.grammar.specs.Format.Ordered.{kernelKey, lookaheadKey}
 use Rattle.grammar.specs.Format.Reader.{Parsed, result, remaining, opening, closing, naming}
 use Rattle.grammar.specs.Format.ReaderLaws.{shrinking, opening-less, naming-less}
-use Rattle.grammar.specs.Format.Parse.{isBefore, lookahead, lookaheads, kernelLine}
+use Rattle.grammar.specs.Format.Parse.{isBefore, lookahead, lookaheads, kernelLine, kernelLines}
 use Rattle.book.specs.Layout.{putLine, lastOf, kernelWords}
 use Rattle.book.specs.Sections.{Gives, Shrinks, size-section, Gathers, keepFrom, PutsKeyed}
 
@@ -123,6 +123,10 @@ most-lookaheads m o h = omega (arith, size-section (naming (wordOf "t")) lookahe
 pub kernel-shrinks : (word : ℕ) → Shrinks (opening word) kernelLine
 unfolding kernelLine remaining
 kernel-shrinks word = record { head-less = opening-less word; one-less = λ last o. search (shrinking, most-lookaheads) depth 20 }
+
+pub kernels-size : (o : Rest) → size (remaining (kernelLines o)) ≤ size o
+unfolding kernelLines
+kernels-size o = size-section (opening (wordOf "kernel")) kernelLine (λ last. kernelKey) (kernel-shrinks (wordOf "kernel")) [] o
 
 -- The steps of a line: state, rule and dot, the lookaheads, that there are some, the end, the order, the store
 

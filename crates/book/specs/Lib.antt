@@ -1,6 +1,7 @@
 pub mod Answers
 pub mod Counts
 pub mod Definitions
+pub mod DefinitionsHeld
 pub mod DefinitionsLaws
 pub mod DefinitionsLine
 pub mod DefinitionsLoop
@@ -20,5 +21,8 @@ pub mod LimitLaws
 pub mod LimitTests
 pub mod Lines
 pub mod Order
+pub mod Parts
 pub mod Runs
 pub mod Sections
+pub mod Spelling
+pub mod SpellingLaws

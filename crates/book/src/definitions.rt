@@ -11,6 +11,7 @@ ghost use Rattle.book.specs.Order.{keyOf, lastKey};
 ghost use Rattle.book.specs.Expressions.{DEFINITION-WORDS, MAX-WAITING};
 ghost use Rattle.book.specs.Definitions.{definedBy, definition, wordFor, definitions};
 ghost use Rattle.book.specs.DefinitionsLoop.{definedOf, Worded, Keeps, Defines};
+ghost use Rattle.book.specs.Parts.{DefinesBoth};
 use super::Book;
 use super::Section;
 use super::expression::expression;
@@ -142,7 +143,7 @@ fn definition_lines(
     }
 }
 
-pub fn inherited_definitions(
+fn inherited_definitions(
     t: &[u8; 256],
     text: &[u8],
     at: usize,
@@ -156,7 +157,7 @@ pub fn inherited_definitions(
     definition_lines(t, text, at, true, INHDEF, 0, waits, out)
 }
 
-pub fn synthesized_definitions(
+fn synthesized_definitions(
     t: &[u8; 256],
     text: &[u8],
     at: usize,
@@ -170,4 +171,26 @@ pub fn synthesized_definitions(
         (now (text .entry)) (now (out .entry)) (r .count) (r .at) (now (out .exit)) ⌝ }
 {
     definition_lines(t, text, at, false, SYNDEF, first, waits, out)
+}
+
+// How many definitions of each kind there are, and where the text goes on.
+pub struct DefinitionsRead {
+    pub inherited: u32,
+    pub synthesized: u32,
+    pub at: usize,
+}
+
+// Both sections, one after the other in one array.
+pub fn definition_sections(t: &[u8; 256], text: &[u8], at: usize, waits: &mut [u8], out: &mut [u32]) -> DefinitionsRead
+    requires { ⌜ Lent (now t) (now text) × (MAX-WAITING ≤ length (now waits)) × (MAX-DEFINITIONS * DEFINITION-WORDS ≤ length (now out)) ⌝ }
+    ensures { λ r. ⌜ DefinesBoth (now (text .entry)) (now (out .entry)) at (r .inherited) (r .synthesized) (r .at) (now (out .exit)) ⌝ }
+{
+    let inherited = inherited_definitions(t, text, at, waits, out);
+    let synthesized =
+        synthesized_definitions(t, text, inherited.at, inherited.count, waits, out);
+    DefinitionsRead {
+        inherited: inherited.count,
+        synthesized: synthesized.count,
+        at: synthesized.at,
+    }
 }

@@ -7,6 +7,7 @@ pub mod kernels;
 pub mod limits;
 pub mod order;
 pub mod owners;
+pub mod reading;
 pub mod rules;
 pub mod spelling;
 pub mod store;

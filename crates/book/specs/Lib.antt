@@ -25,4 +25,5 @@ pub mod Parts
 pub mod Runs
 pub mod Sections
 pub mod Spelling
+pub mod SpellingHeld
 pub mod SpellingLaws

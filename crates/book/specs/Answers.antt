@@ -23,6 +23,10 @@ pub record Answers {A : Type 0} (H : A → Type 0) (test : A → Bool) (r : Bool
 pub answers-same : {A : Type 0} {H : A → Type 0} {s t : A → Bool} {r : Bool} → ((x : A) → H x → s x ≡ t x) → Answers H s r → Answers H t r
 answers-same e a = record { for-all = λ x h. a .for-all x h ∙ e x h }
 
+-- what answers for more answers for less
+pub answers-where : {A : Type 0} {H H′ : A → Type 0} {t : A → Bool} {r : Bool} → ((x : A) → H x → H′ x) → Answers H′ t r → Answers H t r
+answers-where f a = record { for-all = λ x h. a .for-all x (f x h) }
+
 -- two tests of one statement are the same
 pub same-test : {s t : Bool} {A : Type 0} → Decides s A → Decides t A → s ≡ t
 same-test {s = true} {t = true} p q = refl
@@ -36,13 +40,17 @@ pub then-and : (s t : Bool) → elim s [ true ↦ t | false ↦ false ] ≡ s &&
 then-and true t = refl
 then-and false t = refl
 
-and-assoc : (r s t : Bool) → (r && s) && t ≡ r && (s && t)
+pub and-assoc : (r s t : Bool) → (r && s) && t ≡ r && (s && t)
 and-assoc true s t = refl
 and-assoc false s t = refl
 
-and-true : (t : Bool) → t && true ≡ t
+pub and-true : (t : Bool) → t && true ≡ t
 and-true true = refl
 and-true false = refl
+
+pub and-false : (t : Bool) → t && false ≡ false
+and-false true = refl
+and-false false = refl
 
 below-more : (f : ℕ → Bool) (n : ℕ) → allBelow (suc n) f ≡ allBelow n f && f n
 unfolding allBelow
@@ -82,10 +90,6 @@ unfolding allBelow
 fails f zero i h e = absurd (omega arith)
 fails f (suc n) i h e = below-more f n ∙ go (λ l. fails f n i l e) (eqb i n) refl
   where
-    and-false : (t : Bool) → t && false ≡ false
-    and-false true = refl
-    and-false false = refl
-
     go : (i < n → allBelow n f ≡ false) → (t : Bool) → eqb i n ≡ t → allBelow n f && f n ≡ false
     go further true q = ap (λ (t : Bool). allBelow n f && t) (ap f (sym (eqb-true i n q)) ∙ e) ∙ and-false (allBelow n f)
     go further false q = let d : i ≡ n → ⊥ = eqb-false i n q in ap (λ (t : Bool). t && f n) (further (omega arith))

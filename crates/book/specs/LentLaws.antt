@@ -7,10 +7,11 @@ use native.Mathlib.Omega.{arith}
 use lib.ListN.{length, getD, take, length-take}
 use lib.Seq.{getD-take, ext-getD}
 use Rattle.grammar.specs.Book.{Book as Lines}
+use Rattle.grammar.specs.ConditionsLaws.{right-length}
 use Rattle.book.specs.declared.Book.{Book}
 use Rattle.book.specs.Held.{OwnersIn, HasRoom, kept}
 use Rattle.book.specs.HeldLaws.{kept-all}
-use Rattle.book.specs.Lent.{Counted, RuleLines, DefinitionLines, KernelLines, Kept, Lent}
+use Rattle.book.specs.Lent.{Counted, RuleLines, DefinitionLines, KernelLines, Kept, Lent, RulesOf, RuleOf}
 
 -- where there is room, what is kept is all
 pub lent-kept : {numbers : Book} {inherited synthesized rules definitions kernels : List ℕ} {b : Lines}
@@ -53,3 +54,6 @@ module _ {numbers : Book} {inherited synthesized rules definitions kernels : Lis
 
   pub kernel-lines : KernelLines kernels (numbers .kernels) (b .kernels)
   kernel-lines = record { count = h .counted .kernels-are; lines = h .kernels-in; ascend = h .ordered .kernels }
+
+pub rule-of : {numbers : Book} {rules : List ℕ} {b : Lines} (P : ℕ) → RulesOf numbers rules b → P < length (b .rules) → RuleOf numbers rules P b
+rule-of P h l = record { rules-of = h; rule-there = l; size-is = h .rules-in .size-is P l; few-right = right-length (h .within) P }

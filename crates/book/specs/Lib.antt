@@ -1,10 +1,13 @@
 pub mod Answers
 pub mod Counts
+pub mod DeclaredLaws
+pub mod DeclaredTests
 pub mod Header
 pub mod Held
 pub mod HeldLaws
 pub mod Layout
 pub mod LayoutLaws
+pub mod Leaves
 pub mod Lent
 pub mod LentLaws
 pub mod LimitLaws

@@ -1,0 +1,221 @@
+-- Condition 4: what the words of symbols, nodes and lookaheads say, and that the parts make the whole.
+-- Assumes nothing.
+use Prim.Native.Nat.{ℕ, zero, suc, _+_, _*_, _-_, _≤_, _<_, zero-le}
+use mathlib.Core.Path.{_≡_, refl, sym, ap, ap₂, _∙_}
+use mathlib.Core.Bool.{Bool, true, false, _&&_}
+use mathlib.Core.List.{List, [], _∷_}
+use native.Mathlib.Omega.{arith}
+use lib.Dec.{eqb, ltb, leb}
+use lib.ListN.{length, getD}
+use borrow.Author.Tests.{ltb-true, ltb-false, lt-ltb, le-ltb, le-leb, lt-leb, leb-true, ne-eqb, eq-eqb}
+use Rattle.grammar.specs.Decides.{oneTo, all, allBelow}
+use Rattle.grammar.specs.Symbol.{Symbol, terminal, nonterminal, Rule, ruleAt, leftOf, rightOf}
+use Rattle.grammar.specs.Postfix.{Step, push, load, operate, select, postfix, length-postfix}
+use Rattle.grammar.specs.Term.{add, sub, min, max, nodes}
+use Rattle.grammar.specs.Book.{Place, own, at, val, InheritedDefinition, Book as Lines}
+use Rattle.grammar.specs.Conditions.{WithinLimits}
+use Rattle.grammar.specs.ConditionTests.{oneNonterminal, rightSymbol, goSymbol, isPosition, declaredPlace, declaredKernel, declaredGo}
+use Rattle.grammar.specs.Ordered.{Ascends, ascends-[], ascends-∷, lookaheadKey, Lookaheads, Every, every-[], every-∷}
+use Rattle.grammar.specs.ConditionsLaws.{right-length}
+use Rattle.book.specs.declared.Book.{Book}
+use Rattle.book.specs.Layout.{codeOf, symbolCode, lastOf}
+use Rattle.book.specs.Held.{nodeAt, kernelAt, goAt, nodeKind, nodeFirst, nodeSecond}
+use Rattle.book.specs.Lent.{Counted, RulesOf, RuleOf, Entry, LineIs, LeavesOf, KernelOf, GoesOf}
+use Rattle.book.specs.Runs.{lead, before-lead}
+use Rattle.book.specs.Answers.{then-and, and-true, and-false}
+use Rattle.book.specs.Leaves.{ofLeaf}
+use Rattle.book.specs.DeclaredTests.{rightCode, goCode, startCode, placeCode, rightDeclared, kernelDeclared}
+
+one-past : (n k : ℕ) → n < k → oneTo n k ≡ false
+unfolding oneTo
+one-past n k h = rw (lt-leb k n h) (and-false (leb 1 k))
+
+-- Symbols
+
+-- a property of a symbol's word, by cases
+by-code : (P : ℕ → Type 0) (base K : ℕ) → (K < 32 → P (base + K)) → (32 ≤ K → P 64) → P (codeOf base K)
+unfolding codeOf
+by-code P base K f g = go (ltb K 32) refl
+  where
+    go : (t : Bool) → ltb K 32 ≡ t → P (elim t [ true ↦ base + K | false ↦ 64 ])
+    go true e = f (ltb-true K 32 e)
+    go false e = g (ltb-false K 32 e)
+
+module _ (numbers : Book) (code : ℕ) where
+  pub right-low : code < 32 → rightCode numbers code ≡ oneTo (numbers .terminals) code
+  unfolding rightCode
+  right-low h = rw (lt-ltb code 32 h, rightCode)
+
+  pub right-high : 32 ≤ code → rightCode numbers code ≡ oneTo (numbers .nonterminals) (code - 32)
+  unfolding rightCode
+  right-high h = rw (le-ltb code 32 h, rightCode)
+
+  pub go-low : code < 32 → goCode numbers code ≡ oneTo (numbers .terminals) code
+  unfolding goCode
+  go-low h = rw (lt-ltb code 32 h, goCode)
+
+  pub go-high : 32 ≤ code → goCode numbers code ≡ leb (code - 32) (numbers .nonterminals)
+  unfolding goCode
+  go-high h = rw (le-ltb code 32 h, goCode)
+
+module _ {numbers : Book} {b : Lines} (c : Counted numbers b) (w : WithinLimits b) where
+  low : (K code : ℕ) → code ≡ K → oneTo (numbers .terminals) code ≡ oneTo (b .terminals) K
+  low K code e = ap₂ oneTo (c .terminals-are) e
+
+  high : (K code : ℕ) → code ≡ K → oneTo (numbers .nonterminals) code ≡ oneTo (b .nonterminals) K
+  high K code e = ap₂ oneTo (c .nonterminals-are) e
+
+  -- a word of a symbol that no book declares
+  none : oneTo (numbers .nonterminals) 32 ≡ false
+  none = one-past (numbers .nonterminals) 32 (omega (arith, w .nonterminals-limit .high, c .nonterminals-are))
+
+  pub right-code : (X : Symbol) → rightCode numbers (symbolCode X) ≡ rightSymbol b X
+  unfolding symbolCode rightSymbol
+  right-code (terminal K) =
+      by-code (λ code. rightCode numbers code ≡ oneTo (b .terminals) K) 0 K
+      (λ h. right-low numbers (0 + K) (omega arith) ∙ low K (0 + K) (omega arith))
+      (λ h. right-high numbers 64 (omega arith) ∙ (none ∙ sym (one-past (b .terminals) K (omega (arith, w .terminals-limit .high)))))
+  right-code (nonterminal K) =
+      by-code (λ code. rightCode numbers code ≡ oneTo (b .nonterminals) K) 32 K
+      (λ h. right-high numbers (32 + K) (omega arith) ∙ high K (32 + K - 32) (omega arith))
+      (λ h. right-high numbers 64 (omega arith) ∙ (none ∙ sym (one-past (b .nonterminals) K (omega (arith, w .nonterminals-limit .high)))))
+
+  pub go-code : (X : Symbol) → goCode numbers (symbolCode X) ≡ goSymbol b X
+  unfolding symbolCode goSymbol
+  go-code (terminal K) =
+      by-code (λ code. goCode numbers code ≡ oneTo (b .terminals) K) 0 K
+      (λ h. go-low numbers (0 + K) (omega arith) ∙ low K (0 + K) (omega arith))
+      (λ h. go-high numbers 64 (omega arith) ∙ (past 32 (omega arith) ∙ sym (one-past (b .terminals) K (omega (arith, w .terminals-limit .high)))))
+    where
+      past : (k : ℕ) → 32 ≤ k → leb k (numbers .nonterminals) ≡ false
+      past k l = lt-leb k (numbers .nonterminals) (omega (arith, w .nonterminals-limit .high, c .nonterminals-are))
+  go-code (nonterminal K) =
+      by-code (λ code. goCode numbers code ≡ leb K (b .nonterminals)) 32 K
+      (λ h. go-high numbers (32 + K) (omega arith) ∙ ap₂ leb (let e : 32 + K - 32 ≡ K = omega arith in e) (c .nonterminals-are))
+      (λ h. go-high numbers 64 (omega arith) ∙ (lt-leb 32 (numbers .nonterminals) (omega (arith, w .nonterminals-limit .high, c .nonterminals-are))
+      ∙ sym (lt-leb K (b .nonterminals) (omega (arith, w .nonterminals-limit .high)))))
+
+-- Nodes
+
+pub place-code : {numbers : Book} {b : Lines} → Counted numbers b → (P size : ℕ) → size ≡ length (rightOf (b .rules) P) → (s : Step Place)
+    → placeCode numbers size (nodeKind s) (nodeFirst s) (nodeSecond s) ≡ ofLeaf (declaredPlace b P) s
+unfolding placeCode nodeKind nodeFirst nodeSecond ofLeaf declaredPlace isPosition
+place-code c P size e (push n) = refl
+place-code c P size e (load (own K)) = ap (ltb K) (c .inherited-are)
+place-code c P size e (load (at J K)) = ap₂ _&&_ (ap (λ (n : ℕ). oneTo n J) e) (ap (ltb K) (c .synthesized-are))
+place-code c P size e (load (val J)) = ap (λ (n : ℕ). oneTo n J) e
+place-code c P size e (operate add) = refl
+place-code c P size e (operate sub) = refl
+place-code c P size e (operate min) = refl
+place-code c P size e (operate max) = refl
+place-code c P size e select = refl
+
+-- by the kind of the node
+module _ (numbers : Book) (size kind first second : ℕ) where
+  pub place-own : kind ≡ 1 → ltb first (numbers .inherited) ≡ placeCode numbers size kind first second
+  unfolding placeCode
+  place-own e = rw e
+
+  pub place-at : kind ≡ 2 → oneTo size first && ltb second (numbers .synthesized) ≡ placeCode numbers size kind first second
+  unfolding placeCode
+  place-at e = rw e
+
+  pub place-val : kind ≡ 3 → oneTo size first ≡ placeCode numbers size kind first second
+  unfolding placeCode
+  place-val e = rw e
+
+  pub place-none : (kind ≡ 1 → ⊥) → (kind ≡ 2 → ⊥) → (kind ≡ 3 → ⊥) → true ≡ placeCode numbers size kind first second
+  unfolding placeCode
+  place-none e f g = rw (ne-eqb kind 1 e, placeCode) (rw (ne-eqb kind 2 f) (rw (ne-eqb kind 3 g)))
+
+-- Lookaheads: the last of those that ascend is the largest
+
+last-least : {last l : List ℕ} → Ascends lookaheadKey last l → 0 < length l → lead last ≤ lastOf l
+unfolding lastOf lead lookaheadKey
+last-least ascends-[] h = absurd (omega arith)
+last-least (ascends-∷ b ascends-[]) h = before-lead b
+last-least (ascends-∷ b (ascends-∷ d a)) h = omega (arith, before-lead b, last-least (ascends-∷ d a) (omega arith))
+
+-- what is no larger need not be asked
+leb-less : (x n m : ℕ) → x ≤ n → leb n m ≡ leb x m && leb n m
+leb-less x n m h = go (leb n m) refl
+  where
+    go : (t : Bool) → leb n m ≡ t → t ≡ leb x m && t
+    go true e = rw (le-leb x m (omega (arith, leb-true n m e)))
+    go false e = sym (and-false (leb x m))
+
+pub last-within : (m : ℕ) {last l : List ℕ} → Ascends lookaheadKey last l → leb (lastOf l) m ≡ all (λ t. leb t m) l
+unfolding lastOf all lead lookaheadKey
+last-within m ascends-[] = le-leb 0 m zero-le
+last-within m (ascends-∷ {x = x} b ascends-[]) = sym (then-and (leb x m) true ∙ and-true (leb x m))
+last-within m (ascends-∷ {x = x} b (ascends-∷ {x = y} {xs = l} d a)) =
+    leb-less x (lastOf (y ∷ l)) m (last-least (ascends-∷ d a) (omega arith))
+    ∙ (ap (λ (t : Bool). leb x m && t) (last-within m (ascends-∷ d a)) ∙ sym (then-and (leb x m) (all (λ t. leb t m) (y ∷ l))))
+
+-- Lines
+
+every-at : {A : Type 0} (P : A → Type 0) (xs : List A) (i : ℕ) (d : A) → Every P xs → i < length xs → P (getD xs i d)
+every-at P [] i d e l = absurd (omega arith)
+every-at P (x ∷ xs) zero d (every-∷ p e) l = p
+every-at P (x ∷ xs) (suc i) d (every-∷ p e) l = every-at P xs i d e (omega arith)
+
+-- right symbol D of rule P
+pub right-symbol : {numbers : Book} {rules : List ℕ} {b : Lines} {P : ℕ} → RuleOf numbers rules P b → (D : ℕ) → D < length (rightOf (b .rules) P)
+    → rightCode numbers (getD rules (10 * P + 2 + D) 0) ≡ rightSymbol b (getD (rightOf (b .rules) P) D (terminal 0))
+right-symbol {numbers} {rules} {b} {P} h D l =
+    let g = h .rules-of in
+    ap (rightCode numbers) (g .rules-in .symbol-is P D (h .rule-there) l (omega (arith, right-length (g .within) P)))
+    ∙ right-code (g .counted) (g .within) (getD (rightOf (b .rules) P) D (terminal 0))
+
+-- kernel line i
+module _ {numbers : Book} {rules kernels : List ℕ} {i : ℕ} {b : Lines} (h : KernelOf numbers rules kernels i b) where
+  pub kernel-asked : getD kernels (5 * i + 1) 0 < numbers .rules
+      → ltb (getD kernels (5 * i) 0) (numbers .states) && leb (getD kernels (5 * i + 2) 0) (getD rules (10 * getD kernels (5 * i + 1) 0 + 1) 0)
+      && leb (getD kernels (5 * i + 3) 0) (numbers .terminals)
+      ≡ kernelDeclared i b
+  unfolding kernelDeclared declaredKernel
+  kernel-asked l =
+      let g = h .kernels-of in
+      let c = g .rules-of .counted in
+      let there = h .kernel-there in
+      let P = kernelAt (b .kernels) i .rule in
+      let rule : getD kernels (5 * i + 1) 0 ≡ P = g .kernels-in .rule-is i there in
+      let rule-there : P < length (b .rules) = omega (arith, c .rules-are) in
+      let size : getD rules (10 * getD kernels (5 * i + 1) 0 + 1) 0 ≡ length (rightOf (b .rules) P) =
+      ap (λ (p : ℕ). getD rules (10 * p + 1) 0) rule ∙ g .rules-of .rules-in .size-is P rule-there in
+      ap₂ _&&_ (ap₂ _&&_
+      (ap₂ ltb (g .kernels-in .state-is i there) (c .states-are)
+      ∙ sym (ap (λ (t : Bool). ltb (kernelAt (b .kernels) i .state) (b .states) && t) (lt-ltb P (length (b .rules)) rule-there) ∙ and-true _))
+      (ap₂ leb (g .kernels-in .dot-is i there) size))
+      (ap₂ leb (g .kernels-in .last-is i there) (c .terminals-are)
+      ∙ last-within (b .terminals) (every-at Lookaheads (b .kernels) i _ (g .ordered .lookaheads) there .ascend))
+
+  pub kernel-refused : numbers .rules ≤ getD kernels (5 * i + 1) 0 → false ≡ kernelDeclared i b
+  unfolding kernelDeclared declaredKernel
+  kernel-refused l =
+      let g = h .kernels-of in
+      let P = kernelAt (b .kernels) i .rule in
+      let past : length (b .rules) ≤ P = omega (arith, g .rules-of .counted .rules-are, g .kernels-in .rule-is i (h .kernel-there)) in
+      rw (le-ltb P (length (b .rules)) past, and-false)
+
+-- go line i
+pub go-asked : {numbers : Book} {goes : List ℕ} {b : Lines} (i : ℕ) {known : Bool} → GoesOf numbers goes b → i < length (b .goes)
+    → known ≡ goCode numbers (getD goes (3 * i + 1) 0)
+    → ltb (getD goes (3 * i) 0) (numbers .states) && known && ltb (getD goes (3 * i + 2) 0) (numbers .states) ≡ declaredGo b (goAt (b .goes) i)
+unfolding declaredGo
+go-asked {numbers} {goes} {b} i h there e =
+    ap₂ _&&_ (ap₂ _&&_ (ap₂ ltb (h .goes-in .state-is i there) (h .counted .states-are))
+    (e ∙ (ap (goCode numbers) (h .goes-in .symbol-is i there) ∙ go-code (h .counted) (h .within) (goAt (b .goes) i .symbol))))
+    (ap₂ ltb (h .goes-in .target-is i there) (h .counted .states-are))
+
+-- node j of the definition in line i
+pub node-asked : {numbers : Book} {definitions : List ℕ} {i size : ℕ} {x : Entry} → LeavesOf numbers definitions i size x → (j : ℕ) → j < nodes (x .line .expression)
+    → placeCode numbers size (getD definitions (49 * i + 4 + 3 * j) 0) (getD definitions (49 * i + 4 + 3 * j + 1) 0) (getD definitions (49 * i + 4 + 3 * j + 2) 0)
+    ≡ ofLeaf (declaredPlace (x .book) (x .line .rule)) (nodeAt (x .line .expression) j)
+node-asked {numbers} {definitions} {i} {size} {x} h j l =
+    let n = h .line-is .line-in .node-is j l (omega (arith, h .line-is .few-nodes)) in
+    rw (n .kind-is, n .first-is, n .second-is) (place-code (h .counted) (x .line .rule) size (h .size-is) (nodeAt (x .line .expression) j))
+
+-- the number of nodes in line i
+pub node-count : {definitions : List ℕ} {i : ℕ} {d : InheritedDefinition} → LineIs definitions i d → getD definitions (49 * i + 3) 0 ≡ length (postfix (d .expression))
+node-count {d = d} h = h .line-in .nodes-is ∙ sym (length-postfix (d .expression))

@@ -52,6 +52,10 @@ pub and-false : (t : Bool) → t && false ≡ false
 and-false true = refl
 and-false false = refl
 
+pub and-first : (s t : Bool) → s && t ≡ true → s ≡ true
+and-first true t e = refl
+and-first false t e = e
+
 below-more : (f : ℕ → Bool) (n : ℕ) → allBelow (suc n) f ≡ allBelow n f && f n
 unfolding allBelow
 below-more f n = then-and (allBelow n f) (f n)

@@ -9,22 +9,24 @@ use lib.Dec.{eqb, ltb, leb}
 use lib.ListN.{length, getD}
 use borrow.Author.Tests.{ltb-true, ltb-false, lt-ltb, le-ltb, le-leb, lt-leb, leb-true, ne-eqb, eq-eqb}
 use Rattle.grammar.specs.Decides.{oneTo, all, allBelow}
+use Rattle.grammar.specs.Limits.{MAX-RULES}
 use Rattle.grammar.specs.Symbol.{Symbol, terminal, nonterminal, Rule, ruleAt, leftOf, rightOf}
 use Rattle.grammar.specs.Postfix.{Step, push, load, operate, select, postfix, length-postfix}
 use Rattle.grammar.specs.Term.{add, sub, min, max, nodes}
-use Rattle.grammar.specs.Book.{Place, own, at, val, InheritedDefinition, Book as Lines}
+use Rattle.grammar.specs.Book.{Place, own, at, val, InheritedDefinition, SynthesizedDefinition, Book as Lines}
 use Rattle.grammar.specs.Conditions.{WithinLimits}
-use Rattle.grammar.specs.ConditionTests.{oneNonterminal, rightSymbol, goSymbol, isPosition, declaredPlace, declaredKernel, declaredGo}
+use Rattle.grammar.specs.ConditionTests.{allLeaves, oneNonterminal, rightSymbol, goSymbol, isPosition, declaredPlace, declaredInherited, declaredSynthesized, declaredKernel, declaredGo}
 use Rattle.grammar.specs.Ordered.{Ascends, ascends-[], ascends-∷, lookaheadKey, Lookaheads, Every, every-[], every-∷}
 use Rattle.grammar.specs.ConditionsLaws.{right-length}
 use Rattle.book.specs.declared.Book.{Book}
 use Rattle.book.specs.Layout.{codeOf, symbolCode, lastOf}
-use Rattle.book.specs.Held.{nodeAt, kernelAt, goAt, nodeKind, nodeFirst, nodeSecond}
-use Rattle.book.specs.Lent.{Counted, RulesOf, RuleOf, Entry, LineIs, LeavesOf, KernelOf, GoesOf}
+use Rattle.book.specs.Held.{synthesizedAt, nodeAt, kernelAt, goAt, nodeKind, nodeFirst, nodeSecond}
+use Rattle.book.specs.Lent.{Counted, RulesOf, RuleOf, Entry, LineIs, EntryOf, LeavesOf, KernelOf, GoesOf}
+use Rattle.book.specs.LentLaws.{synthesizedEntry}
 use Rattle.book.specs.Runs.{lead, before-lead}
-use Rattle.book.specs.Answers.{then-and, and-true, and-false}
+use Rattle.book.specs.Answers.{then-and, and-assoc, and-true, and-false, and-first}
 use Rattle.book.specs.Leaves.{ofLeaf}
-use Rattle.book.specs.DeclaredTests.{rightCode, goCode, startCode, placeCode, rightDeclared, kernelDeclared}
+use Rattle.book.specs.DeclaredTests.{rightCode, goCode, startCode, placeCode, rightDeclared, leftDeclared, ruleDeclared, leavesDeclared, definitionDeclared, inheritedLineDeclared, kernelDeclared}
 
 one-past : (n k : ℕ) → n < k → oneTo n k ≡ false
 unfolding oneTo
@@ -219,3 +221,82 @@ node-asked {numbers} {definitions} {i} {size} {x} h j l =
 -- the number of nodes in line i
 pub node-count : {definitions : List ℕ} {i : ℕ} {d : InheritedDefinition} → LineIs definitions i d → getD definitions (49 * i + 3) 0 ≡ length (postfix (d .expression))
 node-count {d = d} h = h .line-in .nodes-is ∙ sym (length-postfix (d .expression))
+
+-- the definition in line i
+module _ {numbers : Book} {rules definitions : List ℕ} {i : ℕ} {x : Entry} (h : EntryOf numbers rules definitions i x) where
+  rule-size : x .line .rule < length (x .book .rules)
+      → getD rules (10 * getD definitions (49 * i) 0 + 1) 0 ≡ length (rightOf (x .book .rules) (x .line .rule))
+  rule-size l = ap (λ (p : ℕ). getD rules (10 * p + 1) 0) (h .line-is .line-in .rule-is) ∙ h .rules-of .rules-in .size-is (x .line .rule) l
+
+  rule-there : getD definitions (49 * i) 0 < numbers .rules → x .line .rule < length (x .book .rules)
+  rule-there l = omega (arith, h .line-is .line-in .rule-is, h .rules-of .counted .rules-are)
+
+  pub leaves-of : getD definitions (49 * i) 0 < numbers .rules → LeavesOf numbers definitions i (getD rules (10 * getD definitions (49 * i) 0 + 1) 0) x
+  leaves-of l = record { counted = h .rules-of .counted; line-is = h .line-is; size-is = rule-size (rule-there l) }
+
+  pub definition-asked : {r : Bool} (attributes : ℕ) → getD definitions (49 * i) 0 < numbers .rules → r ≡ leavesDeclared x
+      → ltb (getD definitions (49 * i + 2) 0) attributes && r ≡ definitionDeclared attributes x
+  unfolding definitionDeclared
+  definition-asked attributes l e =
+      rw (lt-ltb (x .line .rule) (length (x .book .rules)) (rule-there l))
+      (ap₂ _&&_ (ap (λ (K : ℕ). ltb K attributes) (h .line-is .line-in .attribute-is)) e)
+
+  pub definition-refused : (attributes : ℕ) → numbers .rules ≤ getD definitions (49 * i) 0 → false ≡ definitionDeclared attributes x
+  unfolding definitionDeclared
+  definition-refused attributes l =
+      rw (le-ltb (x .line .rule) (length (x .book .rules)) (omega (arith, h .line-is .line-in .rule-is, h .rules-of .counted .rules-are)))
+
+  -- such a definition has a rule
+  pub declared-rule : (attributes : ℕ) → definitionDeclared attributes x ≡ true → x .line .rule < length (x .book .rules)
+  unfolding definitionDeclared
+  declared-rule attributes e = ltb-true (x .line .rule) (length (x .book .rules)) (and-first _ _ e)
+
+  pub declared-word : (attributes : ℕ) → definitionDeclared attributes x ≡ true → getD definitions (49 * i) 0 < MAX-RULES
+  declared-word attributes e = omega (arith, declared-rule attributes e, h .line-is .line-in .rule-is, h .rules-of .rules-in .fits)
+
+  -- the position last
+  inherited-parts : inheritedLineDeclared x
+      ≡ definitionDeclared (numbers .inherited) x && isPosition (x .book) (x .line .rule) (x .line .position)
+  unfolding inheritedLineDeclared declaredInherited definitionDeclared leavesDeclared
+  inherited-parts =
+      rw (h .rules-of .counted .inherited-are) (moved (ltb (x .line .rule) (length (x .book .rules))) (isPosition (x .book) (x .line .rule) (x .line .position)) _ _)
+    where
+      moved : (p q r s : Bool) → p && q && r && s ≡ p && (r && s) && q
+      moved true true r s = sym (and-true (r && s))
+      moved true false r s = sym (and-false (r && s))
+      moved false q r s = refl
+
+  pub inherited-asked : definitionDeclared (numbers .inherited) x ≡ true
+      → oneTo (getD rules (10 * getD definitions (49 * i) 0 + 1) 0) (getD definitions (49 * i + 1) 0) ≡ inheritedLineDeclared x
+  unfolding isPosition
+  inherited-asked e = ap₂ oneTo (rule-size (declared-rule (numbers .inherited) e)) (h .line-is .line-in .position-is) ∙ sym (inherited-parts ∙ rw e)
+
+  pub inherited-refused : definitionDeclared (numbers .inherited) x ≡ false → false ≡ inheritedLineDeclared x
+  inherited-refused e = sym (inherited-parts ∙ rw e)
+
+pub synthesized-parts : {numbers : Book} {b : Lines} (i : ℕ) → Counted numbers b
+    → definitionDeclared (numbers .synthesized) (synthesizedEntry b i) ≡ declaredSynthesized b (synthesizedAt (b .synthesizedDefinitions) i)
+unfolding definitionDeclared declaredSynthesized leavesDeclared
+synthesized-parts {b = b} i c =
+    let d : SynthesizedDefinition = synthesizedAt (b .synthesizedDefinitions) i in
+    rw (c .synthesized-are)
+    (sym (and-assoc (ltb (d .rule) (length (b .rules))) (ltb (d .attribute) (length (b .synthesizedOwners))) (allLeaves (declaredPlace b (d .rule)) (d .expression))))
+
+-- rule P
+left-other : (P : ℕ) (b : Lines) → 0 < P → leftDeclared P b ≡ oneTo (b .nonterminals) (leftOf (b .rules) P)
+unfolding leftDeclared
+left-other P b l = rw (lt-ltb 0 P l, leftDeclared)
+
+left-first : (P : ℕ) (b : Lines) → P ≤ 0 → leftDeclared P b ≡ true
+unfolding leftDeclared
+left-first P b l = rw (le-ltb 0 P l, leftDeclared)
+
+module _ {numbers : Book} {rules : List ℕ} {P : ℕ} {b : Lines} (h : RuleOf numbers rules P b) where
+  pub rule-asked : {r s : Bool} → 0 < P → s ≡ oneTo (numbers .nonterminals) (getD rules (10 * P) 0) → r ≡ rightDeclared P b → s && r ≡ ruleDeclared P b
+  unfolding ruleDeclared
+  rule-asked l e f =
+      ap₂ _&&_ (e ∙ (ap₂ oneTo (h .rules-of .counted .nonterminals-are) (h .rules-of .rules-in .left-is P (h .rule-there)) ∙ sym (left-other P b l))) f
+
+  pub rule-first : {r : Bool} → P ≤ 0 → r ≡ rightDeclared P b → r ≡ ruleDeclared P b
+  unfolding ruleDeclared
+  rule-first l e = e ∙ sym (ap (λ (t : Bool). t && rightDeclared P b) (left-first P b l))

@@ -59,6 +59,9 @@ leavesDeclared x = allLeaves (declaredPlace (x .book) (x .line .rule)) (x .line 
 unfoldable pub definitionDeclared : ℕ → Entry → Bool
 definitionDeclared attributes x = ltb (x .line .rule) (length (x .book .rules)) && (ltb (x .line .attribute) attributes && leavesDeclared x)
 
+unfoldable pub inheritedLineDeclared : Entry → Bool
+inheritedLineDeclared x = declaredInherited (x .book) (x .line)
+
 unfoldable pub inheritedDeclared : Lines → Bool
 inheritedDeclared b = all (declaredInherited b) (b .inheritedDefinitions)
 
@@ -77,6 +80,6 @@ goesDeclared b = all (declaredGo b) (b .goes)
 
 -- opens every definition of this module
 unfoldable pub opens : Unit {0}
-unfolding rightCode goCode startCode placeCode rightDeclared leftDeclared ruleDeclared rulesDeclared leavesDeclared definitionDeclared inheritedDeclared
+unfolding rightCode goCode startCode placeCode rightDeclared leftDeclared ruleDeclared rulesDeclared leavesDeclared definitionDeclared inheritedLineDeclared inheritedDeclared
     synthesizedDeclared kernelDeclared kernelsDeclared goesDeclared
 opens = tt

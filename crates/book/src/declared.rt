@@ -4,7 +4,7 @@ ghost use Prim.Native.Nat.{_<_};
 ghost use Rattle.grammar.specs.Decides.{oneTo, all};
 ghost use Rattle.book.specs.Answers.{Some, Answers};
 ghost use Rattle.book.specs.Lent.{RulesOf, RuleOf, LeavesOf, EntryOf, DefinitionsOf, KernelsOf, KernelOf, GoesOf};
-ghost use Rattle.book.specs.DeclaredTests.{rightCode, goCode, startCode, placeCode, rightDeclared, ruleDeclared, rulesDeclared, leavesDeclared, definitionDeclared, inheritedDeclared, synthesizedDeclared, kernelDeclared, kernelsDeclared, goesDeclared};
+ghost use Rattle.book.specs.DeclaredTests.{rightCode, goCode, startCode, placeCode, rightDeclared, ruleDeclared, rulesDeclared, leavesDeclared, definitionDeclared, inheritedLineDeclared, inheritedDeclared, synthesizedDeclared, kernelDeclared, kernelsDeclared, goesDeclared};
 
 use super::Book;
 use super::limits::one_to;
@@ -139,6 +139,18 @@ fn definition_declared(book: Book, rules: &[u32], definitions: &[u32], i: usize,
     false
 }
 
+// Whether line i, an inherited attribute's definition, is declared, its position too.
+fn inherited_line_declared(book: Book, rules: &[u32], definitions: &[u32], i: usize) -> bool
+    requires { ⌜ Some (EntryOf book (now rules) (now definitions) i) ⌝ }
+    ensures { λ r. ⌜ Answers (EntryOf book (now (rules .entry)) (now (definitions .entry)) i) inheritedLineDeclared r ⌝ }
+{
+    if definition_declared(book, rules, definitions, i, book.inherited) {
+        let p = definitions[49 * i] as usize;
+        return one_to(rules[10 * p + 1], definitions[49 * i + 1]);
+    }
+    false
+}
+
 fn inherited_declared(book: Book, rules: &[u32], definitions: &[u32]) -> bool
     requires { ⌜ Some (DefinitionsOf book (now rules) (now definitions)) ⌝ }
     ensures { λ r. ⌜ Answers (DefinitionsOf book (now (rules .entry)) (now (definitions .entry))) inheritedDeclared r ⌝ }
@@ -146,11 +158,7 @@ fn inherited_declared(book: Book, rules: &[u32], definitions: &[u32]) -> bool
     let n = book.inherited_definitions as usize;
     let mut i = 0;
     while i < n {
-        if !definition_declared(book, rules, definitions, i, book.inherited) {
-            return false;
-        }
-        let p = definitions[49 * i] as usize;
-        if !one_to(rules[10 * p + 1], definitions[49 * i + 1]) {
+        if !inherited_line_declared(book, rules, definitions, i) {
             return false;
         }
         i += 1;

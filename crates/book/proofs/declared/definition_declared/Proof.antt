@@ -1,3 +1,4 @@
+use Rattle.book.specs.DeclaredLaws.{leaves-of, definition-asked, definition-refused}
 use borrow.Author.Needs.{needs}
 use Rattle.book.proofs.declared.definition_declared.Statement.{statement}
 use Rattle.book.proofs.declared.definition_declared.Tie as tie
@@ -5,65 +6,52 @@ use Rattle.book.proofs.declared.definition_declared.Reads as reads
 use Rattle.book.proofs.declared.definition_declared.Lts as lts
 use Rattle.book.proofs.declared.leaves_declared.Reads as leaves-declared-reads
 
--- src/declared.rt:134:25
 mul-p : tie.Need-mul-p
 mul-p c = search needs
 
--- src/declared.rt:134:13
 mul-p-2 : tie.Need-mul-p-2
 mul-p-2 c = search needs
 
--- src/declared.rt:134:13
 shared-slice-read-p : tie.Need-shared-slice-read-p
 shared-slice-read-p c = search needs
 
--- src/declared.rt:136:31
 cast-size : tie.Need-cast-size
 cast-size c = search needs
 
--- src/declared.rt:136:26
 mul-size : tie.Need-mul-size
 mul-size c = search needs
 
--- src/declared.rt:136:26
 add-size : tie.Need-add-size
 add-size c = search needs
 
--- src/declared.rt:136:20
 mul-size-2 : tie.Need-mul-size-2
 mul-size-2 c = search needs
 
--- src/declared.rt:136:20
 shared-slice-read-size : tie.Need-shared-slice-read-size
 shared-slice-read-size c = search needs
 
--- src/declared.rt:137:29
 mul-result : tie.Need-mul-result
 mul-result c = search needs
 
--- src/declared.rt:137:29
 add-result : tie.Need-add-result
 add-result c = search needs
 
--- src/declared.rt:137:17
 mul-result-2 : tie.Need-mul-result-2
 mul-result-2 c = search needs
 
--- src/declared.rt:137:17
 shared-slice-read-result : tie.Need-shared-slice-read-result
 shared-slice-read-result c = search needs
 
--- src/declared.rt:137:57
 leaves-declared-requires : tie.Need-leaves-declared-requires
-leaves-declared-requires c κs = ?
+leaves-declared-requires c κs = let h = c .before .before .before .before .before .before .before .pre in
+    (h .0, leaves-of (h .1) (c .before .before .if1 .taken))
 
--- src/declared.rt:137:9
 returns : tie.Need-returns
-returns c = ?
+returns c = record { for-all = λ x h. let l = c .before .before .before .if1 .taken in
+    definition-asked h _ l (c .leaves-declared .ensures .for-all x (leaves-of h l)) }
 
--- src/declared.rt:130:1
 returns-2 : tie.Need-returns-2
-returns-2 c = ?
+returns-2 c = record { for-all = λ x h. definition-refused h _ (c .if1 .left) }
 
 pub definition-declared-spec : {M : Type 1} → statement M
 definition-declared-spec =

@@ -10,7 +10,7 @@ use mathlib.Core.List.{List, [], _∷_}
 use lib.Dec.{eqb}
 use lib.ListN.{length, getD}
 use borrow.Author.Tests.{eqb-true, eqb-false}
-use Rattle.grammar.specs.Decides.{Decides, all, any, allBelow}
+use Rattle.grammar.specs.Decides.{Decides, all, any, allBelow, allBelow-decides}
 
 -- something is held
 abbrev pub Some : {A : Type 0} → (A → Type 0) → Type 0
@@ -87,6 +87,24 @@ below-join f m zero = let e : m + 0 ≡ m = omega arith in
 below-join f m (suc n) = let e : m + suc n ≡ suc (m + n) = omega arith in
     rw e (below-more f (m + n) ∙ (ap (λ (t : Bool). t && f (m + n)) (below-join f m n) ∙ (and-assoc (allBelow m f) (allBelow n (λ i. f (m + i))) (f (m + n))
     ∙ ap (λ (t : Bool). allBelow m f && t) (sym (below-more (λ i. f (m + i)) n)))))
+
+-- two tests at once
+pub below-and : (f g : ℕ → Bool) (n : ℕ) → allBelow n (λ i. f i && g i) ≡ allBelow n f && allBelow n g
+unfolding allBelow
+below-and f g zero = refl
+below-and f g (suc n) =
+    below-more (λ i. f i && g i) n ∙ (ap (λ (t : Bool). t && (f n && g n)) (below-and f g n) ∙ (mixed (allBelow n f) (allBelow n g) (f n) (g n)
+    ∙ sym (ap₂ _&&_ (below-more f n) (below-more g n))))
+  where
+    mixed : (p q r s : Bool) → (p && q) && (r && s) ≡ (p && r) && (q && s)
+    mixed true true true s = refl
+    mixed true true false s = refl
+    mixed true false true s = refl
+    mixed true false false s = refl
+    mixed false q r s = refl
+
+pub below-at : (f : ℕ → Bool) (n i : ℕ) → allBelow n f ≡ true → i < n → f i ≡ true
+below-at f n i e l = allBelow-decides {f = f} (λ k. record { sound = λ h. h; complete = λ h. h }) n .sound e i l
 
 -- a test that fails of one number
 fails : (f : ℕ → Bool) (n i : ℕ) → i < n → f i ≡ false → allBelow n f ≡ false

@@ -8,25 +8,25 @@ use native.Mathlib.Omega.{arith}
 use lib.Dec.{eqb, ltb, leb}
 use lib.ListN.{length, getD}
 use borrow.Author.Tests.{ltb-true, ltb-false, lt-ltb, le-ltb, le-leb, lt-leb, leb-true, ne-eqb, eq-eqb}
-use Rattle.grammar.specs.Decides.{oneTo, all, allBelow}
+use Rattle.grammar.specs.Decides.{oneTo, oneTo-decides, all, allBelow}
 use Rattle.grammar.specs.Limits.{MAX-RULES}
 use Rattle.grammar.specs.Symbol.{Symbol, terminal, nonterminal, Rule, ruleAt, leftOf, rightOf}
 use Rattle.grammar.specs.Postfix.{Step, push, load, operate, select, postfix, length-postfix}
 use Rattle.grammar.specs.Term.{add, sub, min, max, nodes}
 use Rattle.grammar.specs.Book.{Place, own, at, val, InheritedDefinition, SynthesizedDefinition, Book as Lines}
 use Rattle.grammar.specs.Conditions.{WithinLimits}
-use Rattle.grammar.specs.ConditionTests.{allLeaves, oneNonterminal, rightSymbol, goSymbol, isPosition, declaredPlace, declaredInherited, declaredSynthesized, declaredKernel, declaredGo}
+use Rattle.grammar.specs.ConditionTests.{allLeaves, oneNonterminal, rightSymbol, goSymbol, isPosition, declaredPlace, declaredInherited, declaredSynthesized, declaredKernel, declaredGo, declared}
 use Rattle.grammar.specs.Ordered.{Ascends, ascends-[], ascends-∷, lookaheadKey, Lookaheads, Every, every-[], every-∷}
 use Rattle.grammar.specs.ConditionsLaws.{right-length}
 use Rattle.book.specs.declared.Book.{Book}
 use Rattle.book.specs.Layout.{codeOf, symbolCode, lastOf}
-use Rattle.book.specs.Held.{synthesizedAt, nodeAt, kernelAt, goAt, nodeKind, nodeFirst, nodeSecond}
+use Rattle.book.specs.Held.{synthesizedAt, nodeAt, kernelAt, goAt, nodeKind, nodeFirst, nodeSecond, RulesIn}
 use Rattle.book.specs.Lent.{Counted, RulesOf, RuleOf, Entry, LineIs, EntryOf, LeavesOf, KernelOf, GoesOf}
 use Rattle.book.specs.LentLaws.{synthesizedEntry}
 use Rattle.book.specs.Runs.{lead, before-lead}
-use Rattle.book.specs.Answers.{then-and, and-assoc, and-true, and-false, and-first}
+use Rattle.book.specs.Answers.{then-and, and-assoc, and-true, and-false, and-first, all-below, below-and, below-at}
 use Rattle.book.specs.Leaves.{ofLeaf}
-use Rattle.book.specs.DeclaredTests.{rightCode, goCode, startCode, placeCode, rightDeclared, leftDeclared, ruleDeclared, leavesDeclared, definitionDeclared, inheritedLineDeclared, kernelDeclared}
+use Rattle.book.specs.DeclaredTests.{rightCode, goCode, startCode, placeCode, rightDeclared, leftDeclared, ruleDeclared, leavesDeclared, definitionDeclared, inheritedLineDeclared, kernelDeclared, rulesDeclared, grammarDeclared, inheritedDeclared, synthesizedDeclared, kernelsDeclared, goesDeclared}
 
 one-past : (n k : ℕ) → n < k → oneTo n k ≡ false
 unfolding oneTo
@@ -300,3 +300,60 @@ module _ {numbers : Book} {rules : List ℕ} {P : ℕ} {b : Lines} (h : RuleOf n
   pub rule-first : {r : Bool} → P ≤ 0 → r ≡ rightDeclared P b → r ≡ ruleDeclared P b
   unfolding ruleDeclared
   rule-first l e = e ∙ sym (ap (λ (t : Bool). t && rightDeclared P b) (left-first P b l))
+
+-- Rule 0, where its right symbols are declared
+
+code-low : (base K : ℕ) → K < 32 → codeOf base K ≡ base + K
+unfolding codeOf
+code-low base K h = rw (lt-ltb K 32 h, codeOf)
+
+module _ {b : Lines} (w : WithinLimits b) where
+  first-declared : (X : Symbol) (β : List Symbol) → all (rightSymbol b) (X ∷ β) ≡ true → rightSymbol b X ≡ true
+  unfolding all
+  first-declared X β d = and-first (rightSymbol b X) (all (rightSymbol b) β) (sym (then-and (rightSymbol b X) (all (rightSymbol b) β)) ∙ d)
+
+  one-code : (β : List Symbol) (n code : ℕ) → n ≡ length β → (0 < length β → code ≡ symbolCode (getD β 0 (terminal 0))) → all (rightSymbol b) β ≡ true
+      → eqb n 1 && leb 32 code ≡ oneNonterminal β
+  unfolding oneNonterminal symbolCode rightSymbol
+  one-code [] n code e f d = rw e
+  one-code (terminal t ∷ β) n code e f d =
+      let small : t ≤ b .terminals = oneTo-decides (b .terminals) t .sound (first-declared (terminal t) β d) .high in
+      let is : code ≡ 0 + t = f (omega arith) ∙ code-low 0 t (omega (arith, w .terminals-limit .high)) in
+      rw (lt-leb 32 code (omega (arith, w .terminals-limit .high))) (and-false (eqb n 1))
+  one-code (nonterminal B ∷ []) n code e f d =
+      let small : B ≤ b .nonterminals = oneTo-decides (b .nonterminals) B .sound (first-declared (nonterminal B) [] d) .high in
+      let is : code ≡ 32 + B = f (omega arith) ∙ code-low 32 B (omega (arith, w .nonterminals-limit .high)) in
+      rw (e, le-leb 32 code (omega arith))
+  one-code (nonterminal B ∷ X ∷ β) n code e f d = rw (ne-eqb n 1 (λ q. omega arith))
+
+  pub start-code : {rules : List ℕ} → RulesIn (b .rules) rules → rightDeclared 0 b ≡ true
+      → startCode rules ≡ eqb (leftOf (b .rules) 0) 0 && oneNonterminal (rightOf (b .rules) 0)
+  unfolding startCode rightDeclared
+  start-code {rules} h d =
+      and-assoc (eqb (getD rules 0 0) 0) (eqb (getD rules 1 0) 1) (leb 32 (getD rules 2 0))
+      ∙ ap₂ _&&_ (ap (λ (A : ℕ). eqb A 0) (h .left-is 0 (w .rules-limit .low)))
+      (one-code (rightOf (b .rules) 0) (getD rules 1 0) (getD rules 2 0) (h .size-is 0 (w .rules-limit .low))
+      (λ l. h .symbol-is 0 0 (w .rules-limit .low) l (omega arith)) d)
+
+-- The parts make the whole
+
+and-when : {s s′ : Bool} (l r : Bool) → (r ≡ true → s′ ≡ s) → s′ && (l && r) ≡ s && l && r
+and-when {s} {s′} l true h = rw (h refl) (sym (and-assoc s l true))
+and-when {s} {s′} l false h = rw (and-false l) (and-false s′ ∙ sym (and-false (s && l)))
+
+pub start-rules : {rules : List ℕ} {b : Lines} → WithinLimits b → RulesIn (b .rules) rules
+    → startCode rules && rulesDeclared b
+    ≡ eqb (leftOf (b .rules) 0) 0 && oneNonterminal (rightOf (b .rules) 0) && allBelow (length (b .rules)) (λ P. leftDeclared P b)
+    && all (λ r. all (rightSymbol b) (r .right)) (b .rules)
+unfolding rulesDeclared ruleDeclared rightDeclared ruleAt
+start-rules {rules} {b} w h =
+    let rights : all (λ r. all (rightSymbol b) (r .right)) (b .rules) ≡ allBelow (length (b .rules)) (λ P. rightDeclared P b) =
+    all-below (λ r. all (rightSymbol b) (r .right)) _ (b .rules) in
+    ap (λ (t : Bool). startCode rules && t)
+    (below-and (λ P. leftDeclared P b) (λ P. rightDeclared P b) (length (b .rules)) ∙ ap (λ (t : Bool). allBelow (length (b .rules)) (λ P. leftDeclared P b) && t) (sym rights))
+    ∙ and-when (allBelow (length (b .rules)) (λ P. leftDeclared P b)) (all (λ r. all (rightSymbol b) (r .right)) (b .rules))
+    (λ e. start-code w h (below-at (λ P. rightDeclared P b) (length (b .rules)) 0 (sym rights ∙ e) (w .rules-limit .low)))
+
+pub declared-parts : (b : Lines) → grammarDeclared b && (inheritedDeclared b && synthesizedDeclared b) && (kernelsDeclared b && goesDeclared b) ≡ declared b
+unfolding grammarDeclared leftDeclared inheritedDeclared synthesizedDeclared kernelsDeclared goesDeclared declared
+declared-parts b = refl

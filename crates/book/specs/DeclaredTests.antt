@@ -10,6 +10,7 @@ use Rattle.grammar.specs.Symbol.{leftOf, rightOf}
 use Rattle.grammar.specs.Book.{Book as Lines}
 use Rattle.grammar.specs.ConditionTests.{
   allLeaves,
+  oneNonterminal,
   rightSymbol,
   declaredPlace,
   declaredInherited,
@@ -52,6 +53,13 @@ ruleDeclared P b = leftDeclared P b && rightDeclared P b
 unfoldable pub rulesDeclared : Lines → Bool
 rulesDeclared b = allBelow (length (b .rules)) (λ P. ruleDeclared P b)
 
+-- owners and rules
+unfoldable pub grammarDeclared : Lines → Bool
+grammarDeclared b =
+    (all (oneTo (b .nonterminals)) (b .inheritedOwners) && all (oneTo (b .nonterminals)) (b .synthesizedOwners))
+    && (eqb (leftOf (b .rules) 0) 0 && oneNonterminal (rightOf (b .rules) 0) && allBelow (length (b .rules)) (λ P. leftDeclared P b)
+    && all (λ r. all (rightSymbol b) (r .right)) (b .rules))
+
 -- definitions
 unfoldable pub leavesDeclared : Entry → Bool
 leavesDeclared x = allLeaves (declaredPlace (x .book) (x .line .rule)) (x .line .expression)
@@ -80,6 +88,6 @@ goesDeclared b = all (declaredGo b) (b .goes)
 
 -- opens every definition of this module
 unfoldable pub opens : Unit {0}
-unfolding rightCode goCode startCode placeCode rightDeclared leftDeclared ruleDeclared rulesDeclared leavesDeclared definitionDeclared inheritedLineDeclared inheritedDeclared
+unfolding rightCode goCode startCode placeCode rightDeclared leftDeclared ruleDeclared rulesDeclared grammarDeclared leavesDeclared definitionDeclared inheritedLineDeclared inheritedDeclared
     synthesizedDeclared kernelDeclared kernelsDeclared goesDeclared
 opens = tt

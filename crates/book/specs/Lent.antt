@@ -2,6 +2,7 @@
 -- Assumes nothing.
 use Prim.Native.Nat.{ℕ, _+_, _*_, _≤_, _<_}
 use mathlib.Core.Path.{_≡_}
+use mathlib.Core.Bool.{true}
 use mathlib.Core.List.{List}
 use lib.ListN.{length, getD}
 use Rattle.grammar.specs.Limits.{MAX-INHERITED, MAX-SYNTHESIZED, MAX-RIGHT, MAX-DEFINITIONS, MAX-NODES}
@@ -9,6 +10,7 @@ use Rattle.grammar.specs.Symbol.{Rule, rightOf}
 use Rattle.grammar.specs.Term.{nodes}
 use Rattle.grammar.specs.Book.{InheritedDefinition, Kernel, Book as Lines}
 use Rattle.grammar.specs.Conditions.{WithinLimits}
+use Rattle.grammar.specs.ConditionTests.{withinLimits}
 use Rattle.grammar.specs.Ordered.{Ascending, kernelKey, Ordered}
 use Rattle.book.specs.declared.Book.{Book}
 use Rattle.book.specs.Held.{OwnersIn, RulesIn, DefinitionIn, DefinitionsIn, KernelsIn, GoesIn, kept}
@@ -112,3 +114,15 @@ pub record GoesOf (numbers : Book) (goes : List ℕ) (b : Lines) : Type 0 where
   pub counted : Counted numbers b
   pub within : WithinLimits b
   pub goes-in : GoesIn (b .goes) goes
+
+-- owners and rules
+pub record GrammarOf (numbers : Book) (inherited synthesized rules : List ℕ) (b : Lines) : Type 0 where
+  pub rules-of : RulesOf numbers rules b
+  pub inherited-in : OwnersIn MAX-INHERITED (b .inheritedOwners) inherited
+  pub synthesized-in : OwnersIn MAX-SYNTHESIZED (b .synthesizedOwners) synthesized
+
+-- a whole book within its limits
+pub record Within (numbers : Book) (inherited synthesized rules definitions kernels goes : List ℕ) (b : Lines) : Type 0 where
+  pub lent : Lent numbers inherited synthesized rules definitions kernels b
+  pub goes-in : GoesIn (b .goes) goes
+  pub within : withinLimits b ≡ true

@@ -7,11 +7,13 @@ use native.Mathlib.Omega.{arith}
 use lib.ListN.{length, getD, take, length-take}
 use lib.Seq.{getD-take, ext-getD}
 use Rattle.grammar.specs.Book.{SynthesizedDefinition, Book as Lines}
+use Rattle.grammar.specs.Conditions.{WithinLimits}
+use Rattle.grammar.specs.ConditionTestsLaws.{withinLimits-decides}
 use Rattle.grammar.specs.ConditionsLaws.{right-length}
 use Rattle.book.specs.declared.Book.{Book}
 use Rattle.book.specs.Held.{inheritedAt, synthesizedAt, OwnersIn, HasRoom, kept}
 use Rattle.book.specs.HeldLaws.{kept-all}
-use Rattle.book.specs.Lent.{Counted, RuleLines, DefinitionLines, KernelLines, Kept, Lent, RulesOf, RuleOf, DefinitionsOf, Entry, EntryOf}
+use Rattle.book.specs.Lent.{Counted, RuleLines, DefinitionLines, KernelLines, Kept, Lent, RulesOf, RuleOf, DefinitionsOf, Entry, EntryOf, KernelsOf, GoesOf, GrammarOf, Within}
 
 -- where there is room, what is kept is all
 pub lent-kept : {numbers : Book} {inherited synthesized rules definitions kernels : List ℕ} {b : Lines}
@@ -98,3 +100,25 @@ module _ {numbers : Book} {rules definitions : List ℕ} {b : Lines} (h : Defini
           line-in = rw e (h .definitions-in .synthesized-is i l);
         };
       }
+
+-- The parts of a whole book within its limits
+
+module _ {numbers : Book} {inherited synthesized rules definitions kernels goes : List ℕ} {b : Lines}
+    (h : Within numbers inherited synthesized rules definitions kernels goes b) where
+  pub within-limits : WithinLimits b
+  within-limits = withinLimits-decides b .sound (h .within)
+
+  pub rules-of : RulesOf numbers rules b
+  rules-of = record { counted = h .lent .counted; within = within-limits; rules-in = h .lent .rules-in }
+
+  pub grammar-of : GrammarOf numbers inherited synthesized rules b
+  grammar-of = record { rules-of = rules-of; inherited-in = h .lent .inherited-in; synthesized-in = h .lent .synthesized-in }
+
+  pub definitions-of : DefinitionsOf numbers rules definitions b
+  definitions-of = record { rules-of = rules-of; definitions-in = h .lent .definitions-in }
+
+  pub kernels-of : KernelsOf numbers rules kernels b
+  kernels-of = record { rules-of = rules-of; ordered = h .lent .ordered; kernels-in = h .lent .kernels-in }
+
+  pub goes-of : GoesOf numbers goes b
+  goes-of = record { counted = h .lent .counted; within = within-limits; goes-in = h .goes-in }

@@ -2,9 +2,10 @@
 ghost use mathlib.Core.Path.{_≡_};
 ghost use Prim.Native.Nat.{_<_};
 ghost use Rattle.grammar.specs.Decides.{oneTo, all};
+ghost use Rattle.grammar.specs.ConditionTests.{declared};
 ghost use Rattle.book.specs.Answers.{Some, Answers};
-ghost use Rattle.book.specs.Lent.{RulesOf, RuleOf, LeavesOf, EntryOf, DefinitionsOf, KernelsOf, KernelOf, GoesOf};
-ghost use Rattle.book.specs.DeclaredTests.{rightCode, goCode, startCode, placeCode, rightDeclared, ruleDeclared, rulesDeclared, leavesDeclared, definitionDeclared, inheritedLineDeclared, inheritedDeclared, synthesizedDeclared, kernelDeclared, kernelsDeclared, goesDeclared};
+ghost use Rattle.book.specs.Lent.{RulesOf, RuleOf, LeavesOf, EntryOf, DefinitionsOf, KernelsOf, KernelOf, GoesOf, GrammarOf, Within};
+ghost use Rattle.book.specs.DeclaredTests.{rightCode, goCode, startCode, placeCode, rightDeclared, ruleDeclared, rulesDeclared, leavesDeclared, definitionDeclared, inheritedLineDeclared, inheritedDeclared, synthesizedDeclared, kernelDeclared, kernelsDeclared, goesDeclared, grammarDeclared};
 
 use super::Book;
 use super::limits::one_to;
@@ -224,4 +225,31 @@ fn goes_declared(book: Book, goes: &[u32]) -> bool
         i += 1;
     }
     true
+}
+
+// Whether owners and rules are declared.
+fn grammar_declared(book: Book, inherited: &[u32], synthesized: &[u32], rules: &[u32]) -> bool
+    requires { ⌜ Some (GrammarOf book (now inherited) (now synthesized) (now rules)) ⌝ }
+    ensures { λ r. ⌜ Answers (GrammarOf book (now (inherited .entry)) (now (synthesized .entry)) (now (rules .entry))) grammarDeclared r ⌝ }
+{
+    let n = book.nonterminals;
+    let i = book.inherited as usize;
+    let s = book.synthesized as usize;
+    let owners = owners_declared(&inherited[..i], n) & owners_declared(&synthesized[..s], n);
+    owners & (start_declared(book, rules) & rules_declared(book, rules))
+}
+
+// Whether every name, rule, position and state that the book mentions is declared.
+pub fn declared(book: Book, inherited: &[u32], synthesized: &[u32], rules: &[u32], definitions: &[u32], kernels: &[u32], goes: &[u32]) -> bool
+    requires { ⌜ Some (Within book (now inherited) (now synthesized) (now rules) (now definitions) (now kernels) (now goes)) ⌝ }
+    ensures {
+        λ r. ⌜ Answers
+            (Within book (now (inherited .entry)) (now (synthesized .entry)) (now (rules .entry)) (now (definitions .entry)) (now (kernels .entry)) (now (goes .entry)))
+            declared r ⌝
+    }
+{
+    let grammar = grammar_declared(book, inherited, synthesized, rules);
+    let attributes = inherited_declared(book, rules, definitions) & synthesized_declared(book, rules, definitions);
+    let states = kernels_declared(book, rules, kernels) & goes_declared(book, goes);
+    grammar & attributes & states
 }

@@ -10,7 +10,7 @@ use mathlib.Core.List.{List, [], _∷_}
 use lib.Dec.{eqb}
 use lib.ListN.{length, getD}
 use borrow.Author.Tests.{eqb-true, eqb-false}
-use Rattle.grammar.specs.Conditions.Decides.{Decides, all, any, allBelow}
+use Rattle.grammar.specs.Conditions.Decides.{Decides, all, any, allBelow, allBelow-decides}
 
 -- something is held
 abbrev pub Some : {A : Type 0} → (A → Type 0) → Type 0
@@ -22,6 +22,10 @@ pub record Answers {A : Type 0} (H : A → Type 0) (test : A → Bool) (r : Bool
 
 pub answers-same : {A : Type 0} {H : A → Type 0} {s t : A → Bool} {r : Bool} → ((x : A) → H x → s x ≡ t x) → Answers H s r → Answers H t r
 answers-same e a = record { for-all = λ x h. a .for-all x h ∙ e x h }
+
+-- what answers for more answers for less
+pub answers-where : {A : Type 0} {H H′ : A → Type 0} {t : A → Bool} {r : Bool} → ((x : A) → H x → H′ x) → Answers H′ t r → Answers H t r
+answers-where f a = record { for-all = λ x h. a .for-all x (f x h) }
 
 -- two tests of one statement are the same
 pub same-test : {s t : Bool} {A : Type 0} → Decides s A → Decides t A → s ≡ t
@@ -36,13 +40,21 @@ pub then-and : (s t : Bool) → elim s [ true ↦ t | false ↦ false ] ≡ s &&
 then-and true t = refl
 then-and false t = refl
 
-and-assoc : (r s t : Bool) → (r && s) && t ≡ r && (s && t)
+pub and-assoc : (r s t : Bool) → (r && s) && t ≡ r && (s && t)
 and-assoc true s t = refl
 and-assoc false s t = refl
 
-and-true : (t : Bool) → t && true ≡ t
+pub and-true : (t : Bool) → t && true ≡ t
 and-true true = refl
 and-true false = refl
+
+pub and-false : (t : Bool) → t && false ≡ false
+and-false true = refl
+and-false false = refl
+
+pub and-first : (s t : Bool) → s && t ≡ true → s ≡ true
+and-first true t e = refl
+and-first false t e = e
 
 below-more : (f : ℕ → Bool) (n : ℕ) → allBelow (suc n) f ≡ allBelow n f && f n
 unfolding allBelow
@@ -76,16 +88,30 @@ below-join f m (suc n) = let e : m + suc n ≡ suc (m + n) = omega arith in
     rw e (below-more f (m + n) ∙ (ap (λ (t : Bool). t && f (m + n)) (below-join f m n) ∙ (and-assoc (allBelow m f) (allBelow n (λ i. f (m + i))) (f (m + n))
     ∙ ap (λ (t : Bool). allBelow m f && t) (sym (below-more (λ i. f (m + i)) n)))))
 
+-- two tests at once
+pub below-and : (f g : ℕ → Bool) (n : ℕ) → allBelow n (λ i. f i && g i) ≡ allBelow n f && allBelow n g
+unfolding allBelow
+below-and f g zero = refl
+below-and f g (suc n) =
+    below-more (λ i. f i && g i) n ∙ (ap (λ (t : Bool). t && (f n && g n)) (below-and f g n) ∙ (mixed (allBelow n f) (allBelow n g) (f n) (g n)
+    ∙ sym (ap₂ _&&_ (below-more f n) (below-more g n))))
+  where
+    mixed : (p q r s : Bool) → (p && q) && (r && s) ≡ (p && r) && (q && s)
+    mixed true true true s = refl
+    mixed true true false s = refl
+    mixed true false true s = refl
+    mixed true false false s = refl
+    mixed false q r s = refl
+
+pub below-at : (f : ℕ → Bool) (n i : ℕ) → allBelow n f ≡ true → i < n → f i ≡ true
+below-at f n i e l = allBelow-decides {f = f} (λ k. record { sound = λ h. h; complete = λ h. h }) n .sound e i l
+
 -- a test that fails of one number
 fails : (f : ℕ → Bool) (n i : ℕ) → i < n → f i ≡ false → allBelow n f ≡ false
 unfolding allBelow
 fails f zero i h e = absurd (omega arith)
 fails f (suc n) i h e = below-more f n ∙ go (λ l. fails f n i l e) (eqb i n) refl
   where
-    and-false : (t : Bool) → t && false ≡ false
-    and-false true = refl
-    and-false false = refl
-
     go : (i < n → allBelow n f ≡ false) → (t : Bool) → eqb i n ≡ t → allBelow n f && f n ≡ false
     go further true q = ap (λ (t : Bool). allBelow n f && t) (ap f (sym (eqb-true i n q)) ∙ e) ∙ and-false (allBelow n f)
     go further false q = let d : i ≡ n → ⊥ = eqb-false i n q in ap (λ (t : Bool). t && f n) (further (omega arith))

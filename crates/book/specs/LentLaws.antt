@@ -2,15 +2,18 @@
 -- Assumes nothing.
 use Prim.Native.Nat.{ℕ, zero, suc, _+_, _<_}
 use mathlib.Core.Path.{_≡_, refl, sym, ap, ap₂, _∙_}
-use mathlib.Core.List.{List, [], _∷_}
+use mathlib.Core.List.{List, [], _∷_, List·Memᴰ as Mem, List·Memᴰ·head as in-head, List·Memᴰ·tail as in-tail}
 use native.Mathlib.Omega.{arith}
 use lib.ListN.{length, getD, take, length-take}
 use lib.Seq.{getD-take, ext-getD}
-use Rattle.grammar.specs.Data.Book.{Book as Lines}
+use Rattle.grammar.specs.Data.Book.{SynthesizedDefinition, Book as Lines}
+use Rattle.grammar.specs.Conditions.Meaning.{WithinLimits}
+use Rattle.grammar.specs.Conditions.TestsLaws.{withinLimits-decides}
+use Rattle.grammar.specs.Conditions.MeaningLaws.{right-length}
 use Rattle.book.specs.declared.Book.{Book}
-use Rattle.book.specs.Held.{OwnersIn, HasRoom, kept}
+use Rattle.book.specs.Held.{inheritedAt, synthesizedAt, OwnersIn, HasRoom, kept}
 use Rattle.book.specs.HeldLaws.{kept-all}
-use Rattle.book.specs.Lent.{Counted, RuleLines, DefinitionLines, KernelLines, Kept, Lent}
+use Rattle.book.specs.Lent.{Counted, RuleLines, DefinitionLines, KernelLines, Kept, Lent, RulesOf, RuleOf, DefinitionsOf, Entry, EntryOf, KernelsOf, GoesOf, GrammarOf, Within}
 
 -- where there is room, what is kept is all
 pub lent-kept : {numbers : Book} {inherited synthesized rules definitions kernels : List ℕ} {b : Lines}
@@ -53,3 +56,69 @@ module _ {numbers : Book} {inherited synthesized rules definitions kernels : Lis
 
   pub kernel-lines : KernelLines kernels (numbers .kernels) (b .kernels)
   kernel-lines = record { count = h .counted .kernels-are; lines = h .kernels-in; ascend = h .ordered .kernels }
+
+pub rule-of : {numbers : Book} {rules : List ℕ} {b : Lines} (P : ℕ) → RulesOf numbers rules b → P < length (b .rules) → RuleOf numbers rules P b
+rule-of P h l = record { rules-of = h; rule-there = l; size-is = h .rules-in .size-is P l; few-right = right-length (h .within) P }
+
+member-at : {A : Type 0} (xs : List A) (i : ℕ) (d : A) → i < length xs → Mem (getD xs i d) xs
+member-at [] i d l = absurd (omega arith)
+member-at (x ∷ xs) zero d l = in-head refl
+member-at (x ∷ xs) (suc i) d l = in-tail (member-at xs i d (omega arith))
+
+-- A definition's line and its rule
+
+abbrev pub inheritedEntry : Lines → ℕ → Entry
+inheritedEntry b i = record { book = b; line = inheritedAt (b .inheritedDefinitions) i }
+
+abbrev pub synthesizedEntry : Lines → ℕ → Entry
+synthesizedEntry b i =
+    let d : SynthesizedDefinition = synthesizedAt (b .synthesizedDefinitions) i in
+    record { book = b; line = record { rule = d .rule; position = 0; attribute = d .attribute; expression = d .expression } }
+
+module _ {numbers : Book} {rules definitions : List ℕ} {b : Lines} (h : DefinitionsOf numbers rules definitions b) (i : ℕ) where
+  pub inherited-entry : i < length (b .inheritedDefinitions) → EntryOf numbers rules definitions i (inheritedEntry b i)
+  inherited-entry l =
+      record {
+        rules-of = h .rules-of;
+        line-is = record {
+          long = h .definitions-in .long;
+          room = omega (arith, h .definitions-in .fits);
+          few-nodes = h .rules-of .within .inherited-nodes _ (member-at (b .inheritedDefinitions) i _ l);
+          line-in = h .definitions-in .inherited-is i l;
+        };
+      }
+
+  pub synthesized-entry : {n : ℕ} → n ≡ length (b .inheritedDefinitions) → i < length (b .synthesizedDefinitions)
+      → EntryOf numbers rules definitions (n + i) (synthesizedEntry b i)
+  synthesized-entry e l =
+      record {
+        rules-of = h .rules-of;
+        line-is = record {
+          long = h .definitions-in .long;
+          room = omega (arith, h .definitions-in .fits);
+          few-nodes = h .rules-of .within .synthesized-nodes _ (member-at (b .synthesizedDefinitions) i _ l);
+          line-in = rw e (h .definitions-in .synthesized-is i l);
+        };
+      }
+
+-- The parts of a whole book within its limits
+
+module _ {numbers : Book} {inherited synthesized rules definitions kernels goes : List ℕ} {b : Lines}
+    (h : Within numbers inherited synthesized rules definitions kernels goes b) where
+  pub within-limits : WithinLimits b
+  within-limits = withinLimits-decides b .sound (h .within)
+
+  pub rules-of : RulesOf numbers rules b
+  rules-of = record { counted = h .lent .counted; within = within-limits; rules-in = h .lent .rules-in }
+
+  pub grammar-of : GrammarOf numbers inherited synthesized rules b
+  grammar-of = record { rules-of = rules-of; inherited-in = h .lent .inherited-in; synthesized-in = h .lent .synthesized-in }
+
+  pub definitions-of : DefinitionsOf numbers rules definitions b
+  definitions-of = record { rules-of = rules-of; definitions-in = h .lent .definitions-in }
+
+  pub kernels-of : KernelsOf numbers rules kernels b
+  kernels-of = record { rules-of = rules-of; ordered = h .lent .ordered; kernels-in = h .lent .kernels-in }
+
+  pub goes-of : GoesOf numbers goes b
+  goes-of = record { counted = h .lent .counted; within = within-limits; goes-in = h .goes-in }

@@ -1,5 +1,7 @@
 pub mod Answers
 pub mod Counts
+pub mod DeclaredLaws
+pub mod DeclaredTests
 pub mod Definitions
 pub mod DefinitionsHeld
 pub mod DefinitionsLaws
@@ -15,6 +17,7 @@ pub mod HeldLaws
 pub mod KernelLines
 pub mod Layout
 pub mod LayoutLaws
+pub mod Leaves
 pub mod Lent
 pub mod LentLaws
 pub mod LimitLaws

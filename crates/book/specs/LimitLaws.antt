@@ -45,8 +45,8 @@ use Rattle.grammar.specs.Limits.{
 }
 use Rattle.grammar.specs.Data.Term.{nodes}
 use Rattle.grammar.specs.Data.Book.{InheritedDefinition, SynthesizedDefinition, Kernel, Book as Lines}
-use Rattle.grammar.specs.Format.Ordered.{Before, before-empty, before-less, before-same, Ascends, ascends-[], ascends-∷, kernelKey}
-use Rattle.book.specs.Runs.{count-same, count-other, few-front, Sorted, sorted-[], sorted-∷, apart, few-sorted}
+use Rattle.grammar.specs.Format.Ordered.{Ascends, ascends-[], ascends-∷, kernelKey}
+use Rattle.book.specs.Runs.{lead, before-lead, count-same, count-other, few-front, Sorted, sorted-[], sorted-∷, apart, few-sorted}
 use Rattle.book.specs.Answers.{below-same, below-join, all-below, same-test}
 use Rattle.book.specs.Lent.{DefinitionLines, KernelLines}
 use Rattle.book.specs.Held.{HasRoom}
@@ -114,16 +114,6 @@ nodes-lines {definitions} {n} b h =
     (below-same (length synthesized) (λ i l. ap (λ k. leb k MAX-NODES) (h .lines .synthesized-is i l .nodes-is)) ∙ sym (all-below (λ d. leb (nodes (d .expression)) MAX-NODES) _ synthesized)))
 
 -- The states of kernel lines ascend
-
-lead : List ℕ → ℕ
-lead [] = 0
-lead (x ∷ xs) = x
-
-before-lead : {xs ys : List ℕ} → Before xs ys → lead xs ≤ lead ys
-unfolding lead
-before-lead before-empty = zero-le
-before-lead (before-less h) = omega arith
-before-lead (before-same b) = omega arith
 
 not-below : {last : List ℕ} {ks : List Kernel} → Ascends kernelKey last ks → (j : ℕ) → j < length (map (λ k. k .state) ks)
     → lead last ≤ getD (map (λ k. k .state) ks) j 0

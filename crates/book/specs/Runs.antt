@@ -1,6 +1,6 @@
 -- Numbers that repeat: of ascending numbers those that are equal stand together, so that one stands more than m + 1 times exactly if two that are
 -- m + 1 places apart are equal. Assumes nothing.
-use Prim.Native.Nat.{ℕ, zero, suc, _+_, _-_, _≤_, _<_}
+use Prim.Native.Nat.{ℕ, zero, suc, _+_, _-_, _≤_, _<_, zero-le}
 use mathlib.Core.Path.{_≡_, refl, sym, ap, ap₂, _∙_}
 use mathlib.Core.Bool.{Bool, true, false, _&&_, not}
 use mathlib.Core.List.{List, [], _∷_}
@@ -9,7 +9,19 @@ use lib.Dec.{eqb, ltb}
 use lib.ListN.{length, getD}
 use borrow.Author.Tests.{eq-eqb, ne-eqb, eqb-true, eqb-false, lt-ltb, le-ltb, ltb-true, ltb-false}
 use Rattle.grammar.specs.Conditions.Decides.{lt-decides, equivalent, count, few, allBelow}
+use Rattle.grammar.specs.Format.Ordered.{Before, before-empty, before-less, before-same}
 use Rattle.book.specs.Answers.{then-and, below-front, below-same, same-test}
+
+-- the first number of a key
+unfoldable pub lead : List ℕ → ℕ
+lead [] = 0
+lead (x ∷ xs) = x
+
+pub before-lead : {xs ys : List ℕ} → Before xs ys → lead xs ≤ lead ys
+unfolding lead
+before-lead before-empty = zero-le
+before-lead (before-less h) = omega arith
+before-lead (before-same b) = omega arith
 
 pub count-same : (k x : ℕ) (l : List ℕ) → x ≡ k → count k (x ∷ l) ≡ suc (count k l)
 unfolding count
@@ -96,3 +108,8 @@ module _ (m : ℕ) where
           let e : suc (length l) - suc m ≡ 0 = omega arith in
           let f : length l - suc m ≡ 0 = omega arith in
           rw (e, lt-ltb (count x l) (suc m) (omega (arith, count-le x l))) (rest ∙ rw f)
+
+-- opens every definition of this module
+unfoldable pub opens : Unit {0}
+unfolding lead
+opens = tt

@@ -1,4 +1,5 @@
 // Reading a book's text into arrays, and its conditions 2 to 6.
+pub mod declared;
 pub mod definitions;
 pub mod expression;
 pub mod goes;

@@ -1,7 +1,4 @@
-pub mod Answers
 pub mod Counts
-pub mod DeclaredLaws
-pub mod DeclaredTests
 pub mod Definitions
 pub mod DefinitionsHeld
 pub mod DefinitionsLaws
@@ -17,16 +14,9 @@ pub mod HeldLaws
 pub mod KernelLines
 pub mod Layout
 pub mod LayoutLaws
-pub mod Leaves
-pub mod Lent
-pub mod LentLaws
-pub mod LimitLaws
-pub mod LimitTests
 pub mod Lines
 pub mod Order
 pub mod Parts
-pub mod Runs
 pub mod Sections
 pub mod Spelling
-pub mod SpellingHeld
 pub mod SpellingLaws

@@ -1,11 +1,9 @@
-// Reading a book's text into arrays, and its conditions 2 to 6.
-pub mod declared;
+// Reading a book's text into arrays: condition 2, and what the arrays then hold.
 pub mod definitions;
 pub mod expression;
 pub mod goes;
 pub mod header;
 pub mod kernels;
-pub mod limits;
 pub mod order;
 pub mod owners;
 pub mod reading;

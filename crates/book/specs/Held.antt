@@ -19,7 +19,7 @@ use Rattle.grammar.specs.Data.Term.{number, nodes, add, sub, min, max}
 use Rattle.grammar.specs.Data.Postfix.{Step, push, load, operate, select, postfix}
 use Rattle.grammar.specs.Data.Book.{Place, own, at, val, Expr, InheritedDefinition, SynthesizedDefinition, Kernel, Go, Book, ownerAt}
 use Rattle.grammar.specs.Automaton.ClosureSets.{setOf}
-use Rattle.book.specs.Layout.{symbolCode, lastOf}
+use Rattle.book.specs.Layout.{symbolCode, lastOf, definitionWords}
 
 -- The line of a number in each list; past the last, one that nothing reads
 
@@ -68,6 +68,14 @@ nodeSecond (load (val J)) = 0
 nodeSecond (operate o) = 0
 nodeSecond select = 0
 
+-- The words of each kind's definitions; a synthesized attribute's has position 0
+
+abbrev pub inheritedWords : InheritedDefinition → List ℕ
+inheritedWords d = definitionWords (d .rule) (d .position) (d .attribute) (postfix (d .expression))
+
+abbrev pub synthesizedWords : SynthesizedDefinition → List ℕ
+synthesizedWords d = definitionWords (d .rule) 0 (d .attribute) (postfix (d .expression))
+
 -- the owners of a kind's attributes
 pub record OwnersIn (room : ℕ) (owners array : List ℕ) : Type 0 where
   pub long : length array ≡ room
@@ -96,7 +104,7 @@ pub record DefinitionIn (P J K : ℕ) (e : Expr) (definitions : List ℕ) (i : �
   pub nodes-is : getD definitions (49 * i + 3) 0 ≡ nodes e
   pub node-is : (n : ℕ) → n < nodes e → n < MAX-NODES → NodeIn (nodeAt e n) definitions (49 * i + 4 + 3 * n)
 
--- the inherited attributes' definitions, and after them the synthesized ones', whose position is 0
+-- the inherited attributes' definitions, and after them the synthesized ones'
 pub record DefinitionsIn (inherited : List InheritedDefinition) (synthesized : List SynthesizedDefinition) (definitions : List ℕ) : Type 0 where
   pub long : length definitions ≡ 49 * MAX-DEFINITIONS
   pub fits : length inherited + length synthesized ≤ MAX-DEFINITIONS
@@ -131,7 +139,16 @@ pub record Held (b : Book) (inherited synthesized rules definitions kernels goes
   pub kernels-in : KernelsIn (b .kernels) kernels
   pub goes-in : GoesIn (b .goes) goes
 
--- the part of a book that has room: of each kind the lines that an array keeps, while the limits are still to be asked
+-- no kind has more lines than its array has room for
+pub record HasRoom (b : Book) : Type 0 where
+  pub inherited-room : length (b .inheritedOwners) ≤ MAX-INHERITED
+  pub synthesized-room : length (b .synthesizedOwners) ≤ MAX-SYNTHESIZED
+  pub rules-room : length (b .rules) ≤ MAX-RULES
+  pub definitions-room : length (b .inheritedDefinitions) + length (b .synthesizedDefinitions) ≤ MAX-DEFINITIONS
+  pub kernels-room : length (b .kernels) ≤ MAX-KERNELS
+  pub goes-room : length (b .goes) ≤ MAX-GOES
+
+-- of each kind the lines that have room, which are kept while the limits are still to be asked
 unfoldable pub kept : Book → Book
 kept b = record {
   terminals = b .terminals;

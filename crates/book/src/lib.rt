@@ -1,1 +1,91 @@
-// Reading a book's text into arrays, and its conditions 2 to 6.
+// Reading a book's text into arrays: condition 2, and what the arrays then hold.
+pub mod definitions;
+pub mod expression;
+pub mod goes;
+pub mod header;
+pub mod kernels;
+pub mod order;
+pub mod owners;
+pub mod reading;
+pub mod rules;
+pub mod spelling;
+pub mod store;
+pub mod symbol;
+
+ghost use mathlib.Core.Path.{_≡_};
+ghost use Rattle.book.specs.Counts.{nothing};
+
+// The lines of one kind: how many there are, and where the text goes on.
+pub struct Section {
+    pub count: u32,
+    pub at: usize,
+}
+
+// The numbers of a book: what its first line says, and how many lines of each kind it has.
+pub struct Book {
+    pub terminals: u32,
+    pub nonterminals: u32,
+    pub states: u32,
+    pub inherited: u32,
+    pub synthesized: u32,
+    pub rules: u32,
+    pub inherited_definitions: u32,
+    pub synthesized_definitions: u32,
+    pub kernels: u32,
+    pub goes: u32,
+}
+
+impl Book {
+    pub const MAX_TERMINALS: u32 = 31;
+
+    pub const MAX_NONTERMINALS: u32 = 31;
+
+    pub const MAX_STATES: u32 = 128;
+
+    pub const MAX_INHERITED: u32 = 16;
+
+    pub const MAX_SYNTHESIZED: u32 = 32;
+
+    // Attributes of each kind that one nonterminal has.
+    pub const MAX_OWNED: u32 = 4;
+
+    pub const MAX_RULES: u32 = 64;
+
+    // Right symbols of a rule.
+    pub const MAX_RIGHT: u32 = 8;
+
+    pub const MAX_DEFINITIONS: u32 = 128;
+
+    // Nodes of a definition's expression.
+    pub const MAX_NODES: u32 = 15;
+
+    pub const MAX_KERNELS: u32 = 512;
+
+    // Kernel lines of one state.
+    pub const MAX_STATE_KERNELS: u32 = 16;
+
+    pub const MAX_GOES: u32 = 1024;
+
+    // Bytes of a text, and words of a stored book.
+    pub const MAX_TEXT: usize = 65536;
+
+    pub const BOOK_WORDS: usize = 16384;
+
+    // A book of which nothing is read yet.
+    pub fn empty() -> Self
+        ensures { λ r. ⌜ r ≡ nothing ⌝ }
+    {
+        Book {
+            terminals: 0,
+            nonterminals: 0,
+            states: 0,
+            inherited: 0,
+            synthesized: 0,
+            rules: 0,
+            inherited_definitions: 0,
+            synthesized_definitions: 0,
+            kernels: 0,
+            goes: 0,
+        }
+    }
+}

@@ -1,0 +1,76 @@
+use Rattle.text.specs.Rest.{rest, size}
+use Rattle.text.specs.Numeral.{wordOf, spelled}
+use Rattle.grammar.specs.Limits.{MAX-GOES}
+use Rattle.grammar.specs.Format.Ordered.{goKey}
+use Rattle.grammar.specs.Format.Reader.{opening}
+use Rattle.grammar.specs.Format.Parse.{goLine, goLines}
+use Rattle.book.specs.Layout.{goWords}
+use Rattle.book.specs.Order.{keyOf, lastKey, next-last}
+use Rattle.book.specs.Sections.{Filling, filling-start, filling-turn, filling-less, filling-done}
+use Rattle.book.specs.GoLines.{go-shrinks}
+use borrow.Author.Needs.{needs}
+use Rattle.book.proofs.goes.go_lines.Statement.{statement}
+use Rattle.book.proofs.goes.go_lines.Tie as tie
+
+abbrev Inv-loop : tie.InvT-loop
+Inv-loop t text at out₀ n p₀ k₀ last₀ out p k last =
+    Filling (opening (wordOf "go")) goLine (λ before. goKey) goWords MAX-GOES
+    text (goLines (rest text at)) out₀ (lastKey k (keyOf last)) k p out
+
+abbrev μ-loop : tie.MeasureT-loop
+μ-loop t text at out₀ n p₀ k₀ last₀ out p k last = size (rest text p)
+
+none-requires : tie.Need-none-requires Inv-loop μ-loop
+none-requires c κs = search needs
+
+loop-holds : tie.Need-loop-holds Inv-loop μ-loop
+unfolding goLines lastKey
+loop-holds c = filling-start _ _ _ _ _ (go-shrinks _) _ _ _ _
+
+opening-requires : tie.Need-opening-requires Inv-loop μ-loop
+opening-requires c κs = search needs
+
+same-length : tie.Need-same-length Inv-loop μ-loop
+same-length c = c .before .before .loop .inv .same-length
+
+returns : tie.Need-returns Inv-loop μ-loop
+unfolding spelled
+returns c = filling-done _ _ _ _ _ (go-shrinks _) _ (c .before .before .loop .inv) (c .before .opening .ensures) (c .if1 .taken)
+
+go-line-requires : tie.Need-go-line-requires Inv-loop μ-loop
+go-line-requires c κs = search needs
+
+add-k : tie.Need-add-k Inv-loop μ-loop
+add-k c = search needs
+
+loop-less : tie.Need-loop-less Inv-loop μ-loop
+unfolding spelled
+loop-less c =
+    let line = c .before .before .before in
+    let head = line .before .before .before in
+    filling-less _ _ _ _ _ (go-shrinks _) _ (head .before .loop .inv) (head .opening .ensures) (line .before .before .if1 .left)
+    (line .go-line .ensures .puts .remaining-is)
+
+loop-again : tie.Need-loop-again Inv-loop μ-loop
+unfolding spelled
+loop-again c =
+    let line = c .before .before .before in
+    let head = line .before .before .before in
+    filling-turn _ _ _ _ _ (go-shrinks _) _ (head .before .loop .inv) (head .opening .ensures) (line .before .before .if1 .left)
+    (line .go-line .ensures .puts) (next-last _ (line .go-line .ensures .key-is))
+
+pub go-lines-spec : {M : Type 1} → statement M
+go-lines-spec =
+    tie.close
+    (tie.spec
+    Inv-loop
+    μ-loop
+    none-requires
+    loop-holds
+    opening-requires
+    same-length
+    returns
+    go-line-requires
+    add-k
+    loop-less
+    loop-again)

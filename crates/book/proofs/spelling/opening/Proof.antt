@@ -1,0 +1,20 @@
+use Rattle.grammar.specs.Format.Reader.{opening}
+use borrow.Author.Needs.{needs}
+use Rattle.book.proofs.spelling.opening.Statement.{statement}
+use Rattle.book.proofs.spelling.opening.Tie as tie
+
+mark-requires : tie.Need-mark-requires
+mark-requires c κs = search needs
+
+keyword-requires : tie.Need-keyword-requires
+keyword-requires c κs = search needs
+
+mark-requires-2 : tie.Need-mark-requires-2
+mark-requires-2 c κs = search needs
+
+returns : tie.Need-returns
+unfolding opening
+returns c = cc
+
+pub opening-spec : {M : Type 1} → statement M
+opening-spec = tie.close (tie.spec mark-requires keyword-requires mark-requires-2 returns)

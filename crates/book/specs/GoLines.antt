@@ -1,0 +1,51 @@
+-- The lines of the section go: the key of a line, how much a line leaves, and that the code's steps, one after another, read and keep a whole line.
+-- Assumes nothing.
+use Prim.Native.Nat.{ℕ, _≤_}
+use mathlib.Core.Path.{_≡_, refl}
+use mathlib.Core.Bool.{Bool, true, false}
+use mathlib.Core.List.{List, [], _∷_}
+use Rattle.text.specs.Class.{space}
+use Rattle.text.specs.Rest.{Rest, rest, must, mark, size}
+use Rattle.text.specs.Numeral.{decimal, wordOf}
+use Rattle.text.specs.Reading.{Reads}
+use Rattle.grammar.specs.Limits.{MAX-GOES}
+use Rattle.grammar.specs.Format.Ordered.{symbolKey, goKey}
+use Rattle.grammar.specs.Format.Reader.{result, remaining, opening, closing}
+use Rattle.grammar.specs.Format.ReaderLaws.{shrinking, opening-less}
+use Rattle.grammar.specs.Format.Parse.{isBefore, symbolOf, symbol, goLine, goLines}
+use Rattle.book.specs.Layout.{putLine, symbolCode, goWords}
+use Rattle.book.specs.Sections.{Gives, Shrinks, size-section, PutsKeyed}
+
+-- the words of a go line
+abbrev pub GO-WORDS : ℕ
+GO-WORDS = 3
+
+-- terminals stand before nonterminals
+module _ (S K : ℕ) (t : Bool) where
+  pub terminal-key : t ≡ true → S ∷ 0 ∷ K ∷ [] ≡ S ∷ symbolKey (symbolOf t K)
+  unfolding symbolKey symbolOf
+  terminal-key e = rw e
+
+  pub nonterminal-key : t ≡ false → S ∷ 1 ∷ K ∷ [] ≡ S ∷ symbolKey (symbolOf t K)
+  unfolding symbolKey symbolOf
+  nonterminal-key e = rw e
+
+pub go-shrinks : (word : ℕ) → Shrinks (opening word) goLine
+unfolding goLine symbol remaining
+go-shrinks word = record { head-less = opening-less word; one-less = λ last o. search shrinking depth 20 }
+
+pub goes-size : (o : Rest) → size (remaining (goLines o)) ≤ size o
+unfolding goLines
+goes-size o = size-section (opening (wordOf "go")) goLine (λ last. goKey) (go-shrinks (wordOf "go")) [] o
+
+-- The steps of a line: state, symbol and target, the end, the key, the order, the store
+
+module _ {text out out′ key : List ℕ} {ascending : Bool} {k at S p₁ code p₃ p₄ M p₅ p₇ : ℕ} (last : List ℕ) (t : Bool) (K p₂ p₆ : ℕ) where
+  pub go-steps : Reads decimal text at S p₁ → rest text p₂ ≡ mark space (rest text p₁) → Gives (symbol (rest text p₂)) text (symbolOf t K) p₃
+      → rest text p₄ ≡ mark space (rest text p₃) → Reads decimal text p₄ M p₅ → rest text p₆ ≡ closing (rest text p₅)
+      → key ≡ S ∷ symbolKey (symbolOf t K) → ascending ≡ isBefore last key → rest text p₇ ≡ must ascending (rest text p₆)
+      → code ≡ symbolCode (symbolOf t K) → out′ ≡ putLine MAX-GOES k (S ∷ code ∷ M ∷ []) out
+      → PutsKeyed goKey goWords MAX-GOES k (goLine last (rest text at)) text out key p₇ out′
+  unfolding goLine goKey goWords result remaining
+  go-steps state e₁ on e₂ target end keyed before due coded stored =
+      record { key-is = cc; puts = record { remaining-is = cc; array-is = cc } }

@@ -1,0 +1,83 @@
+// The section `(go S X M)`.
+ghost use mathlib.Core.Path.{_≡_};
+ghost use mathlib.Core.List.{_∷_};
+ghost use Prim.Native.Nat.{_*_, _≤_};
+ghost use lib.ListN.{length};
+ghost use Rattle.text.specs.Rest.{rest};
+ghost use Rattle.text.specs.Reading.{Lent};
+ghost use Rattle.grammar.specs.Limits.{MAX-GOES};
+ghost use Rattle.grammar.specs.Format.Ordered.{symbolKey, goKey};
+ghost use Rattle.grammar.specs.Format.Parse.{symbolOf, goLine, goLines};
+ghost use Rattle.book.specs.Layout.{goWords};
+ghost use Rattle.book.specs.Order.{keyOf, lastKey};
+ghost use Rattle.book.specs.Sections.{Fills, PutsKeyed};
+ghost use Rattle.book.specs.GoLines.{GO-WORDS};
+use super::Book;
+use super::Section;
+use super::order::Key;
+use super::order::Keyed;
+use super::order::ascends;
+use super::spelling::GO;
+use super::spelling::closing;
+use super::spelling::opening;
+use super::store::put_line;
+use super::symbol::code_of;
+use super::symbol::symbol;
+
+// The key of a line: its state, then terminals before nonterminals, then the symbol's number.
+fn key_of(state: u32, terminal: bool, number: u32) -> Key
+    ensures { λ r. ⌜ keyOf r ≡ state ∷ symbolKey (symbolOf terminal number) ⌝ }
+{
+    if terminal {
+        return Key {
+            first: state,
+            second: 0,
+            third: number,
+        };
+    }
+    Key {
+        first: state,
+        second: 1,
+        third: number,
+    }
+}
+
+// Line k, after its head: it goes to its place, and its key must stand after the last key.
+fn go_line(t: &[u8; 256], text: &[u8], at: usize, k: u32, last: Key, out: &mut [u32]) -> Keyed
+    requires { ⌜ Lent (now t) (now text) × (MAX-GOES * GO-WORDS ≤ length (now out)) ⌝ }
+    ensures { λ r. ⌜ PutsKeyed goKey goWords MAX-GOES k (goLine (lastKey k (keyOf last)) (rest (now (text .entry)) at))
+        (now (text .entry)) (now (out .entry)) (keyOf (r .key)) (r .at) (now (out .exit)) ⌝ }
+{
+    let state = text::number(t, text, at);
+    let a = text::mark(t, text, state.at, text::SPACE);
+    let x = symbol(t, text, a);
+    let b = text::mark(t, text, x.at, text::SPACE);
+    let target = text::number(t, text, b);
+    let c = closing(t, text, target.at);
+    let key = key_of(state.value, x.terminal, x.number);
+    let d = text::require(text, c, ascends(k, last, key));
+    let line = [state.value, code_of(x.terminal, x.number), target.value];
+    put_line(out, Book::MAX_GOES as usize, k, &line);
+    Keyed { key, at: d }
+}
+
+pub fn go_lines(t: &[u8; 256], text: &[u8], at: usize, out: &mut [u32]) -> Section
+    requires { ⌜ Lent (now t) (now text) × (MAX-GOES * GO-WORDS ≤ length (now out)) ⌝ }
+    ensures { λ r. ⌜ Fills goWords MAX-GOES (goLines (rest (now (text .entry)) at))
+        (now (text .entry)) (now (out .entry)) (r .count) (r .at) (now (out .exit)) ⌝ }
+{
+    let n = text.len();
+    let mut p = at;
+    let mut k: u32 = 0;
+    let mut last = Key::none();
+    loop {
+        let a = opening(t, text, p, GO);
+        if n < a {
+            return Section { count: k, at: p };
+        }
+        let line = go_line(t, text, a, k, last, out);
+        last = line.key;
+        p = line.at;
+        k += 1;
+    }
+}

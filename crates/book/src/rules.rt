@@ -1,0 +1,91 @@
+// The section `(rule K nA X1 .. Xm)`.
+ghost use Prim.Native.Nat.{_≤_, _*_};
+ghost use lib.ListN.{length};
+ghost use Rattle.text.specs.Rest.{rest};
+ghost use Rattle.text.specs.Reading.{Lent};
+ghost use Rattle.grammar.specs.Limits.{MAX-RULES, MAX-RIGHT};
+ghost use Rattle.grammar.specs.Format.Parse.{symbols, ruleLine, ruleLines};
+ghost use Rattle.book.specs.Layout.{ruleWords};
+ghost use Rattle.book.specs.Lines.{symbolWords, RULE-WORDS};
+ghost use Rattle.book.specs.Sections.{Fills, Puts};
+use super::Book;
+use super::Section;
+use super::spelling::N;
+use super::spelling::RULE;
+use super::spelling::closing;
+use super::spelling::naming;
+use super::spelling::opening;
+use super::store::put_line;
+use super::symbol::code_of;
+use super::symbol::symbol;
+
+// The codes of the right side's first symbols.
+fn right_side(t: &[u8; 256], text: &[u8], at: usize, out: &mut [u32]) -> Section
+    requires { ⌜ Lent (now t) (now text) × (MAX-RIGHT ≤ length (now out)) ⌝ }
+    ensures { λ r. ⌜ Fills symbolWords MAX-RIGHT (symbols (rest (now (text .entry)) at))
+        (now (text .entry)) (now (out .entry)) (r .count) (r .at) (now (out .exit)) ⌝ }
+{
+    let n = text.len();
+    let mut p = at;
+    let mut m: u32 = 0;
+    loop {
+        let a = text::mark(t, text, p, text::SPACE);
+        if n < a {
+            return Section { count: m, at: p };
+        }
+        let x = symbol(t, text, a);
+        put_line(
+            out,
+            Book::MAX_RIGHT as usize,
+            m,
+            &[code_of(x.terminal, x.number)],
+        );
+        p = x.at;
+        m += 1;
+    }
+}
+
+// After the head, `K nA X1 .. Xm)` with K given; the rule goes to its place.
+fn rule_line(t: &[u8; 256], text: &[u8], at: usize, k: u32, out: &mut [u32]) -> usize
+    requires { ⌜ Lent (now t) (now text) × (MAX-RULES * RULE-WORDS ≤ length (now out)) ⌝ }
+    ensures { λ r. ⌜ Puts ruleWords MAX-RULES k (ruleLine k (rest (now (text .entry)) at)) (now (text .entry)) (now (out .entry)) r (now (out .exit)) ⌝ }
+{
+    let number = text::number(t, text, at);
+    let a = text::require(text, number.at, number.value == k);
+    let b = naming(t, text, a, N);
+    let left = text::number(t, text, b);
+    let mut right = [0u32; Book::MAX_RIGHT as usize];
+    let symbols = right_side(t, text, left.at, &mut right);
+    let line = [
+        left.value,
+        symbols.count,
+        right[0],
+        right[1],
+        right[2],
+        right[3],
+        right[4],
+        right[5],
+        right[6],
+        right[7],
+    ];
+    put_line(out, Book::MAX_RULES as usize, k, &line);
+    closing(t, text, symbols.at)
+}
+
+pub fn rule_lines(t: &[u8; 256], text: &[u8], at: usize, out: &mut [u32]) -> Section
+    requires { ⌜ Lent (now t) (now text) × (MAX-RULES * RULE-WORDS ≤ length (now out)) ⌝ }
+    ensures { λ r. ⌜ Fills ruleWords MAX-RULES (ruleLines (rest (now (text .entry)) at))
+        (now (text .entry)) (now (out .entry)) (r .count) (r .at) (now (out .exit)) ⌝ }
+{
+    let n = text.len();
+    let mut p = at;
+    let mut k: u32 = 0;
+    loop {
+        let a = opening(t, text, p, RULE);
+        if n < a {
+            return Section { count: k, at: p };
+        }
+        p = rule_line(t, text, a, k, out);
+        k += 1;
+    }
+}

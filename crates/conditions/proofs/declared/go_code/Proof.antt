@@ -1,0 +1,20 @@
+use mathlib.Core.Path.{sym, _∙_}
+use Rattle.conditions.specs.DeclaredLaws.{go-low, go-high}
+use borrow.Author.Needs.{needs}
+use Rattle.conditions.proofs.declared.go_code.Statement.{statement}
+use Rattle.conditions.proofs.declared.go_code.Tie as tie
+use Rattle.conditions.proofs.declared.go_code.Reads as reads
+use Rattle.conditions.proofs.declared.go_code.Lts as lts
+use Rattle.conditions.proofs.limits.one_to.Reads as one-to-reads
+
+one-to-requires : tie.Need-one-to-requires
+one-to-requires c κs = search needs
+
+returns : tie.Need-returns
+returns c = c .one-to .ensures ∙ sym (go-low (c .before .before .args .book) (c .before .before .args .code) (c .before .if1 .taken))
+
+returns-2 : tie.Need-returns-2
+returns-2 c = sym (go-high (c .before .before .args .book) (c .before .before .args .code) (c .before .if1 .left))
+
+pub go-code-spec : {M : Type 1} → statement M
+go-code-spec = tie.close (tie.spec one-to-requires returns returns-2)

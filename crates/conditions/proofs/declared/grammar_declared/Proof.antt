@@ -1,0 +1,61 @@
+use Prim.Native.Nat.{ℕ}
+use mathlib.Core.Path.{ap, ap₂, _∙_}
+use mathlib.Core.Bool.{Bool, _&&_}
+use Rattle.grammar.specs.Conditions.Decides.{oneTo, all}
+use Rattle.conditions.specs.LentLaws.{owners-are, owners-part}
+use Rattle.conditions.specs.DeclaredTests.{grammarDeclared, startCode}
+use Rattle.conditions.specs.DeclaredLaws.{start-rules}
+use borrow.Author.Needs.{needs}
+use Rattle.conditions.proofs.declared.grammar_declared.Statement.{statement}
+use Rattle.conditions.proofs.declared.grammar_declared.Tie as tie
+use Rattle.conditions.proofs.declared.grammar_declared.Reads as reads
+use Rattle.conditions.proofs.declared.grammar_declared.Lts as lts
+use Rattle.conditions.proofs.declared.owners_declared.Reads as owners-declared-reads
+use Rattle.conditions.proofs.declared.rules_declared.Reads as rules-declared-reads
+use Rattle.conditions.proofs.declared.start_declared.Reads as start-declared-reads
+
+cast-i : tie.Need-cast-i
+cast-i c = search needs
+
+cast-s : tie.Need-cast-s
+cast-s c = search needs
+
+slice-aggregate-owners-declared : tie.Need-slice-aggregate-owners-declared
+slice-aggregate-owners-declared c = let h = c .before .before .before .before .before .before .pre .1 in owners-part (h .inherited-in) (h .rules-of .counted .inherited-are)
+
+owners-declared-requires : tie.Need-owners-declared-requires
+owners-declared-requires c κs = search needs
+
+slice-aggregate-owners-declared-2 : tie.Need-slice-aggregate-owners-declared-2
+slice-aggregate-owners-declared-2 c = let h = c .before .before .before .before .before .before .before .before .pre .1 in owners-part (h .synthesized-in) (h .rules-of .counted .synthesized-are)
+
+owners-declared-requires-2 : tie.Need-owners-declared-requires-2
+owners-declared-requires-2 c κs = search needs
+
+start-declared-requires : tie.Need-start-declared-requires
+start-declared-requires c κs = let h = c .before .before .before .before .before .before .before .before .before .pre in (h .0, h .1 .rules-of)
+
+rules-declared-requires : tie.Need-rules-declared-requires
+rules-declared-requires c κs = let h = c .before .before .before .before .before .before .before .before .before .before .pre in (h .0, h .1 .rules-of)
+
+returns : tie.Need-returns
+unfolding grammarDeclared
+returns c = record { for-all = λ b h. let k = h .rules-of .counted in
+    ap₂ _&&_ (ap₂ _&&_
+    (c .before .before .before .before .owners-declared .ensures ∙ ap₂ (λ (n : ℕ). all (oneTo n)) (k .nonterminals-are) (owners-are (h .inherited-in) (k .inherited-are)))
+    (c .before .before .owners-declared2 .ensures ∙ ap₂ (λ (n : ℕ). all (oneTo n)) (k .nonterminals-are) (owners-are (h .synthesized-in) (k .synthesized-are))))
+    (ap₂ _&&_ (c .before .start-declared .ensures) (c .rules-declared .ensures .for-all b (h .rules-of)) ∙ start-rules (h .rules-of .within) (h .rules-of .rules-in)) }
+
+pub grammar-declared-spec : {M : Type 1} → statement M
+grammar-declared-spec =
+    tie.close
+    (tie.spec
+    cast-i
+    cast-s
+    slice-aggregate-owners-declared
+    owners-declared-requires
+    slice-aggregate-owners-declared-2
+    owners-declared-requires-2
+    start-declared-requires
+    rules-declared-requires
+    returns)

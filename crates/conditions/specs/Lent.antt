@@ -1,0 +1,128 @@
+-- What functions over a book's arrays are asked: that the numbers and the arrays that they are lent are those of one book.
+-- Assumes nothing.
+use Prim.Native.Nat.{ℕ, _+_, _*_, _≤_, _<_}
+use mathlib.Core.Path.{_≡_}
+use mathlib.Core.Bool.{true}
+use mathlib.Core.List.{List}
+use lib.ListN.{length, getD}
+use Rattle.grammar.specs.Limits.{MAX-INHERITED, MAX-SYNTHESIZED, MAX-RIGHT, MAX-DEFINITIONS, MAX-NODES}
+use Rattle.grammar.specs.Data.Symbol.{Rule, rightOf}
+use Rattle.grammar.specs.Data.Term.{nodes}
+use Rattle.grammar.specs.Data.Book.{InheritedDefinition, Kernel, Book as Lines}
+use Rattle.grammar.specs.Conditions.Meaning.{WithinLimits}
+use Rattle.grammar.specs.Conditions.Tests.{withinLimits}
+use Rattle.grammar.specs.Format.Ordered.{Ascending, kernelKey, Ordered}
+use Rattle.book.specs.declared.Book.{Book}
+use Rattle.book.specs.Held.{OwnersIn, RulesIn, DefinitionIn, DefinitionsIn, KernelsIn, GoesIn, kept}
+
+-- the numbers are the book's
+pub record Counted (numbers : Book) (b : Lines) : Type 0 where
+  pub terminals-are : numbers .terminals ≡ b .terminals
+  pub nonterminals-are : numbers .nonterminals ≡ b .nonterminals
+  pub states-are : numbers .states ≡ b .states
+  pub inherited-are : numbers .inherited ≡ length (b .inheritedOwners)
+  pub synthesized-are : numbers .synthesized ≡ length (b .synthesizedOwners)
+  pub rules-are : numbers .rules ≡ length (b .rules)
+  pub inherited-definitions-are : numbers .«inherited_definitions» ≡ length (b .inheritedDefinitions)
+  pub synthesized-definitions-are : numbers .«synthesized_definitions» ≡ length (b .synthesizedDefinitions)
+  pub kernels-are : numbers .kernels ≡ length (b .kernels)
+  pub goes-are : numbers .goes ≡ length (b .goes)
+
+-- the lines of one kind and their number
+pub record RuleLines (rules : List ℕ) (n : ℕ) (G : List Rule) : Type 0 where
+  pub count : n ≡ length G
+  pub lines : RulesIn G rules
+
+pub record DefinitionLines (definitions : List ℕ) (n : ℕ) (b : Lines) : Type 0 where
+  pub count : n ≡ length (b .inheritedDefinitions) + length (b .synthesizedDefinitions)
+  pub lines : DefinitionsIn (b .inheritedDefinitions) (b .synthesizedDefinitions) definitions
+
+pub record KernelLines (kernels : List ℕ) (n : ℕ) (ks : List Kernel) : Type 0 where
+  pub count : n ≡ length ks
+  pub lines : KernelsIn ks kernels
+  pub ascend : Ascending kernelKey ks
+
+-- a book, but for its go lines
+pub record Lent (numbers : Book) (inherited synthesized rules definitions kernels : List ℕ) (b : Lines) : Type 0 where
+  pub counted : Counted numbers b
+  pub ordered : Ordered b
+  pub inherited-in : OwnersIn MAX-INHERITED (b .inheritedOwners) inherited
+  pub synthesized-in : OwnersIn MAX-SYNTHESIZED (b .synthesizedOwners) synthesized
+  pub rules-in : RulesIn (b .rules) rules
+  pub definitions-in : DefinitionsIn (b .inheritedDefinitions) (b .synthesizedDefinitions) definitions
+  pub kernels-in : KernelsIn (b .kernels) kernels
+
+-- the same of the lines that have room, as it is before the limits are asked
+pub record Kept (numbers : Book) (inherited synthesized rules definitions kernels : List ℕ) (b : Lines) : Type 0 where
+  pub counted : Counted numbers b
+  pub ordered : Ordered b
+  pub inherited-in : OwnersIn MAX-INHERITED (kept b .inheritedOwners) inherited
+  pub synthesized-in : OwnersIn MAX-SYNTHESIZED (kept b .synthesizedOwners) synthesized
+  pub rules-in : RulesIn (kept b .rules) rules
+  pub definitions-in : DefinitionsIn (kept b .inheritedDefinitions) (kept b .synthesizedDefinitions) definitions
+  pub kernels-in : KernelsIn (kept b .kernels) kernels
+
+-- Books that are within their limits
+
+pub record RulesOf (numbers : Book) (rules : List ℕ) (b : Lines) : Type 0 where
+  pub counted : Counted numbers b
+  pub within : WithinLimits b
+  pub rules-in : RulesIn (b .rules) rules
+
+pub record RuleOf (numbers : Book) (rules : List ℕ) (p : ℕ) (b : Lines) : Type 0 where
+  pub rules-of : RulesOf numbers rules b
+  pub rule-there : p < length (b .rules)
+  pub size-is : getD rules (10 * p + 1) 0 ≡ length (rightOf (b .rules) p)
+  pub few-right : length (rightOf (b .rules) p) ≤ MAX-RIGHT
+
+pub record DefinitionsOf (numbers : Book) (rules definitions : List ℕ) (b : Lines) : Type 0 where
+  pub rules-of : RulesOf numbers rules b
+  pub definitions-in : DefinitionsIn (b .inheritedDefinitions) (b .synthesizedDefinitions) definitions
+
+-- a definition of a book; a synthesized attribute's has position 0
+pub record Entry : Type 0 where
+  pub book : Lines
+  pub line : InheritedDefinition
+
+-- the definition in line i
+pub record LineIs (definitions : List ℕ) (i : ℕ) (d : InheritedDefinition) : Type 0 where
+  pub long : length definitions ≡ 49 * MAX-DEFINITIONS
+  pub room : i < MAX-DEFINITIONS
+  pub few-nodes : nodes (d .expression) ≤ MAX-NODES
+  pub line-in : DefinitionIn (d .rule) (d .position) (d .attribute) (d .expression) definitions i
+
+pub record EntryOf (numbers : Book) (rules definitions : List ℕ) (i : ℕ) (x : Entry) : Type 0 where
+  pub rules-of : RulesOf numbers rules (x .book)
+  pub line-is : LineIs definitions i (x .line)
+
+-- its rule has so many right symbols
+pub record LeavesOf (numbers : Book) (definitions : List ℕ) (i size : ℕ) (x : Entry) : Type 0 where
+  pub counted : Counted numbers (x .book)
+  pub line-is : LineIs definitions i (x .line)
+  pub size-is : size ≡ length (rightOf (x .book .rules) (x .line .rule))
+
+pub record KernelsOf (numbers : Book) (rules kernels : List ℕ) (b : Lines) : Type 0 where
+  pub rules-of : RulesOf numbers rules b
+  pub ordered : Ordered b
+  pub kernels-in : KernelsIn (b .kernels) kernels
+
+pub record KernelOf (numbers : Book) (rules kernels : List ℕ) (i : ℕ) (b : Lines) : Type 0 where
+  pub kernels-of : KernelsOf numbers rules kernels b
+  pub kernel-there : i < length (b .kernels)
+
+pub record GoesOf (numbers : Book) (goes : List ℕ) (b : Lines) : Type 0 where
+  pub counted : Counted numbers b
+  pub within : WithinLimits b
+  pub goes-in : GoesIn (b .goes) goes
+
+-- owners and rules
+pub record GrammarOf (numbers : Book) (inherited synthesized rules : List ℕ) (b : Lines) : Type 0 where
+  pub rules-of : RulesOf numbers rules b
+  pub inherited-in : OwnersIn MAX-INHERITED (b .inheritedOwners) inherited
+  pub synthesized-in : OwnersIn MAX-SYNTHESIZED (b .synthesizedOwners) synthesized
+
+-- a whole book within its limits
+pub record Within (numbers : Book) (inherited synthesized rules definitions kernels goes : List ℕ) (b : Lines) : Type 0 where
+  pub lent : Lent numbers inherited synthesized rules definitions kernels b
+  pub goes-in : GoesIn (b .goes) goes
+  pub within : withinLimits b ≡ true

@@ -1,0 +1,124 @@
+-- What follows from numbers and arrays of one book, for the functions over the lines of one kind.
+-- Assumes nothing.
+use Prim.Native.Nat.{ℕ, zero, suc, _+_, _<_}
+use mathlib.Core.Path.{_≡_, refl, sym, ap, ap₂, _∙_}
+use mathlib.Core.List.{List, [], _∷_, List·Memᴰ as Mem, List·Memᴰ·head as in-head, List·Memᴰ·tail as in-tail}
+use native.Mathlib.Omega.{arith}
+use lib.ListN.{length, getD, take, length-take}
+use lib.Seq.{getD-take, ext-getD}
+use Rattle.grammar.specs.Data.Book.{SynthesizedDefinition, Book as Lines}
+use Rattle.grammar.specs.Conditions.Meaning.{WithinLimits}
+use Rattle.grammar.specs.Conditions.TestsLaws.{withinLimits-decides}
+use Rattle.grammar.specs.Conditions.MeaningLaws.{right-length}
+use Rattle.book.specs.declared.Book.{Book}
+use Rattle.book.specs.Held.{inheritedAt, synthesizedAt, OwnersIn, HasRoom, kept}
+use Rattle.book.specs.HeldLaws.{kept-all}
+use Rattle.conditions.specs.Lent.{Counted, RuleLines, DefinitionLines, KernelLines, Kept, Lent, RulesOf, RuleOf, DefinitionsOf, Entry, EntryOf, KernelsOf, GoesOf, GrammarOf, Within}
+
+-- where there is room, what is kept is all
+pub lent-kept : {numbers : Book} {inherited synthesized rules definitions kernels : List ℕ} {b : Lines}
+    → Kept numbers inherited synthesized rules definitions kernels b → HasRoom b → Lent numbers inherited synthesized rules definitions kernels b
+lent-kept {b = b} k h =
+    let e : kept b ≡ b = kept-all b h in
+    record {
+      counted = k .counted;
+      ordered = k .ordered;
+      inherited-in = rw e at (k .inherited-in);
+      synthesized-in = rw e at (k .synthesized-in);
+      rules-in = rw e at (k .rules-in);
+      definitions-in = rw e at (k .definitions-in);
+      kernels-in = rw e at (k .kernels-in);
+    }
+
+-- within a list no default is read
+within : (xs : List ℕ) (i d e : ℕ) → i < length xs → getD xs i d ≡ getD xs i e
+within [] i d e l = absurd (omega arith)
+within (x ∷ xs) zero d e l = refl
+within (x ∷ xs) (suc i) d e l = within xs i d e (omega arith)
+
+-- owners are the first words of their array
+pub owners-are : {room n : ℕ} {owners array : List ℕ} → OwnersIn room owners array → n ≡ length owners → take n array ≡ owners
+owners-are {room} {n} {owners} {array} h e =
+    let size : length (take n array) ≡ length owners = length-take n array ∙ omega (arith, h .long, h .fits) in
+    ext-getD 0 (take n array) owners size λ i l. getD-take n array i 0 (omega arith) ∙ (h .owner-is i (omega arith) ∙ within owners i 32 0 (omega arith))
+
+pub owners-part : {room n : ℕ} {owners array : List ℕ} → OwnersIn room owners array → n ≡ length owners → n ≡ length (take n array)
+owners-part h e = e ∙ sym (ap length (owners-are h e))
+
+module _ {numbers : Book} {inherited synthesized rules definitions kernels : List ℕ} {b : Lines}
+    (h : Lent numbers inherited synthesized rules definitions kernels b) where
+  pub rule-lines : RuleLines rules (numbers .rules) (b .rules)
+  rule-lines = record { count = h .counted .rules-are; lines = h .rules-in }
+
+  pub definition-lines : DefinitionLines definitions (numbers .«inherited_definitions» + numbers .«synthesized_definitions») b
+  definition-lines =
+      record { count = ap₂ _+_ (h .counted .inherited-definitions-are) (h .counted .synthesized-definitions-are); lines = h .definitions-in }
+
+  pub kernel-lines : KernelLines kernels (numbers .kernels) (b .kernels)
+  kernel-lines = record { count = h .counted .kernels-are; lines = h .kernels-in; ascend = h .ordered .kernels }
+
+pub rule-of : {numbers : Book} {rules : List ℕ} {b : Lines} (P : ℕ) → RulesOf numbers rules b → P < length (b .rules) → RuleOf numbers rules P b
+rule-of P h l = record { rules-of = h; rule-there = l; size-is = h .rules-in .size-is P l; few-right = right-length (h .within) P }
+
+member-at : {A : Type 0} (xs : List A) (i : ℕ) (d : A) → i < length xs → Mem (getD xs i d) xs
+member-at [] i d l = absurd (omega arith)
+member-at (x ∷ xs) zero d l = in-head refl
+member-at (x ∷ xs) (suc i) d l = in-tail (member-at xs i d (omega arith))
+
+-- A definition's line and its rule
+
+abbrev pub inheritedEntry : Lines → ℕ → Entry
+inheritedEntry b i = record { book = b; line = inheritedAt (b .inheritedDefinitions) i }
+
+abbrev pub synthesizedEntry : Lines → ℕ → Entry
+synthesizedEntry b i =
+    let d : SynthesizedDefinition = synthesizedAt (b .synthesizedDefinitions) i in
+    record { book = b; line = record { rule = d .rule; position = 0; attribute = d .attribute; expression = d .expression } }
+
+module _ {numbers : Book} {rules definitions : List ℕ} {b : Lines} (h : DefinitionsOf numbers rules definitions b) (i : ℕ) where
+  pub inherited-entry : i < length (b .inheritedDefinitions) → EntryOf numbers rules definitions i (inheritedEntry b i)
+  inherited-entry l =
+      record {
+        rules-of = h .rules-of;
+        line-is = record {
+          long = h .definitions-in .long;
+          room = omega (arith, h .definitions-in .fits);
+          few-nodes = h .rules-of .within .inherited-nodes _ (member-at (b .inheritedDefinitions) i _ l);
+          line-in = h .definitions-in .inherited-is i l;
+        };
+      }
+
+  pub synthesized-entry : {n : ℕ} → n ≡ length (b .inheritedDefinitions) → i < length (b .synthesizedDefinitions)
+      → EntryOf numbers rules definitions (n + i) (synthesizedEntry b i)
+  synthesized-entry e l =
+      record {
+        rules-of = h .rules-of;
+        line-is = record {
+          long = h .definitions-in .long;
+          room = omega (arith, h .definitions-in .fits);
+          few-nodes = h .rules-of .within .synthesized-nodes _ (member-at (b .synthesizedDefinitions) i _ l);
+          line-in = rw e (h .definitions-in .synthesized-is i l);
+        };
+      }
+
+-- The parts of a whole book within its limits
+
+module _ {numbers : Book} {inherited synthesized rules definitions kernels goes : List ℕ} {b : Lines}
+    (h : Within numbers inherited synthesized rules definitions kernels goes b) where
+  pub within-limits : WithinLimits b
+  within-limits = withinLimits-decides b .sound (h .within)
+
+  pub rules-of : RulesOf numbers rules b
+  rules-of = record { counted = h .lent .counted; within = within-limits; rules-in = h .lent .rules-in }
+
+  pub grammar-of : GrammarOf numbers inherited synthesized rules b
+  grammar-of = record { rules-of = rules-of; inherited-in = h .lent .inherited-in; synthesized-in = h .lent .synthesized-in }
+
+  pub definitions-of : DefinitionsOf numbers rules definitions b
+  definitions-of = record { rules-of = rules-of; definitions-in = h .lent .definitions-in }
+
+  pub kernels-of : KernelsOf numbers rules kernels b
+  kernels-of = record { rules-of = rules-of; ordered = h .lent .ordered; kernels-in = h .lent .kernels-in }
+
+  pub goes-of : GoesOf numbers goes b
+  goes-of = record { counted = h .lent .counted; within = within-limits; goes-in = h .goes-in }

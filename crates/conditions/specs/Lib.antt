@@ -1,0 +1,10 @@
+pub mod Answers
+pub mod DeclaredLaws
+pub mod DeclaredTests
+pub mod Leaves
+pub mod Lent
+pub mod LentLaws
+pub mod LimitLaws
+pub mod LimitTests
+pub mod Runs
+pub mod SpellingHeld

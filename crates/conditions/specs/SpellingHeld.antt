@@ -1,0 +1,73 @@
+-- What follows of a text that was read: the book, or that there is none; and that numbers and arrays are the book's, as conditions 3 to 6 ask it.
+-- Assumes nothing.
+use mathlib.Core.Path.{_≡_, refl, sym, ap, _∙_}
+use mathlib.Core.Bool.{Bool, true, false, false≢true}
+use mathlib.Core.List.{List}
+use mathlib.Core.Option.{Option, none, some}
+use Prim.Native.Nat.{ℕ}
+use Rattle.grammar.specs.Data.Book.{Book as Lines}
+use Rattle.grammar.specs.Format.Parse.{parseBook}
+use Rattle.grammar.specs.Format.ParseLaws.{print-parse}
+use Rattle.book.specs.declared.Book.{Book}
+use Rattle.book.specs.Counts.{countsOf}
+use Rattle.book.specs.Held.{Held, kept}
+use Rattle.book.specs.HeldLaws.{held}
+use Rattle.conditions.specs.Lent.{Counted, Kept}
+use Rattle.book.specs.Spelling.{Arrays, Roomy, storedIn, isBook, Spelling}
+
+module _ {text : List ℕ} {before stored : Arrays} {spelled : Bool} {numbers : Book} (s : Spelling text before spelled numbers stored) where
+  -- a text that is spelled right has a book
+  pub spelled-got : {C : Type 0} → spelled ≡ true → ((b : Lines) → parseBook text ≡ some b → C) → C
+  unfolding isBook
+  spelled-got {C} h k = go (parseBook text) refl
+    where
+      go : (o : Option Lines) → parseBook text ≡ o → C
+      go none e = absurd (false≢true (rw (e, isBook) at (sym (s .spelled-is) ∙ h)))
+      go (some b) e = k b e
+
+  -- and one that is not has none
+  pub misspelt-none : spelled ≡ false → parseBook text ≡ none
+  unfolding isBook
+  misspelt-none h = go (parseBook text) refl
+    where
+      go : (o : Option Lines) → parseBook text ≡ o → parseBook text ≡ none
+      go none e = e
+      go (some b) e = absurd (false≢true (sym h ∙ rw (e, isBook) at (s .spelled-is)))
+
+  module _ (b : Lines) (e : parseBook text ≡ some b) where
+    pub numbers-counted : Counted numbers b
+    unfolding countsOf
+    numbers-counted =
+        rw (s .numbers-are b e)
+        (record {
+          terminals-are = refl;
+          nonterminals-are = refl;
+          states-are = refl;
+          inherited-are = refl;
+          synthesized-are = refl;
+          rules-are = refl;
+          inherited-definitions-are = refl;
+          synthesized-definitions-are = refl;
+          kernels-are = refl;
+          goes-are = refl;
+        })
+
+    module _ (r : Roomy before) where
+      pub arrays-held : Held (kept b) (stored .inherited) (stored .synthesized) (stored .rules) (stored .definitions) (stored .kernels) (stored .goes)
+      unfolding storedIn
+      arrays-held =
+          rw (s .lines-are b e) (held b (before .inherited) (before .synthesized) (before .rules) (before .definitions) (before .kernels) (before .goes)
+          (r .inherited-long) (r .synthesized-long) (r .rules-long) (r .definitions-long) (r .kernels-long) (r .goes-long))
+
+      -- all but the go lines
+      pub arrays-kept : Kept numbers (stored .inherited) (stored .synthesized) (stored .rules) (stored .definitions) (stored .kernels) b
+      arrays-kept =
+          record {
+            counted = numbers-counted;
+            ordered = print-parse text b e .1 .ordered;
+            inherited-in = arrays-held .inherited-in;
+            synthesized-in = arrays-held .synthesized-in;
+            rules-in = arrays-held .rules-in;
+            definitions-in = arrays-held .definitions-in;
+            kernels-in = arrays-held .kernels-in;
+          }

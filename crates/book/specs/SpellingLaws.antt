@@ -112,9 +112,20 @@ module _ {text inherited₀ inherited synthesized₀ synthesized rules₀ rules 
   unfolding whole result remaining
   book-read =
       book-is (rest text 0)
-      ∙ rw (← head-read .remaining-is, ← head-read .result-is, ← inherited-read .remaining-is, ← synthesized-read .remaining-is, ← rules-read .remaining-is,
-      inherited-lines (rest text p₄), ← inherited-defined .remaining-is, synthesized-lines (rest text p₅), ← synthesized-defined .remaining-is,
-      ← kernels-read .remaining-is, ← goes-read .remaining-is, ← end-read)
+      ∙ rw (
+        ← head-read .remaining-is,
+        ← head-read .result-is,
+        ← inherited-read .remaining-is,
+        ← synthesized-read .remaining-is,
+        ← rules-read .remaining-is,
+        inherited-lines (rest text p₄),
+        ← inherited-defined .remaining-is,
+        synthesized-lines (rest text p₅),
+        ← synthesized-defined .remaining-is,
+        ← kernels-read .remaining-is,
+        ← goes-read .remaining-is,
+        ← end-read,
+      )
 
   parse-is : parseBook text ≡ ended (parsed read (rest text p₉))
   unfolding parseBook
@@ -128,9 +139,17 @@ module _ {text inherited₀ inherited synthesized₀ synthesized rules₀ rules 
   counts-are : numbersWith numbers i s r d e k g ≡ countsOf read
   unfolding whole countsOf
   counts-are =
-      rw (inherited-read .count-is, synthesized-read .count-is, rules-read .count-is, inherited-defined .count-is, synthesized-defined .count-is,
-      kernels-read .count-is, goes-read .count-is, length-map (result (definitions true (rest text p₄))) inheritedOf,
-      length-map (result (definitions false (rest text p₅))) synthesizedOf)
+      rw (
+        inherited-read .count-is,
+        synthesized-read .count-is,
+        rules-read .count-is,
+        inherited-defined .count-is,
+        synthesized-defined .count-is,
+        kernels-read .count-is,
+        goes-read .count-is,
+        length-map (result (definitions true (rest text p₄))) inheritedOf,
+        length-map (result (definitions false (rest text p₅))) synthesizedOf,
+      )
 
   -- the definitions' array, where the text is not lost
   definitions-are : 0 < size (rest text p₉)
@@ -140,8 +159,15 @@ module _ {text inherited₀ inherited synthesized₀ synthesized rules₀ rules 
   unfolding whole
   definitions-are h =
       let sixth : 0 < size (rest text p₆) =
-      omega (arith, ap size end-read, end-size (rest text p₈), ap size (goes-read .remaining-is), goes-size (rest text p₇), ap size (kernels-read .remaining-is),
-      kernels-size (rest text p₆)) in
+      omega (
+        arith,
+        ap size end-read,
+        end-size (rest text p₈),
+        ap size (goes-read .remaining-is),
+        goes-size (rest text p₇),
+        ap size (kernels-read .remaining-is),
+        kernels-size (rest text p₆),
+      ) in
       let fifth : 0 < size (rest text p₅) = omega (arith, ap size (synthesized-defined .remaining-is), definitions-size false (rest text p₅)) in
       some-left (rest text p₆) sixth λ cs e₆. some-left (rest text p₅) fifth λ bs e₅.
       let first : definitions₁ ≡ storeLines inheritedWords MAX-DEFINITIONS 0 (map inheritedOf (result (definitions true (rest text p₄)))) definitions₀ =

@@ -181,13 +181,18 @@ pub struct DefinitionsRead {
 }
 
 // Both sections, one after the other in one array.
-pub fn definition_sections(t: &[u8; 256], text: &[u8], at: usize, waits: &mut [u8], out: &mut [u32]) -> DefinitionsRead
+pub fn definition_sections(
+    t: &[u8; 256],
+    text: &[u8],
+    at: usize,
+    waits: &mut [u8],
+    out: &mut [u32],
+) -> DefinitionsRead
     requires { ⌜ Lent (now t) (now text) × (MAX-WAITING ≤ length (now waits)) × (MAX-DEFINITIONS * DEFINITION-WORDS ≤ length (now out)) ⌝ }
     ensures { λ r. ⌜ DefinesBoth (now (text .entry)) (now (out .entry)) at (r .inherited) (r .synthesized) (r .at) (now (out .exit)) ⌝ }
 {
     let inherited = inherited_definitions(t, text, at, waits, out);
-    let synthesized =
-        synthesized_definitions(t, text, inherited.at, inherited.count, waits, out);
+    let synthesized = synthesized_definitions(t, text, inherited.at, inherited.count, waits, out);
     DefinitionsRead {
         inherited: inherited.count,
         synthesized: synthesized.count,

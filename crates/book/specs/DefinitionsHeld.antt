@@ -76,7 +76,8 @@ module _ {B : Type 0} (inherited : Bool) (of : Definition → B) (words : B → 
   -- a line whose head was found, and those after it
   more-lines : (fuel : ℕ) (last : List ℕ) (o : Rest) (p : Parsed Definition) → found (opening (wordFor inherited) o) ≡ true
       → definition inherited last (opening (wordFor inherited) o) ≡ p
-      → lines (suc fuel) last o ≡ parsed (result p ∷ result (lines fuel (nextKey last (result p)) (remaining p))) (remaining (lines fuel (nextKey last (result p)) (remaining p)))
+      → lines (suc fuel) last o
+      ≡ parsed (result p ∷ result (lines fuel (nextKey last (result p)) (remaining p))) (remaining (lines fuel (nextKey last (result p)) (remaining p)))
   unfolding lines many result remaining
   more-lines fuel last o p h e = rw (h, many) (rw e)
 
@@ -107,7 +108,8 @@ module _ {B : Type 0} (inherited : Bool) (of : Definition → B) (words : B → 
           rw q at (K .same-words last (opening (wordFor inherited) o) (line-steps inherited last (opening (wordFor inherited) o) (ap remaining q))) in
           let more = ih (nextKey last d) (left r₁) room (suc k) (putLine room k (words (of d)) out) (sym (ap remaining m) ∙ e) in
           ap (λ p. storeLines wordsOf room k (result p) out) m
-          ∙ (one-kept d (result (lines fuel (nextKey last d) (left r₁))) room k out here more ∙ sym (ap (λ p. storeLines words room k (map of (result p)) out) m))
+          ∙ (one-kept d (result (lines fuel (nextKey last d) (left r₁))) room k out here more
+          ∙ sym (ap (λ p. storeLines words room k (map of (result p)) out) m))
 
   section-kept : {r : List ℕ} (o : Rest) (room k : ℕ) (out : List ℕ) → remaining (definitions inherited o) ≡ left r
       → storeLines wordsOf room k (result (definitions inherited o)) out ≡ storeLines words room k (map of (result (definitions inherited o))) out

@@ -163,7 +163,9 @@ rules-in G out h =
       fits = few MAX-RULES G;
       left-is = λ P l. word P 0 (10 * P) l (omega arith) (omega arith);
       size-is = λ P l. word P 1 (10 * P + 1) l (omega arith) (omega arith);
-      symbol-is = λ P D l m n. word P (2 + D) (10 * P + 2 + D) l (omega arith) (omega arith) ∙ (right-word (ruleAt (take MAX-RULES G) P) D n ∙ code-at (rightOf (take MAX-RULES G) P) D m);
+      symbol-is = λ P D l m n.
+          word P (2 + D) (10 * P + 2 + D) l (omega arith) (omega arith)
+          ∙ (right-word (ruleAt (take MAX-RULES G) P) D n ∙ code-at (rightOf (take MAX-RULES G) P) D m);
     }
 
 pub kernels-in : (ks : List Kernel) (out : List ℕ) → length out ≡ 5 * MAX-KERNELS → KernelsIn (take MAX-KERNELS ks) (storeLines kernelWords MAX-KERNELS 0 ks out)

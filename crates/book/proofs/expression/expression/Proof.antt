@@ -6,7 +6,19 @@ use lib.ListN.{length, length-set}
 use Rattle.text.specs.Rest.{rest, size}
 use Rattle.grammar.specs.Format.Expression.{scan, expressionSteps}
 use Rattle.book.specs.Expressions.{DEFINITION-WORDS}
-use Rattle.book.specs.ExpressionsLoop.{Working, working-start, begun-shorter, mark-shorter, open-fits, working-open, working-whole, working-space, working-close, working-lost, working-end}
+use Rattle.book.specs.ExpressionsLoop.{
+  Working,
+  working-start,
+  begun-shorter,
+  mark-shorter,
+  open-fits,
+  working-open,
+  working-whole,
+  working-space,
+  working-close,
+  working-lost,
+  working-end,
+}
 use borrow.Author.Needs.{needs}
 use Rattle.book.proofs.expression.expression.Statement.{statement}
 use Rattle.book.proofs.expression.expression.Tie as tie
@@ -28,32 +40,32 @@ begun-requires c κs = search needs
 slice-write-waits : tie.Need-slice-write-waits Inv-loop μ-loop
 slice-write-waits c =
     let begins = c .before in
-    let scanTurn = begins .before .before in
-    let start = scanTurn .before .before .before .before .before in
-    omega (arith, open-fits (scanTurn .before .loop .inv .2) (scanTurn .loop-test .taken) (begins .begun .ensures) (c .if2 .taken) (start .pre .0 .short))
+    let turn = begins .before .before in
+    let start = turn .before .before .before .before .before in
+    omega (arith, open-fits (turn .before .loop .inv .2) (turn .loop-test .taken) (begins .begun .ensures) (c .if2 .taken) (start .pre .0 .short))
 
 add-depth : tie.Need-add-depth Inv-loop μ-loop
 add-depth c =
     let begins = c .before in
-    let scanTurn = begins .before .before in
-    let start = scanTurn .before .before .before .before .before in
-    omega (arith, open-fits (scanTurn .before .loop .inv .2) (scanTurn .loop-test .taken) (begins .begun .ensures) (c .if2 .taken) (start .pre .0 .short))
+    let turn = begins .before .before in
+    let start = turn .before .before .before .before .before in
+    omega (arith, open-fits (turn .before .loop .inv .2) (turn .loop-test .taken) (begins .begun .ensures) (c .if2 .taken) (start .pre .0 .short))
 
 loop-less : tie.Need-loop-less Inv-loop μ-loop
 loop-less c =
     let begins = c .before in
-    let scanTurn = begins .before .before in
-    begun-shorter (scanTurn .before .loop .inv .2) (scanTurn .loop-test .taken) (begins .begun .ensures)
+    let turn = begins .before .before in
+    begun-shorter (turn .before .loop .inv .2) (turn .loop-test .taken) (begins .begun .ensures)
 
 loop-again : tie.Need-loop-again Inv-loop μ-loop
 loop-again c =
     let begins = c .before in
-    let scanTurn = begins .before .before in
-    let inv = scanTurn .before .loop .inv in
-    let start = scanTurn .before .before .before .before .before in (
+    let turn = begins .before .before in
+    let inv = turn .before .loop .inv in
+    let start = turn .before .before .before .before .before in (
       simp length-set (inv .0),
       inv .1,
-      working-open (inv .2) (scanTurn .loop-test .taken) (begins .begun .ensures) (c .if2 .taken) (omega arith) (start .pre .0 .short) (begins .before .if1 .taken),
+      working-open (inv .2) (turn .loop-test .taken) (begins .begun .ensures) (c .if2 .taken) (omega arith) (start .pre .0 .short) (begins .before .if1 .taken),
     )
 
 put-node-requires : tie.Need-put-node-requires Inv-loop μ-loop
@@ -65,18 +77,19 @@ add-count c = search needs
 loop-less-2 : tie.Need-loop-less-2 Inv-loop μ-loop
 loop-less-2 c =
     let begins = c .before .before .before .before .before in
-    let scanTurn = begins .before .before in
-    begun-shorter (scanTurn .before .loop .inv .2) (scanTurn .loop-test .taken) (begins .begun .ensures)
+    let turn = begins .before .before in
+    begun-shorter (turn .before .loop .inv .2) (turn .loop-test .taken) (begins .begun .ensures)
 
 loop-again-2 : tie.Need-loop-again-2 Inv-loop μ-loop
 loop-again-2 c =
     let node = c .before .before in
     let begins = node .before .before .before in
-    let scanTurn = begins .before .before in
-    let inv = scanTurn .before .loop .inv in (
+    let turn = begins .before .before in
+    let inv = turn .before .loop .inv in (
       inv .0,
       search needs,
-      working-whole (inv .2) (scanTurn .loop-test .taken) (begins .begun .ensures) (node .before .before .if2 .left) (begins .before .if1 .taken) (node .put-node .ensures),
+      working-whole (inv .2) (turn .loop-test .taken) (begins .begun .ensures) (node .before .before .if2 .left) (begins .before .if1 .taken)
+          (node .put-node .ensures),
     )
 
 same-length : tie.Need-same-length Inv-loop μ-loop
@@ -110,19 +123,19 @@ sub-depth c = search needs
 loop-less-3 : tie.Need-loop-less-3 Inv-loop μ-loop
 loop-less-3 c =
     let closed = c .before .before .before .before in
-    let scanTurn = closed .before .before .before .before .before in
-    mark-shorter (scanTurn .before .loop .inv .2) (scanTurn .loop-test .taken) _ _ (closed .mark .ensures)
+    let turn = closed .before .before .before .before .before in
+    mark-shorter (turn .before .loop .inv .2) (turn .loop-test .taken) _ _ (closed .mark .ensures)
 
 loop-again-3 : tie.Need-loop-again-3 Inv-loop μ-loop
 loop-again-3 c =
     let node = c .before .before in
     let closed = node .before .before in
-    let scanTurn = closed .before .before .before .before .before in
-    let inv = scanTurn .before .loop .inv in (
+    let turn = closed .before .before .before .before .before in
+    let inv = turn .before .loop .inv in (
       inv .0,
       search needs,
-      working-close (inv .2) (scanTurn .loop-test .taken) (closed .before .before .before .before .if1 .left) (omega arith) refl (closed .before .if4 .taken) (closed .mark .ensures)
-          (node .put-node2 .ensures),
+      working-close (inv .2) (turn .loop-test .taken) (closed .before .before .before .before .if1 .left) (omega arith) refl (closed .before .if4 .taken)
+          (closed .mark .ensures) (node .put-node2 .ensures),
     )
 
 mark-requires-2 : tie.Need-mark-requires-2 Inv-loop μ-loop
@@ -136,18 +149,18 @@ slice-write-waits-2 c = search needs
 
 loop-less-4 : tie.Need-loop-less-4 Inv-loop μ-loop
 loop-less-4 c =
-    let scanTurn = c .before .before .before .before .before in
-    mark-shorter (scanTurn .before .loop .inv .2) (scanTurn .loop-test .taken) _ _ (c .mark2 .ensures)
+    let turn = c .before .before .before .before .before in
+    mark-shorter (turn .before .loop .inv .2) (turn .loop-test .taken) _ _ (c .mark2 .ensures)
 
 loop-again-4 : tie.Need-loop-again-4 Inv-loop μ-loop
 loop-again-4 c =
-    let scanTurn = c .before .before .before .before .before in
-    let inv = scanTurn .before .loop .inv in
-    let start = scanTurn .before .before .before .before .before in (
+    let turn = c .before .before .before .before .before in
+    let inv = turn .before .loop .inv in
+    let start = turn .before .before .before .before .before in (
       simp length-set (inv .0),
       inv .1,
-      working-space (inv .2) (scanTurn .loop-test .taken) (c .before .before .before .before .if1 .left) (omega arith) refl (omega arith) (start .pre .0 .short) (c .before .if4 .left)
-          (c .mark2 .ensures),
+      working-space (inv .2) (turn .loop-test .taken) (c .before .before .before .before .if1 .left) (omega arith) refl (omega arith) (start .pre .0 .short)
+          (c .before .if4 .left) (c .mark2 .ensures),
     )
 
 same-length-3 : tie.Need-same-length-3 Inv-loop μ-loop

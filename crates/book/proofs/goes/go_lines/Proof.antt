@@ -5,8 +5,8 @@ use Rattle.grammar.specs.Format.Ordered.{goKey}
 use Rattle.grammar.specs.Format.Reader.{opening}
 use Rattle.grammar.specs.Format.Parse.{goLine, goLines}
 use Rattle.book.specs.Layout.{goWords}
-use Rattle.book.specs.Order.{keyOf, lastKey, next-last}
-use Rattle.book.specs.Sections.{Filling, filling-start, filling-turn, filling-less, filling-done}
+use Rattle.book.specs.Order.{keyOf, lastKey, keyed-turn}
+use Rattle.book.specs.Sections.{Filling, filling-start, filling-less, filling-done}
 use Rattle.book.specs.GoLines.{go-shrinks}
 use borrow.Author.Needs.{needs}
 use Rattle.book.proofs.goes.go_lines.Statement.{statement}
@@ -56,8 +56,8 @@ unfolding spelled
 loop-again c =
     let line = c .before .before .before in
     let head = line .before .before .before in
-    filling-turn _ _ _ _ _ (go-shrinks _) _ (head .before .loop .inv) (head .opening .ensures) (line .before .before .if1 .left)
-    (line .go-line .ensures .puts) (next-last _ (line .go-line .ensures .key-is))
+    keyed-turn _ _ _ _ _ (go-shrinks _) (head .before .loop .inv) (head .opening .ensures) (line .before .before .if1 .left)
+    (line .go-line .ensures)
 
 pub go-lines-spec : {M : Type 1} → statement M
 go-lines-spec =

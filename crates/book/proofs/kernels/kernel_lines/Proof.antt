@@ -5,8 +5,8 @@ use Rattle.grammar.specs.Format.Ordered.{kernelKey}
 use Rattle.grammar.specs.Format.Reader.{opening}
 use Rattle.grammar.specs.Format.Parse.{kernelLine, kernelLines}
 use Rattle.book.specs.Layout.{kernelWords}
-use Rattle.book.specs.Order.{keyOf, lastKey, next-last}
-use Rattle.book.specs.Sections.{Filling, filling-start, filling-turn, filling-less, filling-done}
+use Rattle.book.specs.Order.{keyOf, lastKey, keyed-turn}
+use Rattle.book.specs.Sections.{Filling, filling-start, filling-less, filling-done}
 use Rattle.book.specs.KernelLines.{kernel-shrinks}
 use borrow.Author.Needs.{needs}
 use Rattle.book.proofs.kernels.kernel_lines.Statement.{statement}
@@ -56,8 +56,8 @@ unfolding spelled
 loop-again c =
     let line = c .before .before .before in
     let head = line .before .before .before in
-    filling-turn _ _ _ _ _ (kernel-shrinks _) _ (head .before .loop .inv) (head .opening .ensures) (line .before .before .if1 .left)
-    (line .kernel-line .ensures .puts) (next-last _ (line .kernel-line .ensures .key-is))
+    keyed-turn _ _ _ _ _ (kernel-shrinks _) (head .before .loop .inv) (head .opening .ensures) (line .before .before .if1 .left)
+    (line .kernel-line .ensures)
 
 pub kernel-lines-spec : {M : Type 1} → statement M
 kernel-lines-spec =

@@ -3,13 +3,6 @@ use Rattle.book.specs.SpellingLaws.{spelling-steps}
 use borrow.Author.Needs.{needs}
 use Rattle.book.proofs.reading.spelling.Statement.{statement}
 use Rattle.book.proofs.reading.spelling.Tie as tie
-use Rattle.book.proofs.reading.spelling.Reads as reads
-use Rattle.book.proofs.reading.spelling.Lts as lts
-use Rattle.book.proofs.definitions.definition_sections.Reads as definition-sections-reads
-use Rattle.book.proofs.goes.go_lines.Reads as go-lines-reads
-use Rattle.book.proofs.kernels.kernel_lines.Reads as kernel-lines-reads
-use Rattle.book.proofs.reading.declarations.Reads as declarations-reads
-use Rattle.book.proofs.spelling.end_line.Reads as end-line-reads
 
 declarations-requires : tie.Need-declarations-requires
 declarations-requires c κs = search needs
@@ -19,19 +12,22 @@ definition-sections-requires c κs = search needs
 
 kernel-lines-requires : tie.Need-kernel-lines-requires
 kernel-lines-requires c κs =
-    let declared = c .before .before .before .before .before .before .before .before .before .before .before .before .before .before in
+    let defined = c .before .before .before .before .before in
+    let declared = defined .before .before .before .before .before .before .before .before .before in
     let start = declared .before .before .before .before .before .before .before .before .before .before .before .before in
     (start .pre .0, omega (arith, start .pre .2 .kernels-long))
 
 go-lines-requires : tie.Need-go-lines-requires
 go-lines-requires c κs =
-    let declared = c .before .before .before .before .before .before .before .before .before .before .before .before .before .before .before .before .before .before in
+    let defined = c .before .before .before .before .before .before .before .before .before in
+    let declared = defined .before .before .before .before .before .before .before .before .before in
     let start = declared .before .before .before .before .before .before .before .before .before .before .before .before in
     (start .pre .0, omega (arith, start .pre .2 .goes-long))
 
 end-line-requires : tie.Need-end-line-requires
 end-line-requires c κs =
-    let declared = c .before .before .before .before .before .before .before .before .before .before .before .before .before .before .before .before .before .before .before .before .before in
+    let defined = c .before .before .before .before .before .before .before .before .before .before .before .before in
+    let declared = defined .before .before .before .before .before .before .before .before .before in
     let start = declared .before .before .before .before .before .before .before .before .before .before .before .before in
     start .pre .0
 

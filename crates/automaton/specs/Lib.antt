@@ -1,8 +1,13 @@
 pub mod Arrays
 pub mod SymbolCodes
 pub mod GoTable
+pub mod GrammarIn
 pub mod StatesIn
 pub mod HoldsItem
 pub mod Advances
 pub mod Comes
 pub mod GoRules
+pub mod Cells
+pub mod ActionRows
+pub mod ActionItems
+pub mod ActionTable

@@ -1,4 +1,5 @@
 // The LR(1) side of a book: nullable and FIRST, closures, kernel rules (7), go rules (8), actions and conflicts (9).
+pub mod actions;
 pub mod go_rules;
 pub mod go_table;
 pub mod words;

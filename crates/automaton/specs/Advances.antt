@@ -22,7 +22,8 @@ use Rattle.grammar.specs.Automaton.CoreItems.{Core, core, ofKernels, entered, o
 use Rattle.grammar.specs.Automaton.StatesCheck.{holdsItem, advancesTo, advances, allAdvance, statesAdvance}
 use Rattle.book.specs.Held.{KernelsIn, kernelAt}
 use Rattle.automaton.specs.Arrays.{GoTableIn, targetCode}
-use Rattle.automaton.specs.StatesIn.{StatesIn, MovesIn, ItemsIn, AutomatonIn, Stands, Next, Range, state-range, rule-low, kernel-there, after-none, after-some, right-go, lines-next}
+use Rattle.automaton.specs.GrammarIn.{Next, after-none, after-some, right-go, set-word}
+use Rattle.automaton.specs.StatesIn.{StatesIn, MovesIn, ItemsIn, AutomatonIn, Stands, Range, state-range, kernel-there, lines-next}
 
 -- ---- one item
 
@@ -40,7 +41,7 @@ pub record Leads (b : Book) (S P D M T : ℕ) : Type 0 where
 module _ {b : Book} {rules kernels starts table : List ℕ} (h : MovesIn b rules kernels starts table) {S P D : ℕ} (s : Stands b S P D) where
   pub advances-complete : (M : ℕ) → getD rules (10 * P + 1) 0 ≤ D → true ≡ advances b S P D M (after (b .rules) P D)
   unfolding advances
-  advances-complete M l = sym (rw (after-none (h .states-in) P D (s .rule-there) l))
+  advances-complete M l = sym (rw (after-none (h .states-in .grammar-in) P D (s .rule-there) l))
 
   -- the word of the target
   word : ℕ
@@ -56,7 +57,7 @@ module _ {b : Book} {rules kernels starts table : List ℕ} (h : MovesIn b rules
   lead : D < getD rules (10 * P + 1) 0 → Lead
   unfolding word
   lead l =
-      let n : Next b rules P D = after-some (h .states-in) P D (s .rule-there) l in
+      let n : Next b rules P D = after-some (h .states-in .grammar-in) P D (s .rule-there) l in
       record {
         symbol = n .symbol;
         rest = n .rest;
@@ -75,7 +76,7 @@ module _ {b : Book} {rules kernels starts table : List ℕ} (h : MovesIn b rules
       go : (o : Option ℕ) → goIn (b .goes) S (n .symbol) ≡ o → advancesTo b P D M o ≡ false
       go none q = refl
       go (some T) q =
-          absurd (let z : ⊥ = omega (arith, target-there (h .states-in .declared) S (n .symbol) q, h .states-in .limits .states-limit .high, sym e ∙ n .leads ∙ ap targetCode q) in z)
+          absurd (let z : ⊥ = omega (arith, target-there (h .states-in .grammar-in .declared) S (n .symbol) q, h .states-in .grammar-in .limits .states-limit .high, sym e ∙ n .leads ∙ ap targetCode q) in z)
 
   pub advances-leads : (M : ℕ) → D < getD rules (10 * P + 1) 0 → (getD table (64 * S + getD rules (10 * P + 2 + D) 0) 0 ≡ 255 → ⊥)
       → Leads b S P D M (getD table (64 * S + getD rules (10 * P + 2 + D) 0) 0)
@@ -89,7 +90,7 @@ module _ {b : Book} {rules kernels starts table : List ℕ} (h : MovesIn b rules
       go none q = absurd (m (n .leads ∙ ap targetCode q))
       go (some T) q =
           let e : word ≡ T = n .leads ∙ ap targetCode q in
-          rw e (record { target-is = target-there (h .states-in .declared) S (n .symbol) q; stands = rw (n .behind, q) })
+          rw e (record { target-is = target-there (h .states-in .grammar-in .declared) S (n .symbol) q; stands = rw (n .behind, q) })
 
   -- by the words that were read: the symbol, the target, and where the target's kernel lines stand
   module _ (more : D < getD rules (10 * P + 1) 0) {symbol : ℕ} (symbol-is : symbol ≡ getD rules (10 * P + 2 + D) 0)
@@ -101,7 +102,7 @@ module _ {b : Book} {rules kernels starts table : List ℕ} (h : MovesIn b rules
     target-range = state-range (h .states-in) (getD table (64 * S + symbol) 0) (led 0 .target-is)
 
     pub target-low : getD table (64 * S + symbol) 0 < MAX-STATES
-    target-low = omega (arith, led 0 .target-is, h .states-in .limits .states-limit .high)
+    target-low = omega (arith, led 0 .target-is, h .states-in .grammar-in .limits .states-limit .high)
 
     pub advances-found : (M : ℕ) {r : Bool} {first last : ℕ} → first ≡ getD starts (getD table (64 * S + symbol) 0) 0
         → last ≡ getD starts (getD table (64 * S + symbol) 0 + 1) 0
@@ -206,27 +207,20 @@ entered-item b S P zero items t e = ap (λ (x : Bool). elim x [ true ↦ allAdva
 entered-item b S P (suc M) items t e =
     ap (λ (x : Bool). elim x [ true ↦ allAdvance b S items | false ↦ false ]) (sym (one-item b S P (suc M)) ∙ e)
 
--- the words of closure sets
+-- by the words that were read
 module _ {b : Book} {F : Sets} {rules kernels starts closures : List ℕ} (h : ItemsIn b F rules kernels starts closures) {S P : ℕ} (s : Stands b S P 0)
     {left : ℕ} (left-is : left ≡ getD rules (10 * P) 0) where
-  pub set-place : 32 * S + left < length closures
-  set-place =
-      omega (arith, left-is, rule-low (h .states-in) P (s .rule-there) .left-low, s .state-there, h .states-in .limits .states-limit .high, h .closures-in .long)
-
-  pub set-word : getD closures (32 * S + left) 0 ≡ setAt (closureSets b F S) (leftOf (b .rules) P)
-  set-word =
-      let e : left ≡ leftOf (b .rules) P = left-is ∙ h .states-in .rules-in .left-is P (s .rule-there) in
-      h .closures-in .set-is S left (s .state-there) (omega (arith, left-is, rule-low (h .states-in) P (s .rule-there) .left-low))
-      ∙ ap (setAt (closureSets b F S)) e
+  word-set : getD closures (32 * S + left) 0 ≡ setAt (closureSets b F S) (leftOf (b .rules) P)
+  word-set = set-word (h .states-in .grammar-in) (h .closures-in) (s .state-there) (s .rule-there) left-is
 
   pub rule-idle : getD closures (32 * S + left) 0 ≡ 0 → true ≡ ruleAdvances b F S P
   unfolding ruleAdvances entered allAdvance
-  rule-idle z = sym (rw (sym set-word ∙ z))
+  rule-idle z = sym (rw (sym word-set ∙ z))
 
   pub rule-busy : (getD closures (32 * S + left) 0 ≡ 0 → ⊥) → {r : Bool}
       → r ≡ advances b S P 0 (getD closures (32 * S + left) 0) (after (b .rules) P 0) → r ≡ ruleAdvances b F S P
   unfolding ruleAdvances
-  rule-busy n e = e ∙ rw set-word (go (setAt (closureSets b F S) (leftOf (b .rules) P)) (rw set-word at n))
+  rule-busy n e = e ∙ rw word-set (go (setAt (closureSets b F S) (leftOf (b .rules) P)) (rw word-set at n))
     where
       go : (M : ℕ) → (M ≡ 0 → ⊥) → advances b S P 0 M (after (b .rules) P 0) ≡ allAdvance b S (entered P M [])
       go zero n = absurd (n refl)

@@ -1,6 +1,6 @@
 -- The second half of the go rules (8) over arrays: the target of every go line has kernel lines, each of them an item advanced.
 -- Assumes nothing.
-use Prim.Native.Nat.{ℕ, zero, suc, _+_, _*_, _-_, _<_, _≤_, zero-le}
+use Prim.Native.Nat.{ℕ, zero, suc, _+_, _*_, _-_, _<_, _≤_}
 use native.Mathlib.Omega.{arith}
 use native.Mathlib.Numerals.{add-one}
 use native.Mathlib.Nat.{eq-or-lt-of-le, le-of-suc-le-suc}
@@ -26,10 +26,10 @@ use Rattle.grammar.specs.Automaton.CoreItems.{Core, core, ofKernels, entered, o
 use Rattle.grammar.specs.Automaton.StatesCheck.{holdsItem, nextIs, comesFrom, allCome, someKernel, goLines}
 use Rattle.book.specs.Layout.{symbolCode}
 use Rattle.book.specs.Held.{KernelsIn, GoesIn, kernelAt, goAt}
-use Rattle.automaton.specs.StatesIn.{StatesIn, ItemsIn, Stands, Next, Range, state-range, rule-low, kernel-there, after-some, lines-next, right-symbol-low}
+use Rattle.automaton.specs.GrammarIn.{Next, after-some, right-symbol-low, set-word}
+use Rattle.automaton.specs.StatesIn.{StatesIn, ItemsIn, Stands, Range, state-range, lines-next}
 use Rattle.automaton.specs.SymbolCodes.{code-test}
 use Rattle.automaton.specs.GoTable.{LineLow, line-low, at-member, go-symbol-low}
-use Rattle.automaton.specs.Advances.{set-word}
 
 -- ---- an item of a state
 
@@ -131,8 +131,7 @@ module _ {b : Book} {F : Sets} {rules kernels starts closures : List ℕ} (h : I
     pub has-rule : D ≡ 0 → {left : ℕ} → left ≡ getD rules (10 * P) 0 → {r : Bool} → r ≡ not (eqb (getD closures (32 * S + left) 0) 0)
         → r ≡ someItem P D (coreItems b F S)
     has-rule z left-is q =
-        let front : Stands b S P 0 = record { state-there = s .state-there; rule-there = s .rule-there; dot-there = zero-le } in
-        rw (set-word h front left-is) at q
+        rw (set-word (h .states-in .grammar-in) (h .closures-in) (s .state-there) (s .rule-there) left-is) at q
         ∙ sym (some-core false (sym none) ∙ rw z (some-rule (b .rules) (closureSets b F S) P (length (b .rules)) (s .rule-there)))
 
 -- ---- a kernel line of a target
@@ -169,8 +168,8 @@ module _ {b : Book} {F : Sets} {rules kernels starts closures : List ℕ} (h : I
     -- the symbol before the dot
     before : Next b rules P (D - 1)
     before =
-        let more : D - 1 < getD rules (10 * P + 1) 0 = omega (arith, s .dot-there, h .states-in .rules-in .size-is P (s .rule-there)) in
-        after-some (h .states-in) P (D - 1) (s .rule-there) more
+        let more : D - 1 < getD rules (10 * P + 1) 0 = omega (arith, s .dot-there, h .states-in .grammar-in .rules-in .size-is P (s .rule-there)) in
+        after-some (h .states-in .grammar-in) P (D - 1) (s .rule-there) more
 
     module _ (x : GoSymbol b X) {symbol word : ℕ} (symbol-is : symbol ≡ symbolCode X) (word-is : word ≡ getD rules (10 * P + 1 + D) 0) where
       tested : nextIs X (after (b .rules) P (D - 1)) ≡ eqb symbol word
@@ -179,7 +178,7 @@ module _ {b : Book} {F : Sets} {rules kernels starts closures : List ℕ} (h : I
           let n : Next b rules P (D - 1) = before in
           let place : 10 * P + 2 + (D - 1) ≡ 10 * P + 1 + D = omega arith in
           rw (n .behind, symbol-is, word-is, ← place, n .word-is)
-          (code-test X (n .symbol) (go-symbol-low (h .states-in .limits) X x) (right-symbol-low (h .states-in .limits) (n .symbol) (n .declared-symbol)))
+          (code-test X (n .symbol) (go-symbol-low (h .states-in .grammar-in .limits) X x) (right-symbol-low (h .states-in .grammar-in .limits) (n .symbol) (n .declared-symbol)))
 
       line-is : (t : Bool) → eqb symbol word ≡ t
           → lineComes (b .rules) X (coreItems b F S) P D ≡ elim t [ true ↦ someItem P (D - 1) (coreItems b F S) | false ↦ false ]
@@ -254,10 +253,10 @@ goComes b items g = someKernel (kernelsIn (b .kernels) (g .target)) && allCome (
 -- the words of go line i
 module _ {b : Book} {rules kernels starts goes : List ℕ} (h : StatesIn b rules kernels starts) (g : GoesIn (b .goes) goes) {i : ℕ} (l : i < length (b .goes)) where
   pub go-low : LineLow goes i
-  go-low = line-low (record { limits = h .limits; declared = h .declared; lines-in = g; count-is = refl; states-is = refl }) i l
+  go-low = line-low (record { limits = h .grammar-in .limits; declared = h .grammar-in .declared; lines-in = g; count-is = refl; states-is = refl }) i l
 
   pub go-declared : DeclaredGo b (goAt (b .goes) i)
-  go-declared = h .declared .goes-declared (goAt (b .goes) i) (at-member (b .goes) i _ l)
+  go-declared = h .grammar-in .declared .goes-declared (goAt (b .goes) i) (at-member (b .goes) i _ l)
 
   pub state-there : {state : ℕ} → state ≡ getD goes (3 * i) 0 → state < b .states
   state-there e = rw (e, g .state-is i l) (go-declared .state-there)

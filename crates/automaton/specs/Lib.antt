@@ -1,6 +1,10 @@
+pub mod ActionItems
+pub mod ActionRows
+pub mod ActionTable
 pub mod Advances
 pub mod Arrays
 pub mod BookHeld
+pub mod Cells
 pub mod ClosurePasses
 pub mod Closures
 pub mod Comes
@@ -9,6 +13,7 @@ pub mod Filling
 pub mod FirstLoops
 pub mod GoRules
 pub mod GoTable
+pub mod GrammarIn
 pub mod GrammarOf
 pub mod HoldsItem
 pub mod KernelLines

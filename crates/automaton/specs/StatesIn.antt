@@ -5,9 +5,10 @@ use native.Mathlib.Omega.{arith}
 use native.Mathlib.Numerals.{add-one}
 use mathlib.Core.Path.{_≡_, refl, sym, ap, _∙_}
 use mathlib.Core.List.{List, [], _∷_}
-use lib.ListN.{length, getD, take, drop, drop-of-length-le}
-use lib.Seq.{slice, slice-cons, drop-cons, take-nil}
+use lib.ListN.{length, getD, take, drop}
+use lib.Seq.{slice, slice-cons, take-nil}
 use Rattle.grammar.specs.Limits.{MAX-RULES, MAX-RIGHT, MAX-STATES, MAX-KERNELS}
+<<<<<<< HEAD
 use Rattle.grammar.specs.Data.Symbol.{Symbol, terminal, nonterminal, Rule, leftOf, rightOf, after}
 use Rattle.grammar.specs.Data.Book.{Book, Kernel}
 use Rattle.grammar.specs.Conditions.Meaning.{WithinLimits, Declared, DeclaredKernel, RightSymbol, GoSymbol}
@@ -17,15 +18,22 @@ use Rattle.grammar.specs.Automaton.FirstSets.{Sets}
 use Rattle.grammar.specs.Automaton.ClosureSets.{kernelsIn}
 use Rattle.book.specs.Layout.{symbolCode}
 use Rattle.book.specs.Held.{RulesIn, KernelsIn, kernelAt}
+=======
+use Rattle.grammar.specs.Symbol.{rightOf}
+use Rattle.grammar.specs.Book.{Book, Kernel}
+use Rattle.grammar.specs.Conditions.{DeclaredKernel}
+use Rattle.grammar.specs.ConditionsLaws.{right-length}
+use Rattle.grammar.specs.FirstSets.{Sets}
+use Rattle.grammar.specs.ClosureSets.{kernelsIn}
+use Rattle.book.specs.Held.{KernelsIn, kernelAt}
+>>>>>>> w-auto3
 use Rattle.automaton.specs.Arrays.{StartsIn, ClosuresIn, GoTableIn}
-use Rattle.automaton.specs.SymbolCodes.{code-low}
+use Rattle.automaton.specs.GrammarIn.{GrammarIn}
 use Rattle.automaton.specs.GoTable.{at-member}
 
--- a book that keeps the limits and declares its names
+-- the rules and the kernel lines, with where those of each state begin
 pub record StatesIn (b : Book) (rules kernels starts : List ℕ) : Type 0 where
-  pub limits : WithinLimits b
-  pub declared : Declared b
-  pub rules-in : RulesIn (b .rules) rules
+  pub grammar-in : GrammarIn b rules
   pub kernels-in : KernelsIn (b .kernels) kernels
   pub starts-in : StartsIn (b .kernels) (b .states) starts
 
@@ -64,14 +72,6 @@ pub record Stands (b : Book) (S P D : ℕ) : Type 0 where
 pub stands-back : {b : Book} {S P D : ℕ} → Stands b S P D → Stands b S P (D - 1)
 stands-back s = record { state-there = s .state-there; rule-there = s .rule-there; dot-there = omega (arith, s .dot-there) }
 
--- the words of rule P
-pub record RuleLow (rules : List ℕ) (P : ℕ) : Type 0 where
-  pub there : 10 * P + 10 ≤ length rules
-  pub below : P < MAX-RULES
-  pub left-low : getD rules (10 * P) 0 < 32
-  pub size-low : getD rules (10 * P + 1) 0 ≤ MAX-RIGHT
-  pub symbol-low : (D : ℕ) → D < getD rules (10 * P + 1) 0 → getD rules (10 * P + 2 + D) 0 < 64
-
 -- the words of kernel line i
 pub record KernelLow (kernels : List ℕ) (i : ℕ) : Type 0 where
   pub there : 5 * i + 5 ≤ length kernels
@@ -86,22 +86,6 @@ pub record Range (b : Book) (S first last : ℕ) : Type 0 where
   pub below : last ≤ MAX-KERNELS
   pub lines-are : kernelsIn (b .kernels) S ≡ slice first last (b .kernels)
 
--- the symbol behind the dot of (P, D), and its word
-pub record Next (b : Book) (rules : List ℕ) (P D : ℕ) : Type 0 where
-  pub symbol : Symbol
-  pub rest : List Symbol
-  pub behind : after (b .rules) P D ≡ symbol ∷ rest
-  pub declared-symbol : RightSymbol b symbol
-  pub word-is : getD rules (10 * P + 2 + D) 0 ≡ symbolCode symbol
-
-pub right-symbol-low : {b : Book} → WithinLimits b → (X : Symbol) → RightSymbol b X → numberOf X < 32
-right-symbol-low w (terminal t) h = omega (arith, h .high, w .terminals-limit .high)
-right-symbol-low w (nonterminal A) h = omega (arith, h .high, w .nonterminals-limit .high)
-
-pub right-go : (b : Book) (X : Symbol) → RightSymbol b X → GoSymbol b X
-right-go b (terminal t) h = h
-right-go b (nonterminal A) h = h .high
-
 -- a part in the middle, cut in the other order
 take-drop : {A : Type 0} (f t : ℕ) (l : List A) → take (t - f) (drop f l) ≡ slice f t l
 take-drop zero t l = let e : t - 0 ≡ t = omega arith in rw e
@@ -115,33 +99,8 @@ pub lines-next : (ks : List Kernel) {i last : ℕ} → i < last → last ≤ len
 lines-next ks {i} {last} h f = rw (add-one i) (slice-cons i last ks _ h f)
 
 module _ {b : Book} {rules kernels starts : List ℕ} (h : StatesIn b rules kernels starts) where
-  pub after-none : (P D : ℕ) → P < length (b .rules) → getD rules (10 * P + 1) 0 ≤ D → after (b .rules) P D ≡ []
-  after-none P D p l = let m : length (rightOf (b .rules) P) ≤ D = omega (arith, h .rules-in .size-is P p) in drop-of-length-le (rightOf (b .rules) P) m
-
-  pub after-some : (P D : ℕ) → P < length (b .rules) → D < getD rules (10 * P + 1) 0 → Next b rules P D
-  after-some P D p l =
-      let m : D < length (rightOf (b .rules) P) = omega (arith, h .rules-in .size-is P p) in
-      let e : after (b .rules) P D ≡ getD (rightOf (b .rules) P) D (terminal 0) ∷ drop (suc D) (rightOf (b .rules) P) =
-      drop-cons (rightOf (b .rules) P) D (terminal 0) m in
-      record {
-        symbol = getD (rightOf (b .rules) P) D (terminal 0);
-        rest = drop (suc D) (rightOf (b .rules) P);
-        behind = e;
-        declared-symbol = right-declared (h .declared) P D e;
-        word-is = h .rules-in .symbol-is P D p m (omega (arith, right-length (h .limits) P));
-      }
-
-  pub rule-low : (P : ℕ) → P < length (b .rules) → RuleLow rules P
-  rule-low P p = record {
-    there = omega (arith, h .rules-in .long, h .rules-in .fits);
-    below = omega (arith, h .rules-in .fits);
-    left-low = omega (arith, h .rules-in .left-is P p, left-declared (h .declared) P p, h .limits .nonterminals-limit .high);
-    size-low = omega (arith, h .rules-in .size-is P p, right-length (h .limits) P);
-    symbol-low = λ D l. let n : Next b rules P D = after-some P D p l in rw (n .word-is) (code-low (n .symbol) (right-symbol-low (h .limits) (n .symbol) (n .declared-symbol)));
-  }
-
   pub kernel-there : (i : ℕ) → i < length (b .kernels) → DeclaredKernel b (kernelAt (b .kernels) i)
-  kernel-there i l = h .declared .kernels-declared (kernelAt (b .kernels) i) (at-member (b .kernels) i _ l)
+  kernel-there i l = h .grammar-in .declared .kernels-declared (kernelAt (b .kernels) i) (at-member (b .kernels) i _ l)
 
   pub kernel-low : (i : ℕ) → i < length (b .kernels) → KernelLow kernels i
   kernel-low i l =
@@ -150,8 +109,8 @@ module _ {b : Book} {rules kernels starts : List ℕ} (h : StatesIn b rules kern
       record {
         there = omega (arith, h .kernels-in .long, h .kernels-in .fits);
         below = omega (arith, h .kernels-in .fits);
-        rule-low = omega (arith, h .kernels-in .rule-is i l, d .rule-there, h .rules-in .fits);
-        dot-low = omega (arith, h .kernels-in .dot-is i l, d .dot-there, right-length (h .limits) (k .rule));
+        rule-low = omega (arith, h .kernels-in .rule-is i l, d .rule-there, h .grammar-in .rules-in .fits);
+        dot-low = omega (arith, h .kernels-in .dot-is i l, d .dot-there, right-length (h .grammar-in .limits) (k .rule));
       }
 
   -- the starts ascend to the number of lines
@@ -171,4 +130,4 @@ module _ {b : Book} {rules kernels starts : List ℕ} (h : StatesIn b rules kern
 
   -- both ends are words
   pub state-starts : (S : ℕ) → S < b .states → S + 1 < length starts
-  state-starts S s = omega (arith, h .starts-in .long, h .limits .states-limit .high)
+  state-starts S s = omega (arith, h .starts-in .long, h .grammar-in .limits .states-limit .high)

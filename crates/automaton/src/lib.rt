@@ -1,4 +1,5 @@
 // The LR(1) side of a book: nullable and FIRST, closures, kernel rules (7), go rules (8), actions and conflicts (9).
+pub mod actions;
 pub mod closure;
 pub mod closures;
 pub mod first;

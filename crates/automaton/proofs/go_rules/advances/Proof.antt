@@ -2,14 +2,14 @@
 use Prim.Native.Nat.{_+_, _*_, _<_}
 use native.Mathlib.Omega.{arith}
 use lib.ListN.{length, getD}
-use Rattle.automaton.specs.StatesIn.{RuleLow, rule-low}
+use Rattle.automaton.specs.GrammarIn.{RuleLow, rule-low}
 use Rattle.automaton.specs.Advances.{advances-complete, advances-nowhere, advances-found, target-range, target-low}
 use Rattle.automaton.proofs.go_rules.advances.Statement.{statement}
 use Rattle.automaton.proofs.go_rules.advances.Tie as tie
 
 -- the words of the rule
 low : (c : tie.Start) → RuleLow (c .args .rules .now) (c .args .rule)
-low c = rule-low (c .pre .1 .states-in) (c .args .rule) (c .pre .2 .rule-there)
+low c = rule-low (c .pre .1 .states-in .grammar-in) (c .args .rule) (c .pre .2 .rule-there)
 
 -- a symbol stands behind the dot
 more : (c : tie.Else1) → c .before .before .before .before .before .before .args .dot < getD (c .before .before .before .before .before .before .args .rules .now) (10 * c .before .before .before .before .before .before .args .rule + 1) 0
@@ -17,7 +17,7 @@ more c = rw (c .before .word .ensures) at (c .if1 .left)
 
 place-low : (c : tie.After-word2) → 64 * c .before .before .before .before .before .before .before .args .state + c .word2 .result < length (c .before .before .before .before .before .before .before .args .table .now)
 place-low c =
-    omega (arith, low (c .before .before .before .before .before .before .before) .symbol-low (c .before .before .before .before .before .before .before .args .dot) (more (c .before)), c .word2 .ensures, c .before .before .before .before .before .before .before .pre .2 .state-there, c .before .before .before .before .before .before .before .pre .1 .states-in .limits .states-limit .high, c .before .before .before .before .before .before .before .pre .1 .table-in .long)
+    omega (arith, low (c .before .before .before .before .before .before .before) .symbol-low (c .before .before .before .before .before .before .before .args .dot) (more (c .before)), c .word2 .ensures, c .before .before .before .before .before .before .before .pre .2 .state-there, c .before .before .before .before .before .before .before .pre .1 .states-in .grammar-in .limits .states-limit .high, c .before .before .before .before .before .before .before .pre .1 .table-in .long)
 
 -- the target is a state
 target : (c : tie.Else2) → getD (c .before .before .before .before .before .before .before .before .before .args .table .now) (64 * c .before .before .before .before .before .before .before .before .before .args .state + c .before .before .word2 .result) 0 + 1 < length (c .before .before .before .before .before .before .before .before .before .args .starts .now)
@@ -47,7 +47,7 @@ word-requires-2 : tie.Need-word-requires-2
 word-requires-2 c κs = omega (arith, low (c .before .before .before .before .before .before), more c)
 
 mul-target : tie.Need-mul-target
-mul-target c = omega (arith, c .before .before .before .before .before .before .before .pre .2 .state-there, c .before .before .before .before .before .before .before .pre .1 .states-in .limits .states-limit .high)
+mul-target c = omega (arith, c .before .before .before .before .before .before .before .pre .2 .state-there, c .before .before .before .before .before .before .before .pre .1 .states-in .grammar-in .limits .states-limit .high)
 
 add-target : tie.Need-add-target
 add-target c = omega (arith, place-low c, c .before .before .before .before .before .before .before .pre .1 .table-in .long)

@@ -1,7 +1,8 @@
 -- `go_rules::comes` meets its contract: the dot has moved over the symbol, and the item with the dot one back is there. Assumes nothing.
 use Prim.Native.Nat.{_≤_}
 use native.Mathlib.Omega.{arith}
-use Rattle.automaton.specs.StatesIn.{RuleLow, rule-low, stands-back}
+use Rattle.automaton.specs.GrammarIn.{RuleLow, rule-low}
+use Rattle.automaton.specs.StatesIn.{stands-back}
 use Rattle.automaton.specs.Comes.{comes-front, comes-other, comes-item}
 use borrow.Author.Needs.{needs}
 use Rattle.automaton.proofs.go_rules.comes.Statement.{statement}
@@ -9,11 +10,11 @@ use Rattle.automaton.proofs.go_rules.comes.Tie as tie
 
 -- the words of the rule
 low : (c : tie.Start) → RuleLow (c .args .rules .now) (c .args .rule)
-low c = rule-low (c .pre .2 .states-in) (c .args .rule) (c .pre .3 .rule-there)
+low c = rule-low (c .pre .2 .states-in .grammar-in) (c .args .rule) (c .pre .3 .rule-there)
 
 -- the dot is in the rule
 dot-low : (c : tie.Start) → c .args .dot ≤ 8
-dot-low c = omega (arith, low c .size-low, c .pre .3 .dot-there, c .pre .2 .states-in .rules-in .size-is (c .args .rule) (c .pre .3 .rule-there))
+dot-low c = omega (arith, low c .size-low, c .pre .3 .dot-there, c .pre .2 .states-in .grammar-in .rules-in .size-is (c .args .rule) (c .pre .3 .rule-there))
 
 returns : tie.Need-returns
 returns c = λ b F X h s x e. comes-front h s X (c .if1 .taken)

@@ -2,11 +2,20 @@
 use mathlib.Core.Path.{refl}
 use mathlib.Core.Path.{_≡_, sym, _∙_}
 use native.Mathlib.Omega.{arith}
+<<<<<<< HEAD
 use Rattle.grammar.specs.Data.Book.{Book}
 use Rattle.grammar.specs.Automaton.FirstSets.{Sets}
 use Rattle.grammar.specs.Automaton.ClosureSets.{kernelsIn}
 use Rattle.grammar.specs.Automaton.StatesCheck.{holdsItem}
 use Rattle.automaton.specs.StatesIn.{ItemsIn, Stands, RuleLow, rule-low, state-starts, state-range}
+=======
+use Rattle.grammar.specs.Book.{Book}
+use Rattle.grammar.specs.FirstSets.{Sets}
+use Rattle.grammar.specs.ClosureSets.{kernelsIn}
+use Rattle.grammar.specs.StatesCheck.{holdsItem}
+use Rattle.automaton.specs.GrammarIn.{RuleLow, rule-low}
+use Rattle.automaton.specs.StatesIn.{ItemsIn, Stands, state-starts, state-range}
+>>>>>>> w-auto3
 use Rattle.automaton.specs.Comes.{searched, has-kernel, has-none, has-rule}
 use borrow.Author.Needs.{needs}
 use Rattle.automaton.proofs.go_rules.has_item.Statement.{statement}
@@ -14,7 +23,7 @@ use Rattle.automaton.proofs.go_rules.has_item.Tie as tie
 
 -- the words of the rule
 low : (c : tie.Start) → RuleLow (c .args .rules .now) (c .args .rule)
-low c = rule-low (c .pre .2 .states-in) (c .args .rule) (c .pre .3 .rule-there)
+low c = rule-low (c .pre .2 .states-in .grammar-in) (c .args .rule) (c .pre .3 .rule-there)
 
 -- what the search among the kernel lines says
 found : (c : tie.After-holds-item) (b : Book) (F : Sets)
@@ -48,7 +57,7 @@ returns-2 : tie.Need-returns-2
 returns-2 c = λ b F h s. has-none h s (sym (c .before .if1 .left) ∙ found (c .before .before) b F h s) (c .if2 .taken)
 
 mul-result : tie.Need-mul-result
-mul-result c = omega (arith, c .before .before .before .before .before .before .before .before .before .before .pre .3 .state-there, c .before .before .before .before .before .before .before .before .before .before .pre .2 .states-in .limits .states-limit .high)
+mul-result c = omega (arith, c .before .before .before .before .before .before .before .before .before .before .pre .3 .state-there, c .before .before .before .before .before .before .before .before .before .before .pre .2 .states-in .grammar-in .limits .states-limit .high)
 
 mul-word : tie.Need-mul-word
 mul-word c = omega (arith, low (c .before .before .before .before .before .before .before .before .before .before) .below)
@@ -57,13 +66,13 @@ word-requires-3 : tie.Need-word-requires-3
 word-requires-3 c κs = omega (arith, low (c .before .before .before .before .before .before .before .before .before .before) .there)
 
 add-result : tie.Need-add-result
-add-result c = omega (arith, low (c .before .before .before .before .before .before .before .before .before .before .before) .left-low, c .word3 .ensures, c .before .before .before .before .before .before .before .before .before .before .before .pre .3 .state-there, c .before .before .before .before .before .before .before .before .before .before .before .pre .2 .states-in .limits .states-limit .high)
+add-result c = omega (arith, low (c .before .before .before .before .before .before .before .before .before .before .before) .left-low, c .word3 .ensures, c .before .before .before .before .before .before .before .before .before .before .before .pre .3 .state-there, c .before .before .before .before .before .before .before .before .before .before .before .pre .2 .states-in .grammar-in .limits .states-limit .high)
 
 mul-result-2 : tie.Need-mul-result-2
-mul-result-2 c = omega (arith, low (c .before .before .before .before .before .before .before .before .before .before .before) .left-low, c .word3 .ensures, c .before .before .before .before .before .before .before .before .before .before .before .pre .3 .state-there, c .before .before .before .before .before .before .before .before .before .before .before .pre .2 .states-in .limits .states-limit .high)
+mul-result-2 c = omega (arith, low (c .before .before .before .before .before .before .before .before .before .before .before) .left-low, c .word3 .ensures, c .before .before .before .before .before .before .before .before .before .before .before .pre .3 .state-there, c .before .before .before .before .before .before .before .before .before .before .before .pre .2 .states-in .grammar-in .limits .states-limit .high)
 
 shared-slice-read-result : tie.Need-shared-slice-read-result
-shared-slice-read-result c = omega (arith, low (c .before .before .before .before .before .before .before .before .before .before .before .before) .left-low, c .before .word3 .ensures, c .before .before .before .before .before .before .before .before .before .before .before .before .pre .3 .state-there, c .before .before .before .before .before .before .before .before .before .before .before .before .pre .2 .states-in .limits .states-limit .high, c .before .before .before .before .before .before .before .before .before .before .before .before .pre .2 .closures-in .long)
+shared-slice-read-result c = omega (arith, low (c .before .before .before .before .before .before .before .before .before .before .before .before) .left-low, c .before .word3 .ensures, c .before .before .before .before .before .before .before .before .before .before .before .before .pre .3 .state-there, c .before .before .before .before .before .before .before .before .before .before .before .before .pre .2 .states-in .grammar-in .limits .states-limit .high, c .before .before .before .before .before .before .before .before .before .before .before .before .pre .2 .closures-in .long)
 
 returns-3 : tie.Need-returns-3
 returns-3 c = λ b F h s. has-rule h s (sym (c .before .before .before .if1 .left) ∙ found (c .before .before .before .before) b F h s) (c .before .before .if2 .left) (c .before .word3 .ensures) refl

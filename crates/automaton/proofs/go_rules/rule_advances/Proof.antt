@@ -1,16 +1,17 @@
 -- `go_rules::rule_advances` meets its contract: a closure has no item of the rule, or the item advances. Assumes nothing.
 use native.Mathlib.Omega.{arith}
-use Rattle.automaton.specs.StatesIn.{RuleLow, rule-low, moves, items}
-use Rattle.automaton.specs.Advances.{set-place, rule-idle, rule-busy}
+use Rattle.automaton.specs.GrammarIn.{RuleLow, rule-low, set-place}
+use Rattle.automaton.specs.StatesIn.{moves, items}
+use Rattle.automaton.specs.Advances.{rule-idle, rule-busy}
 use Rattle.automaton.proofs.go_rules.rule_advances.Statement.{statement}
 use Rattle.automaton.proofs.go_rules.rule_advances.Tie as tie
 
 -- the words of the rule
 low : (c : tie.Start) → RuleLow (c .args .rules .now) (c .args .rule)
-low c = rule-low (c .pre .2 .states-in) (c .args .rule) (c .pre .3 .rule-there)
+low c = rule-low (c .pre .2 .states-in .grammar-in) (c .args .rule) (c .pre .3 .rule-there)
 
 mul-set : tie.Need-mul-set
-mul-set c = omega (arith, c .before .before .before .before .before .pre .3 .state-there, c .before .before .before .before .before .pre .2 .states-in .limits .states-limit .high)
+mul-set c = omega (arith, c .before .before .before .before .before .pre .3 .state-there, c .before .before .before .before .before .pre .2 .states-in .grammar-in .limits .states-limit .high)
 
 mul-word : tie.Need-mul-word
 mul-word c = omega (arith, low (c .before .before .before .before .before) .below)
@@ -19,13 +20,13 @@ word-requires : tie.Need-word-requires
 word-requires c κs = omega (arith, low (c .before .before .before .before .before) .there)
 
 add-set : tie.Need-add-set
-add-set c = omega (arith, set-place (items (c .before .before .before .before .before .before .pre .2)) (c .before .before .before .before .before .before .pre .3) (c .word .ensures), c .before .before .before .before .before .before .pre .2 .closures-in .long)
+add-set c = omega (arith, set-place (c .before .before .before .before .before .before .pre .2 .states-in .grammar-in) (c .before .before .before .before .before .before .pre .2 .closures-in) (c .before .before .before .before .before .before .pre .3 .state-there) (c .before .before .before .before .before .before .pre .3 .rule-there) (c .word .ensures), c .before .before .before .before .before .before .pre .2 .closures-in .long)
 
 mul-set-2 : tie.Need-mul-set-2
-mul-set-2 c = omega (arith, set-place (items (c .before .before .before .before .before .before .pre .2)) (c .before .before .before .before .before .before .pre .3) (c .word .ensures), c .before .before .before .before .before .before .pre .2 .closures-in .long)
+mul-set-2 c = omega (arith, set-place (c .before .before .before .before .before .before .pre .2 .states-in .grammar-in) (c .before .before .before .before .before .before .pre .2 .closures-in) (c .before .before .before .before .before .before .pre .3 .state-there) (c .before .before .before .before .before .before .pre .3 .rule-there) (c .word .ensures), c .before .before .before .before .before .before .pre .2 .closures-in .long)
 
 shared-slice-read-set : tie.Need-shared-slice-read-set
-shared-slice-read-set c = set-place (items (c .before .before .before .before .before .before .before .pre .2)) (c .before .before .before .before .before .before .before .pre .3) (c .before .word .ensures)
+shared-slice-read-set c = set-place (c .before .before .before .before .before .before .before .pre .2 .states-in .grammar-in) (c .before .before .before .before .before .before .before .pre .2 .closures-in) (c .before .before .before .before .before .before .before .pre .3 .state-there) (c .before .before .before .before .before .before .before .pre .3 .rule-there) (c .before .word .ensures)
 
 returns : tie.Need-returns
 returns c = λ b F h s. rule-idle (items h) s (c .before .before .word .ensures) (c .if1 .taken)

@@ -14,16 +14,16 @@ use lib.Seq.{slice, slice-empty}
 use Rattle.sets.specs.Sets.{bit, single}
 use Rattle.sets.specs.SetsLaws.{bit-single}
 use Rattle.grammar.specs.Limits.{MAX-STATES}
-use Rattle.grammar.specs.Symbol.{Symbol, terminal, nonterminal, Rule, leftOf, after}
-use Rattle.grammar.specs.Book.{Book, Kernel}
-use Rattle.grammar.specs.Conditions.{RightSymbol}
-use Rattle.grammar.specs.States.{shift}
-use Rattle.grammar.specs.Fixpoint.{setAt}
-use Rattle.grammar.specs.FirstSets.{Sets}
-use Rattle.grammar.specs.ClosureSets.{setOf, kernelsIn, closureSets}
-use Rattle.grammar.specs.CoreItems.{Core, core, ofKernels, entered, ofRules, coreItems}
-use Rattle.grammar.specs.TestLaws.{by-test}
-use Rattle.grammar.specs.Actions.{Cell, conflict, meld, completed, meldItem, cellFrom}
+use Rattle.grammar.specs.Data.Symbol.{Symbol, terminal, nonterminal, Rule, leftOf, after}
+use Rattle.grammar.specs.Data.Book.{Book, Kernel}
+use Rattle.grammar.specs.Conditions.Meaning.{RightSymbol}
+use Rattle.grammar.specs.Automaton.States.{shift}
+use Rattle.grammar.specs.Automaton.Fixpoint.{setAt}
+use Rattle.grammar.specs.Automaton.FirstSets.{Sets}
+use Rattle.grammar.specs.Automaton.ClosureSets.{setOf, kernelsIn, closureSets}
+use Rattle.grammar.specs.Automaton.CoreItems.{Core, core, ofKernels, entered, ofRules, coreItems}
+use Rattle.grammar.specs.Automaton.TestLaws.{by-test}
+use Rattle.grammar.specs.Automaton.Actions.{Cell, conflict, meld, completed, meldItem, cellFrom}
 use Rattle.book.specs.Layout.{symbolCode}
 use Rattle.book.specs.Held.{KernelsIn, kernelAt}
 use Rattle.automaton.specs.Arrays.{ClosuresIn}

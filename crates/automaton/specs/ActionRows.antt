@@ -13,10 +13,10 @@ use borrow.Author.Tests.{eqb-true, eqb-false, eq-eqb, ne-eqb, ltb-true, ltb-fals
 use Rattle.sets.specs.Sets.{bit, single}
 use Rattle.sets.specs.SetsLaws.{bit-single}
 use Rattle.grammar.specs.Limits.{MAX-RULES, MAX-STATES}
-use Rattle.grammar.specs.Symbol.{Symbol, terminal, nonterminal}
-use Rattle.grammar.specs.States.{Action, shift}
-use Rattle.grammar.specs.TestLaws.{by-test, true-false}
-use Rattle.grammar.specs.Actions.{Cell, free, act, conflict, meld, completed, meldItem}
+use Rattle.grammar.specs.Data.Symbol.{Symbol, terminal, nonterminal}
+use Rattle.grammar.specs.Automaton.States.{Action, shift}
+use Rattle.grammar.specs.Automaton.TestLaws.{by-test, true-false}
+use Rattle.grammar.specs.Automaton.Actions.{Cell, free, act, conflict, meld, completed, meldItem}
 use Rattle.automaton.specs.Arrays.{cellCode}
 use Rattle.automaton.specs.Cells.{Possible, shifting, completing, Clear, acting, clear-conflict, completed-code, shift-code, meld-fits, meld-clash}
 

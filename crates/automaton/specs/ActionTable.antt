@@ -11,14 +11,14 @@ use native.Mathlib.Numerals.{add-one}
 use lib.Dec.{ltb}
 use lib.ListN.{length, getD, drop, replicate, length-append, length-replicate, length-drop, getD-replicate, List·getD-append}
 use borrow.Author.Tests.{ltb-true, ltb-false}
-use Rattle.grammar.specs.TestLaws.{true-false}
+use Rattle.grammar.specs.Automaton.TestLaws.{true-false}
 use Rattle.grammar.specs.Limits.{MAX-STATES}
-use Rattle.grammar.specs.Book.{Book}
-use Rattle.grammar.specs.FirstSets.{Sets}
-use Rattle.grammar.specs.CoreItems.{coreItems}
-use Rattle.grammar.specs.Actions.{Cell, free, act, conflict, cellFrom, noConflictIn}
-use Rattle.grammar.specs.Compiled.{itemsTable, cellsTable, noConflict}
-use Rattle.grammar.specs.CompiledTables.{cellAt, cell-at, state-past, terminal-past}
+use Rattle.grammar.specs.Data.Book.{Book}
+use Rattle.grammar.specs.Automaton.FirstSets.{Sets}
+use Rattle.grammar.specs.Automaton.CoreItems.{coreItems}
+use Rattle.grammar.specs.Automaton.Actions.{Cell, free, act, conflict, cellFrom, noConflictIn}
+use Rattle.grammar.specs.Automaton.Compiled.{itemsTable, cellsTable, noConflict}
+use Rattle.grammar.specs.Automaton.CompiledTables.{cellAt, cell-at, state-past, terminal-past}
 use Rattle.automaton.specs.Arrays.{ActionsIn, cellCode}
 use Rattle.automaton.specs.StatesIn.{ItemsIn}
 use Rattle.automaton.specs.Cells.{Clear, nothing, clear-conflict, free-code}

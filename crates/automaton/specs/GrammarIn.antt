@@ -7,14 +7,14 @@ use mathlib.Core.List.{List, [], _∷_}
 use lib.ListN.{length, getD, drop, drop-of-length-le}
 use lib.Seq.{drop-cons}
 use Rattle.grammar.specs.Limits.{MAX-RULES, MAX-RIGHT}
-use Rattle.grammar.specs.Symbol.{Symbol, terminal, nonterminal, leftOf, rightOf, after}
-use Rattle.grammar.specs.Book.{Book}
-use Rattle.grammar.specs.Conditions.{WithinLimits, Declared, RightSymbol, GoSymbol}
-use Rattle.grammar.specs.ConditionsLaws.{right-length, right-declared, left-declared}
-use Rattle.grammar.specs.Small.{numberOf}
-use Rattle.grammar.specs.Fixpoint.{setAt}
-use Rattle.grammar.specs.FirstSets.{Sets}
-use Rattle.grammar.specs.ClosureSets.{closureSets}
+use Rattle.grammar.specs.Data.Symbol.{Symbol, terminal, nonterminal, leftOf, rightOf, after}
+use Rattle.grammar.specs.Data.Book.{Book}
+use Rattle.grammar.specs.Conditions.Meaning.{WithinLimits, Declared, RightSymbol, GoSymbol}
+use Rattle.grammar.specs.Conditions.MeaningLaws.{right-length, right-declared, left-declared}
+use Rattle.grammar.specs.Automaton.Small.{numberOf}
+use Rattle.grammar.specs.Automaton.Fixpoint.{setAt}
+use Rattle.grammar.specs.Automaton.FirstSets.{Sets}
+use Rattle.grammar.specs.Automaton.ClosureSets.{closureSets}
 use Rattle.book.specs.Layout.{symbolCode}
 use Rattle.book.specs.Held.{RulesIn}
 use Rattle.automaton.specs.Arrays.{ClosuresIn}

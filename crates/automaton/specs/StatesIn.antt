@@ -19,12 +19,12 @@ use Rattle.grammar.specs.Automaton.ClosureSets.{kernelsIn}
 use Rattle.book.specs.Layout.{symbolCode}
 use Rattle.book.specs.Held.{RulesIn, KernelsIn, kernelAt}
 =======
-use Rattle.grammar.specs.Symbol.{rightOf}
-use Rattle.grammar.specs.Book.{Book, Kernel}
-use Rattle.grammar.specs.Conditions.{DeclaredKernel}
-use Rattle.grammar.specs.ConditionsLaws.{right-length}
-use Rattle.grammar.specs.FirstSets.{Sets}
-use Rattle.grammar.specs.ClosureSets.{kernelsIn}
+use Rattle.grammar.specs.Data.Symbol.{rightOf}
+use Rattle.grammar.specs.Data.Book.{Book, Kernel}
+use Rattle.grammar.specs.Conditions.Meaning.{DeclaredKernel}
+use Rattle.grammar.specs.Conditions.MeaningLaws.{right-length}
+use Rattle.grammar.specs.Automaton.FirstSets.{Sets}
+use Rattle.grammar.specs.Automaton.ClosureSets.{kernelsIn}
 use Rattle.book.specs.Held.{KernelsIn, kernelAt}
 >>>>>>> w-auto3
 use Rattle.automaton.specs.Arrays.{StartsIn, ClosuresIn, GoTableIn}

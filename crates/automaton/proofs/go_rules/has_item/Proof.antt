@@ -9,10 +9,10 @@ use Rattle.grammar.specs.Automaton.ClosureSets.{kernelsIn}
 use Rattle.grammar.specs.Automaton.StatesCheck.{holdsItem}
 use Rattle.automaton.specs.StatesIn.{ItemsIn, Stands, RuleLow, rule-low, state-starts, state-range}
 =======
-use Rattle.grammar.specs.Book.{Book}
-use Rattle.grammar.specs.FirstSets.{Sets}
-use Rattle.grammar.specs.ClosureSets.{kernelsIn}
-use Rattle.grammar.specs.StatesCheck.{holdsItem}
+use Rattle.grammar.specs.Data.Book.{Book}
+use Rattle.grammar.specs.Automaton.FirstSets.{Sets}
+use Rattle.grammar.specs.Automaton.ClosureSets.{kernelsIn}
+use Rattle.grammar.specs.Automaton.StatesCheck.{holdsItem}
 use Rattle.automaton.specs.GrammarIn.{RuleLow, rule-low}
 use Rattle.automaton.specs.StatesIn.{ItemsIn, Stands, state-starts, state-range}
 >>>>>>> w-auto3

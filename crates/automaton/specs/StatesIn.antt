@@ -8,17 +8,6 @@ use mathlib.Core.List.{List, [], _∷_}
 use lib.ListN.{length, getD, take, drop}
 use lib.Seq.{slice, slice-cons, take-nil}
 use Rattle.grammar.specs.Limits.{MAX-RULES, MAX-RIGHT, MAX-STATES, MAX-KERNELS}
-<<<<<<< HEAD
-use Rattle.grammar.specs.Data.Symbol.{Symbol, terminal, nonterminal, Rule, leftOf, rightOf, after}
-use Rattle.grammar.specs.Data.Book.{Book, Kernel}
-use Rattle.grammar.specs.Conditions.Meaning.{WithinLimits, Declared, DeclaredKernel, RightSymbol, GoSymbol}
-use Rattle.grammar.specs.Conditions.MeaningLaws.{right-length, right-declared, left-declared}
-use Rattle.grammar.specs.Automaton.Small.{numberOf}
-use Rattle.grammar.specs.Automaton.FirstSets.{Sets}
-use Rattle.grammar.specs.Automaton.ClosureSets.{kernelsIn}
-use Rattle.book.specs.Layout.{symbolCode}
-use Rattle.book.specs.Held.{RulesIn, KernelsIn, kernelAt}
-=======
 use Rattle.grammar.specs.Data.Symbol.{rightOf}
 use Rattle.grammar.specs.Data.Book.{Book, Kernel}
 use Rattle.grammar.specs.Conditions.Meaning.{DeclaredKernel}
@@ -26,7 +15,6 @@ use Rattle.grammar.specs.Conditions.MeaningLaws.{right-length}
 use Rattle.grammar.specs.Automaton.FirstSets.{Sets}
 use Rattle.grammar.specs.Automaton.ClosureSets.{kernelsIn}
 use Rattle.book.specs.Held.{KernelsIn, kernelAt}
->>>>>>> w-auto3
 use Rattle.automaton.specs.Arrays.{StartsIn, ClosuresIn, GoTableIn}
 use Rattle.automaton.specs.GrammarIn.{GrammarIn}
 use Rattle.automaton.specs.GoTable.{at-member}

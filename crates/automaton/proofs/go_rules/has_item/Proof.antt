@@ -2,20 +2,12 @@
 use mathlib.Core.Path.{refl}
 use mathlib.Core.Path.{_≡_, sym, _∙_}
 use native.Mathlib.Omega.{arith}
-<<<<<<< HEAD
-use Rattle.grammar.specs.Data.Book.{Book}
-use Rattle.grammar.specs.Automaton.FirstSets.{Sets}
-use Rattle.grammar.specs.Automaton.ClosureSets.{kernelsIn}
-use Rattle.grammar.specs.Automaton.StatesCheck.{holdsItem}
-use Rattle.automaton.specs.StatesIn.{ItemsIn, Stands, RuleLow, rule-low, state-starts, state-range}
-=======
 use Rattle.grammar.specs.Data.Book.{Book}
 use Rattle.grammar.specs.Automaton.FirstSets.{Sets}
 use Rattle.grammar.specs.Automaton.ClosureSets.{kernelsIn}
 use Rattle.grammar.specs.Automaton.StatesCheck.{holdsItem}
 use Rattle.automaton.specs.GrammarIn.{RuleLow, rule-low}
 use Rattle.automaton.specs.StatesIn.{ItemsIn, Stands, state-starts, state-range}
->>>>>>> w-auto3
 use Rattle.automaton.specs.Comes.{searched, has-kernel, has-none, has-rule}
 use borrow.Author.Needs.{needs}
 use Rattle.automaton.proofs.go_rules.has_item.Statement.{statement}

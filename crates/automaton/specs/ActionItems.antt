@@ -8,12 +8,10 @@ use mathlib.Core.Path.{_≡_, refl, sym, ap, _∙_}
 use mathlib.Core.Logic.{⊎-elim}
 use mathlib.Core.Bool.{Bool, true, false}
 use mathlib.Core.List.{List, [], _∷_, _++_}
-use lib.Dec.{eqb}
 use lib.ListN.{length, getD}
 use lib.Seq.{slice, slice-empty}
 use Rattle.sets.specs.Sets.{bit, single}
 use Rattle.sets.specs.SetsLaws.{bit-single}
-use Rattle.grammar.specs.Limits.{MAX-STATES}
 use Rattle.grammar.specs.Data.Symbol.{Symbol, terminal, nonterminal, Rule, leftOf, after}
 use Rattle.grammar.specs.Data.Book.{Book, Kernel}
 use Rattle.grammar.specs.Conditions.Meaning.{RightSymbol}
@@ -29,7 +27,7 @@ use Rattle.book.specs.Held.{KernelsIn, kernelAt}
 use Rattle.automaton.specs.Arrays.{ClosuresIn}
 use Rattle.automaton.specs.SymbolCodes.{terminal-code, nonterminal-code}
 use Rattle.automaton.specs.GrammarIn.{GrammarIn, Next, after-none, after-some, right-symbol-low, set-word}
-use Rattle.automaton.specs.StatesIn.{StatesIn, Stands, Range, state-range, kernel-there, lines-next}
+use Rattle.automaton.specs.StatesIn.{StatesIn, Stands, Range, state-range, lines-next}
 use Rattle.automaton.specs.Advances.{kernel-stands}
 use Rattle.automaton.specs.Cells.{shifting, shift-code}
 use Rattle.automaton.specs.ActionRows.{Row, Clash, Melded, Given, meldAt, itemCells, melded-at, melded-same, melded-none, melded-then, melded-clash}
@@ -45,7 +43,8 @@ module _ {b : Book} {rules : List ℕ} (g : GrammarIn b rules) {S P D : ℕ} (s 
       → Melded T S (itemCells P M (after (b .rules) P D) cells) old new r
   item-complete l m = rw (after-none g P D (s .rule-there) l) m
 
-  module _ {old : List ℕ} (row : Row T S cells old) (more : D < getD rules (10 * P + 1) 0) {symbol : ℕ} (symbol-is : symbol ≡ getD rules (10 * P + 2 + D) 0) where
+  module _ {old : List ℕ} (row : Row T S cells old) (more : D < getD rules (10 * P + 1) 0) {symbol : ℕ}
+      (symbol-is : symbol ≡ getD rules (10 * P + 2 + D) 0) where
     next : Next b rules P D
     next = after-some g P D (s .rule-there) more
 
@@ -232,8 +231,12 @@ module _ {rules kernels starts : List ℕ} {T S first : ℕ} {old now : List ℕ
           let cut : slice (i - 1) last (b .kernels) ≡ kernelAt (b .kernels) (i - 1) ∷ slice i last (b .kernels) =
           rw up at (lines-next (b .kernels) below (state-range h S s .within)) in
           let m : Melded T S (cellFrom (b .rules) (ofKernels (slice i last (b .kernels)) ++ items)) old now true = k .so-far b items h s t row in
-          let n = f b (cellFrom (b .rules) (ofKernels (slice i last (b .kernels)) ++ items)) (h .grammar-in) (kernel-stands h s inside rule-is dot-is) t (m .row refl) in
-          rw cut (melded-then m (rw (rule-is, dot-is, h .kernels-in .rule-is (i - 1) inside, h .kernels-in .dot-is (i - 1) inside, h .kernels-in .set-is (i - 1) inside) at n))
+          let stands : Stands b S rule dot = kernel-stands h s inside rule-is dot-is in
+          let n = f b (cellFrom (b .rules) (ofKernels (slice i last (b .kernels)) ++ items)) (h .grammar-in) stands t (m .row refl) in
+          let lines : KernelsIn (b .kernels) kernels = h .kernels-in in
+          rw cut
+          (melded-then m
+          (rw (rule-is, dot-is, lines .rule-is (i - 1) inside, lines .dot-is (i - 1) inside, lines .set-is (i - 1) inside) at n))
 
       pub kernels-more : r ≡ true → length new ≡ length now → KernelsActing rules kernels starts T S first old new (i - 1)
       kernels-more q e = record {

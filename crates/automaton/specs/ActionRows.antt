@@ -1,24 +1,23 @@
 -- The actions of one state in an array, 32 words from 32 * S on, and what is told of them when an item's action is melded in.
 -- Assumes nothing.
-use Prim.Native.Nat.{ℕ, zero, suc, _+_, _*_, _<_, _≤_}
+use Prim.Native.Nat.{ℕ, _+_, _*_, _<_, _≤_}
 use native.Mathlib.Omega.{arith}
 use mathlib.Core.Path.{_≡_, refl, sym, ap, _∙_}
-use mathlib.Core.Logic.{_⊎_, inl, inr, ⊎-elim}
+use mathlib.Core.Logic.{_⊎_, inl, inr}
 use mathlib.Core.Bool.{Bool, true, false}
-use mathlib.Core.List.{List, [], _∷_}
+use mathlib.Core.List.{List, []}
 use lib.Dec.{eqb, ltb}
 use lib.ListN.{length, getD, set}
 use lib.Seq.{getD-set-same, getD-set-other, set-getD}
 use borrow.Author.Tests.{eqb-true, eqb-false, eq-eqb, ne-eqb, ltb-true, ltb-false, lt-ltb, le-ltb}
-use Rattle.sets.specs.Sets.{bit, single}
-use Rattle.sets.specs.SetsLaws.{bit-single}
-use Rattle.grammar.specs.Limits.{MAX-RULES, MAX-STATES}
-use Rattle.grammar.specs.Data.Symbol.{Symbol, terminal, nonterminal}
-use Rattle.grammar.specs.Automaton.States.{Action, shift}
+use Rattle.sets.specs.Sets.{bit}
+use Rattle.grammar.specs.Limits.{MAX-RULES}
+use Rattle.grammar.specs.Data.Symbol.{Symbol}
+use Rattle.grammar.specs.Automaton.States.{Action}
 use Rattle.grammar.specs.Automaton.TestLaws.{by-test, true-false}
-use Rattle.grammar.specs.Automaton.Actions.{Cell, free, act, conflict, meld, completed, meldItem}
+use Rattle.grammar.specs.Automaton.Actions.{Cell, act, conflict, meld, completed, meldItem}
 use Rattle.automaton.specs.Arrays.{cellCode}
-use Rattle.automaton.specs.Cells.{Possible, shifting, completing, Clear, acting, clear-conflict, completed-code, shift-code, meld-fits, meld-clash}
+use Rattle.automaton.specs.Cells.{Possible, completing, Clear, acting, clear-conflict, completed-code, meld-fits, meld-clash}
 
 -- the words of state S are the cells of the terminals up to T, none of them a conflict
 pub record Row (T S : ℕ) (cells : ℕ → Cell) (actions : List ℕ) : Type 0 where
@@ -221,7 +220,8 @@ module _ {T S P M : ℕ} {old now : List ℕ} {a : ℕ} (k : Completing T S P M 
   completing-all l cells row = melded-same (below-all cells P M T a l) (k .so-far cells row)
 
   module _ (few : T < 32) (l : a ≤ T) {new : List ℕ} {r : Bool}
-      (f : (T : ℕ) (cells : ℕ → Cell) → T < 32 → a ≤ T → Row T S (completedBelow a cells P M) now → Melded T S (completedBelow (a + 1) cells P M) now new r) where
+      (f : (T : ℕ) (cells : ℕ → Cell) → T < 32 → a ≤ T → Row T S (completedBelow a cells P M) now
+      → Melded T S (completedBelow (a + 1) cells P M) now new r) where
     next : (cells : ℕ → Cell) → Row T S cells old → Melded T S (completedBelow (a + 1) cells P M) old new r
     next cells row = let m : Melded T S (completedBelow a cells P M) old now true = k .so-far cells row in melded-then m (f T cells few l (m .row refl))
 

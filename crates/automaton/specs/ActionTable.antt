@@ -2,7 +2,7 @@
 -- Assumes nothing.
 use Prim.Native.Nat.{ℕ, zero, suc, _+_, _*_, _<_, _≤_}
 use native.Mathlib.Omega.{arith}
-use mathlib.Core.Path.{_≡_, refl, sym, ap, _∙_}
+use mathlib.Core.Path.{_≡_, refl, sym, _∙_}
 use mathlib.Core.Logic.{_≢_, ⊎-elim}
 use mathlib.Core.Bool.{Bool, true, false}
 use mathlib.Core.List.{List, [], _∷_, _++_}
@@ -19,9 +19,9 @@ use Rattle.grammar.specs.Automaton.CoreItems.{coreItems}
 use Rattle.grammar.specs.Automaton.Actions.{Cell, free, act, conflict, cellFrom, noConflictIn}
 use Rattle.grammar.specs.Automaton.Compiled.{itemsTable, cellsTable, noConflict}
 use Rattle.grammar.specs.Automaton.CompiledTables.{cellAt, cell-at, state-past, terminal-past}
-use Rattle.automaton.specs.Arrays.{ActionsIn, cellCode}
+use Rattle.automaton.specs.Arrays.{ActionsIn}
 use Rattle.automaton.specs.StatesIn.{ItemsIn}
-use Rattle.automaton.specs.Cells.{Clear, nothing, clear-conflict, free-code}
+use Rattle.automaton.specs.Cells.{nothing, clear-conflict, free-code}
 use Rattle.automaton.specs.ActionRows.{Row, Clash, Melded}
 
 -- ---- the test of a table finds its conflicts

@@ -21,7 +21,7 @@ use Rattle.grammar.specs.Automaton.ClosureSets.{setOf, kernelsIn, closureSets}
 use Rattle.grammar.specs.Automaton.CoreItems.{Core, core, ofKernels, entered, ofRules, coreItems}
 use Rattle.grammar.specs.Automaton.StatesCheck.{holdsItem, advancesTo, advances, allAdvance, statesAdvance}
 use Rattle.book.specs.Held.{KernelsIn, kernelAt}
-use Rattle.automaton.specs.Arrays.{GoTableIn, targetCode}
+use Rattle.automaton.specs.Arrays.{targetCode}
 use Rattle.automaton.specs.GrammarIn.{Next, after-none, after-some, right-go, set-word}
 use Rattle.automaton.specs.StatesIn.{StatesIn, MovesIn, ItemsIn, AutomatonIn, Stands, Range, state-range, kernel-there, lines-next}
 
@@ -76,7 +76,9 @@ module _ {b : Book} {rules kernels starts table : List ℕ} (h : MovesIn b rules
       go : (o : Option ℕ) → goIn (b .goes) S (n .symbol) ≡ o → advancesTo b P D M o ≡ false
       go none q = refl
       go (some T) q =
-          absurd (let z : ⊥ = omega (arith, target-there (h .states-in .grammar-in .declared) S (n .symbol) q, h .states-in .grammar-in .limits .states-limit .high, sym e ∙ n .leads ∙ ap targetCode q) in z)
+          let there : T < b .states = target-there (h .states-in .grammar-in .declared) S (n .symbol) q in
+          let far : 255 ≡ T = sym e ∙ n .leads ∙ ap targetCode q in
+          absurd (let z : ⊥ = omega (arith, h .states-in .grammar-in .limits .states-limit .high) in z)
 
   pub advances-leads : (M : ℕ) → D < getD rules (10 * P + 1) 0 → (getD table (64 * S + getD rules (10 * P + 2 + D) 0) 0 ≡ 255 → ⊥)
       → Leads b S P D M (getD table (64 * S + getD rules (10 * P + 2 + D) 0) 0)
@@ -98,7 +100,7 @@ module _ {b : Book} {rules kernels starts table : List ℕ} (h : MovesIn b rules
     led : (M : ℕ) → Leads b S P D M (getD table (64 * S + symbol) 0)
     led M = rw symbol-is (advances-leads M more (rw symbol-is at somewhere))
 
-    pub target-range : Range b (getD table (64 * S + symbol) 0) (getD starts (getD table (64 * S + symbol) 0) 0) (getD starts (getD table (64 * S + symbol) 0 + 1) 0)
+    pub target-range : let T : ℕ = getD table (64 * S + symbol) 0 in Range b T (getD starts T 0) (getD starts (T + 1) 0)
     target-range = state-range (h .states-in) (getD table (64 * S + symbol) 0) (led 0 .target-is)
 
     pub target-low : getD table (64 * S + symbol) 0 < MAX-STATES
@@ -253,14 +255,15 @@ module _ {rules kernels starts closures table : List ℕ} {S count rule : ℕ} (
         let e : rule ≡ suc (rule - 1) = omega arith in
         ap (λ (n : ℕ). allAdvance b S (ofRules (b .rules) (closureSets b F S) n)) e ∙ entered-item b S (rule - 1) _ _ t q
 
-    pub rules-more : ((b : Book) (F : Sets) → AutomatonIn b F rules kernels starts closures table → Stands b S (rule - 1) 0 → true ≡ ruleAdvances b F S (rule - 1))
-        → RulesAdvance rules kernels starts closures table S count (rule - 1)
+    pub rules-more : ((b : Book) (F : Sets) → AutomatonIn b F rules kernels starts closures table → Stands b S (rule - 1) 0
+        → true ≡ ruleAdvances b F S (rule - 1)) → RulesAdvance rules kernels starts closures table S count (rule - 1)
     rules-more e = record {
       within = omega (arith, k .within);
       same = λ b F h s c. sym (next-rule b F true (sym (e b F h (rule-stands b s c)))) ∙ k .same b F h s c;
     }
 
-    pub rules-fail : ((b : Book) (F : Sets) → AutomatonIn b F rules kernels starts closures table → Stands b S (rule - 1) 0 → false ≡ ruleAdvances b F S (rule - 1))
+    pub rules-fail : ((b : Book) (F : Sets) → AutomatonIn b F rules kernels starts closures table → Stands b S (rule - 1) 0
+        → false ≡ ruleAdvances b F S (rule - 1))
         → (b : Book) (F : Sets) → AutomatonIn b F rules kernels starts closures table → S < b .states → count ≡ length (b .rules)
         → false ≡ allAdvance b S (ofRules (b .rules) (closureSets b F S) count)
     rules-fail e b F h s c = sym (next-rule b F false (sym (e b F h (rule-stands b s c)))) ∙ k .same b F h s c
@@ -303,7 +306,8 @@ pub record StatesAdvance (rules kernels starts closures table : List ℕ) (state
 pub states-none : (rules kernels starts closures table : List ℕ) (states count : ℕ) → StatesAdvance rules kernels starts closures table states count states
 states-none rules kernels starts closures table states count = record { within = omega arith; same = λ b F h s c. refl }
 
-module _ {rules kernels starts closures table : List ℕ} {states count state : ℕ} (k : StatesAdvance rules kernels starts closures table states count state) where
+module _ {rules kernels starts closures table : List ℕ} {states count state : ℕ}
+    (k : StatesAdvance rules kernels starts closures table states count state) where
   pub states-all : state ≤ 0 → (b : Book) (F : Sets) → AutomatonIn b F rules kernels starts closures table → states ≡ b .states → count ≡ length (b .rules)
       → true ≡ statesAdvance b (coreItems b F) states
   unfolding statesAdvance

@@ -7,7 +7,7 @@ use mathlib.Core.Path.{_≡_, refl, sym, ap, _∙_}
 use mathlib.Core.Logic.{_⊎_, inl, inr}
 use mathlib.Core.Bool.{Bool, true, false}
 use Rattle.grammar.specs.Limits.{MAX-RULES}
-use Rattle.grammar.specs.Automaton.States.{Action, Action-discrete, shift, accept, reduce}
+use Rattle.grammar.specs.Automaton.States.{Action, Action-discrete, shift}
 use Rattle.grammar.specs.Automaton.Actions.{Cell, free, act, conflict, sameAction, meld, completed}
 use Rattle.grammar.specs.Conditions.Decides.{Decides, true-decides, false-decides, refutes}
 use Rattle.automaton.specs.Arrays.{cellCode}

@@ -11,14 +11,13 @@ use mathlib.Core.List.{List, [], _∷_, _++_}
 use lib.Dec.{eqb, leb}
 use lib.ListN.{length, getD, drop, drop-of-length-le}
 use lib.Seq.{slice, slice-empty, drop-cons}
-use borrow.Author.Tests.{eq-eqb, ne-eqb, eqb-true, le-leb, lt-leb}
+use borrow.Author.Tests.{eq-eqb, ne-eqb, eqb-true, le-leb}
 use Rattle.sets.specs.Sets.{empty, subset}
 use Rattle.sets.specs.SetsLaws.{subset-true}
 use Rattle.grammar.specs.Automaton.Members.{none-in}
 use Rattle.grammar.specs.Data.Symbol.{Symbol, Rule, leftOf, after}
 use Rattle.grammar.specs.Data.Book.{Book, Kernel, Go}
 use Rattle.grammar.specs.Conditions.Meaning.{GoSymbol, DeclaredGo}
-use Rattle.grammar.specs.Automaton.States.{sameSymbol}
 use Rattle.grammar.specs.Automaton.Fixpoint.{setAt}
 use Rattle.grammar.specs.Automaton.FirstSets.{Sets}
 use Rattle.grammar.specs.Automaton.ClosureSets.{setOf, kernelsIn, closureSets}
@@ -178,7 +177,8 @@ module _ {b : Book} {F : Sets} {rules kernels starts closures : List ℕ} (h : I
           let n : Next b rules P (D - 1) = before in
           let place : 10 * P + 2 + (D - 1) ≡ 10 * P + 1 + D = omega arith in
           rw (n .behind, symbol-is, word-is, ← place, n .word-is)
-          (code-test X (n .symbol) (go-symbol-low (h .states-in .grammar-in .limits) X x) (right-symbol-low (h .states-in .grammar-in .limits) (n .symbol) (n .declared-symbol)))
+          (code-test X (n .symbol) (go-symbol-low (h .states-in .grammar-in .limits) X x)
+          (right-symbol-low (h .states-in .grammar-in .limits) (n .symbol) (n .declared-symbol)))
 
       line-is : (t : Bool) → eqb symbol word ≡ t
           → lineComes (b .rules) X (coreItems b F S) P D ≡ elim t [ true ↦ someItem P (D - 1) (coreItems b F S) | false ↦ false ]
@@ -251,7 +251,8 @@ unfoldable pub goComes : Book → (ℕ → List Core) → Go → Bool
 goComes b items g = someKernel (kernelsIn (b .kernels) (g .target)) && allCome (b .rules) (g .symbol) (items (g .state)) (kernelsIn (b .kernels) (g .target))
 
 -- the words of go line i
-module _ {b : Book} {rules kernels starts goes : List ℕ} (h : StatesIn b rules kernels starts) (g : GoesIn (b .goes) goes) {i : ℕ} (l : i < length (b .goes)) where
+module _ {b : Book} {rules kernels starts goes : List ℕ} (h : StatesIn b rules kernels starts) (g : GoesIn (b .goes) goes) {i : ℕ}
+    (l : i < length (b .goes)) where
   pub go-low : LineLow goes i
   go-low = line-low (record { limits = h .grammar-in .limits; declared = h .grammar-in .declared; lines-in = g; count-is = refl; states-is = refl }) i l
 

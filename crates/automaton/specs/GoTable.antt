@@ -2,7 +2,7 @@
 -- Assumes nothing.
 use Prim.Native.Nat.{ℕ, zero, suc, _+_, _*_, _-_, _<_, _≤_}
 use native.Mathlib.Omega.{arith}
-use mathlib.Core.Path.{_≡_, refl, sym, ap, _∙_}
+use mathlib.Core.Path.{_≡_, refl, _∙_}
 use mathlib.Core.Logic.{_≢_}
 use mathlib.Core.Bool.{Bool, true, false, _&&_}
 use mathlib.Core.Option.{some}
@@ -10,7 +10,7 @@ use mathlib.Core.List.{List, [], _∷_, _++_, List·Memᴰ as Mem, List·Memᴰ�
 use lib.Dec.{eqb}
 use lib.ListN.{length, getD, drop, set, replicate, length-set, length-append, length-replicate, length-drop, getD-replicate, List·getD-append}
 use lib.Seq.{drop-cons, drop-length, getD-set-same, getD-set-other}
-use Rattle.grammar.specs.Limits.{MAX-STATES, MAX-GOES}
+use Rattle.grammar.specs.Limits.{MAX-STATES}
 use Rattle.grammar.specs.Data.Symbol.{Symbol, terminal, nonterminal}
 use Rattle.grammar.specs.Data.Book.{Book, Go}
 use Rattle.grammar.specs.Conditions.Meaning.{WithinLimits, Declared, DeclaredGo, GoSymbol}
@@ -66,7 +66,8 @@ module _ {b : Book} {goes : List ℕ} {count states : ℕ} (h : GoLinesIn b goes
       record {
         there = omega (arith, h .lines-in .long, h .lines-in .fits);
         state-low = omega (arith, h .lines-in .state-is i inside, d .state-there, h .limits .states-limit .high);
-        symbol-low = omega (arith, h .lines-in .symbol-is i inside, code-low (goAt (b .goes) i .symbol) (go-symbol-low (h .limits) (goAt (b .goes) i .symbol) (d .symbol-there)));
+        symbol-low = rw (h .lines-in .symbol-is i inside)
+            (code-low (goAt (b .goes) i .symbol) (go-symbol-low (h .limits) (goAt (b .goes) i .symbol) (d .symbol-there)));
         target-low = omega (arith, h .lines-in .target-is i inside, d .target-there, h .limits .states-limit .high);
       }
 

@@ -73,7 +73,9 @@ module _ {b : Book} {rules : List ℕ} (h : GrammarIn b rules) where
     below = omega (arith, h .rules-in .fits);
     left-low = omega (arith, h .rules-in .left-is P p, left-declared (h .declared) P p, h .limits .nonterminals-limit .high);
     size-low = omega (arith, h .rules-in .size-is P p, right-length (h .limits) P);
-    symbol-low = λ D l. let n : Next b rules P D = after-some P D p l in rw (n .word-is) (code-low (n .symbol) (right-symbol-low (h .limits) (n .symbol) (n .declared-symbol)));
+    symbol-low = λ D l.
+        let n : Next b rules P D = after-some P D p l in
+        rw (n .word-is) (code-low (n .symbol) (right-symbol-low (h .limits) (n .symbol) (n .declared-symbol)));
   }
 
   -- the set of a rule's left side in a closure

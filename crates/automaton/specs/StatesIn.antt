@@ -3,11 +3,11 @@
 use Prim.Native.Nat.{ℕ, zero, suc, _+_, _*_, _-_, _<_, _≤_}
 use native.Mathlib.Omega.{arith}
 use native.Mathlib.Numerals.{add-one}
-use mathlib.Core.Path.{_≡_, refl, sym, ap, _∙_}
+use mathlib.Core.Path.{_≡_, _∙_}
 use mathlib.Core.List.{List, [], _∷_}
 use lib.ListN.{length, getD, take, drop}
 use lib.Seq.{slice, slice-cons, take-nil}
-use Rattle.grammar.specs.Limits.{MAX-RULES, MAX-RIGHT, MAX-STATES, MAX-KERNELS}
+use Rattle.grammar.specs.Limits.{MAX-RULES, MAX-RIGHT, MAX-KERNELS}
 use Rattle.grammar.specs.Data.Symbol.{rightOf}
 use Rattle.grammar.specs.Data.Book.{Book, Kernel}
 use Rattle.grammar.specs.Conditions.Meaning.{DeclaredKernel}

@@ -100,7 +100,8 @@ fn rule_acts(
         × ((b : Book) × (F : Sets) × GrammarIn b (now rules) × ClosuresIn b F (now closures) × Stands b state rule 0 × (terminals ≡ b .terminals)) ⌝ }
     ensures { λ r. ⌜ ((b : Book) (F : Sets) (items : List Core) → GrammarIn b (now (rules .entry)) → ClosuresIn b F (now (closures .entry))
         → Stands b state rule 0 → terminals ≡ b .terminals → Row terminals state (cellFrom (b .rules) items) (now (actions .entry))
-        → Melded terminals state (cellFrom (b .rules) (entered rule (setAt (closureSets b F state) (leftOf (b .rules) rule)) items)) (now (actions .entry)) (now (actions .exit)) r) ⌝ }
+        → Melded terminals state (cellFrom (b .rules) (entered rule (setAt (closureSets b F state) (leftOf (b .rules) rule)) items))
+        (now (actions .entry)) (now (actions .exit)) r) ⌝ }
 {
     let set = closures[32 * state + word(rules, 10 * rule)];
     if set == 0 {
@@ -119,7 +120,8 @@ fn rules_act(
     count: usize,
 ) -> bool
     requires { ⌜ (length (now actions) ≡ 4096)
-        × ((b : Book) × (F : Sets) × GrammarIn b (now rules) × ClosuresIn b F (now closures) × (state < b .states) × (terminals ≡ b .terminals) × (count ≡ length (b .rules))) ⌝ }
+        × ((b : Book) × (F : Sets) × GrammarIn b (now rules) × ClosuresIn b F (now closures) × (state < b .states)
+        × (terminals ≡ b .terminals) × (count ≡ length (b .rules))) ⌝ }
     ensures { λ r. ⌜ ((b : Book) (F : Sets) → GrammarIn b (now (rules .entry)) → ClosuresIn b F (now (closures .entry))
         → state < b .states → terminals ≡ b .terminals → count ≡ length (b .rules) → Row terminals state (cellFrom (b .rules) []) (now (actions .entry))
         → Melded terminals state (cellFrom (b .rules) (ofRules (b .rules) (closureSets b F state) count)) (now (actions .entry)) (now (actions .exit)) r) ⌝ }
@@ -182,7 +184,8 @@ fn state_acts(
     count: usize,
 ) -> bool
     requires { ⌜ (length (now actions) ≡ 4096)
-        × ((b : Book) × (F : Sets) × ItemsIn b F (now rules) (now kernels) (now starts) (now closures) × (state < b .states) × (terminals ≡ b .terminals) × (count ≡ length (b .rules))) ⌝ }
+        × ((b : Book) × (F : Sets) × ItemsIn b F (now rules) (now kernels) (now starts) (now closures)
+        × (state < b .states) × (terminals ≡ b .terminals) × (count ≡ length (b .rules))) ⌝ }
     ensures { λ r. ⌜ ((b : Book) (F : Sets) → ItemsIn b F (now (rules .entry)) (now (kernels .entry)) (now (starts .entry)) (now (closures .entry))
         → state < b .states → terminals ≡ b .terminals → count ≡ length (b .rules) → Row terminals state (cellFrom (b .rules) []) (now (actions .entry))
         → Melded terminals state (cellFrom (b .rules) (coreItems b F state)) (now (actions .entry)) (now (actions .exit)) r) ⌝ }
@@ -205,7 +208,8 @@ pub fn actions(
     actions: &mut [u8],
 ) -> bool
     requires { ⌜ (length (now actions) ≡ 4096)
-        × ((b : Book) × (F : Sets) × ItemsIn b F (now rules) (now kernels) (now starts) (now closures) × (terminals ≡ b .terminals) × (states ≡ b .states) × (count ≡ length (b .rules))) ⌝ }
+        × ((b : Book) × (F : Sets) × ItemsIn b F (now rules) (now kernels) (now starts) (now closures)
+        × (terminals ≡ b .terminals) × (states ≡ b .states) × (count ≡ length (b .rules))) ⌝ }
     ensures { λ r. ⌜ ((b : Book) (F : Sets) → ItemsIn b F (now (rules .entry)) (now (kernels .entry)) (now (starts .entry)) (now (closures .entry))
         → terminals ≡ b .terminals → states ≡ b .states → count ≡ length (b .rules) → Acted b F (now (actions .exit)) r) ⌝ }
 {

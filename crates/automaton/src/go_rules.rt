@@ -141,8 +141,8 @@ fn rule_advances(
     rule: usize,
 ) -> bool
     requires { ⌜ ((b : Book) × (F : Sets) × AutomatonIn b F (now rules) (now kernels) (now starts) (now closures) (now table) × Stands b state rule 0) ⌝ }
-    ensures { λ r. ⌜ ((b : Book) (F : Sets) → AutomatonIn b F (now (rules .entry)) (now (kernels .entry)) (now (starts .entry)) (now (closures .entry)) (now (table .entry))
-        → Stands b state rule 0 → r ≡ ruleAdvances b F state rule) ⌝ }
+    ensures { λ r. ⌜ ((b : Book) (F : Sets) → AutomatonIn b F (now (rules .entry)) (now (kernels .entry)) (now (starts .entry)) (now (closures .entry))
+        (now (table .entry)) → Stands b state rule 0 → r ≡ ruleAdvances b F state rule) ⌝ }
 {
     let set = closures[32 * state + word(rules, 10 * rule)];
     if set == 0 {
@@ -161,9 +161,10 @@ fn rules_advance(
     state: usize,
     count: usize,
 ) -> bool
-    requires { ⌜ ((b : Book) × (F : Sets) × AutomatonIn b F (now rules) (now kernels) (now starts) (now closures) (now table) × (state < b .states) × (count ≡ length (b .rules))) ⌝ }
-    ensures { λ r. ⌜ ((b : Book) (F : Sets) → AutomatonIn b F (now (rules .entry)) (now (kernels .entry)) (now (starts .entry)) (now (closures .entry)) (now (table .entry))
-        → state < b .states → count ≡ length (b .rules) → r ≡ allAdvance b state (ofRules (b .rules) (closureSets b F state) count)) ⌝ }
+    requires { ⌜ ((b : Book) × (F : Sets) × AutomatonIn b F (now rules) (now kernels) (now starts) (now closures) (now table)
+        × (state < b .states) × (count ≡ length (b .rules))) ⌝ }
+    ensures { λ r. ⌜ ((b : Book) (F : Sets) → AutomatonIn b F (now (rules .entry)) (now (kernels .entry)) (now (starts .entry)) (now (closures .entry))
+        (now (table .entry)) → state < b .states → count ≡ length (b .rules) → r ≡ allAdvance b state (ofRules (b .rules) (closureSets b F state) count)) ⌝ }
 {
     let mut rule = count;
     while rule > 0 {
@@ -185,9 +186,10 @@ fn state_advances(
     state: usize,
     count: usize,
 ) -> bool
-    requires { ⌜ ((b : Book) × (F : Sets) × AutomatonIn b F (now rules) (now kernels) (now starts) (now closures) (now table) × (state < b .states) × (count ≡ length (b .rules))) ⌝ }
-    ensures { λ r. ⌜ ((b : Book) (F : Sets) → AutomatonIn b F (now (rules .entry)) (now (kernels .entry)) (now (starts .entry)) (now (closures .entry)) (now (table .entry))
-        → state < b .states → count ≡ length (b .rules) → r ≡ allAdvance b state (coreItems b F state)) ⌝ }
+    requires { ⌜ ((b : Book) × (F : Sets) × AutomatonIn b F (now rules) (now kernels) (now starts) (now closures) (now table)
+        × (state < b .states) × (count ≡ length (b .rules))) ⌝ }
+    ensures { λ r. ⌜ ((b : Book) (F : Sets) → AutomatonIn b F (now (rules .entry)) (now (kernels .entry)) (now (starts .entry)) (now (closures .entry))
+        (now (table .entry)) → state < b .states → count ≡ length (b .rules) → r ≡ allAdvance b state (coreItems b F state)) ⌝ }
 {
     if !kernels_advance(rules, kernels, starts, table, state) {
         return false;
@@ -205,9 +207,10 @@ fn states_advance(
     states: usize,
     count: usize,
 ) -> bool
-    requires { ⌜ ((b : Book) × (F : Sets) × AutomatonIn b F (now rules) (now kernels) (now starts) (now closures) (now table) × (states ≡ b .states) × (count ≡ length (b .rules))) ⌝ }
-    ensures { λ r. ⌜ ((b : Book) (F : Sets) → AutomatonIn b F (now (rules .entry)) (now (kernels .entry)) (now (starts .entry)) (now (closures .entry)) (now (table .entry))
-        → states ≡ b .states → count ≡ length (b .rules) → r ≡ statesAdvance b (coreItems b F) states) ⌝ }
+    requires { ⌜ ((b : Book) × (F : Sets) × AutomatonIn b F (now rules) (now kernels) (now starts) (now closures) (now table)
+        × (states ≡ b .states) × (count ≡ length (b .rules))) ⌝ }
+    ensures { λ r. ⌜ ((b : Book) (F : Sets) → AutomatonIn b F (now (rules .entry)) (now (kernels .entry)) (now (starts .entry)) (now (closures .entry))
+        (now (table .entry)) → states ≡ b .states → count ≡ length (b .rules) → r ≡ statesAdvance b (coreItems b F) states) ⌝ }
 {
     let mut state = states;
     while state > 0 {
@@ -278,7 +281,8 @@ fn kernel_comes(
     symbol: usize,
     i: usize,
 ) -> bool
-    requires { ⌜ ((b : Book) × (F : Sets) × ItemsIn b F (now rules) (now kernels) (now starts) (now closures) × (state < b .states) × (i < length (b .kernels))) ⌝ }
+    requires { ⌜ ((b : Book) × (F : Sets) × ItemsIn b F (now rules) (now kernels) (now starts) (now closures)
+        × (state < b .states) × (i < length (b .kernels))) ⌝ }
     ensures { λ r. ⌜ ((b : Book) (F : Sets) (X : Symbol) → ItemsIn b F (now (rules .entry)) (now (kernels .entry)) (now (starts .entry)) (now (closures .entry))
         → state < b .states → i < length (b .kernels) → GoSymbol b X → symbol ≡ symbolCode X
         → r ≡ lineComes (b .rules) X (coreItems b F state) (kernelAt (b .kernels) i .rule) (kernelAt (b .kernels) i .dot)) ⌝ }
@@ -299,7 +303,8 @@ fn all_come(
     first: usize,
     last: usize,
 ) -> bool
-    requires { ⌜ ((b : Book) × (F : Sets) × ItemsIn b F (now rules) (now kernels) (now starts) (now closures) × (state < b .states) × (first ≤ last) × (last ≤ length (b .kernels))) ⌝ }
+    requires { ⌜ ((b : Book) × (F : Sets) × ItemsIn b F (now rules) (now kernels) (now starts) (now closures)
+        × (state < b .states) × (first ≤ last) × (last ≤ length (b .kernels))) ⌝ }
     ensures { λ r. ⌜ ((b : Book) (F : Sets) (X : Symbol) → ItemsIn b F (now (rules .entry)) (now (kernels .entry)) (now (starts .entry)) (now (closures .entry))
         → state < b .states → last ≤ length (b .kernels) → GoSymbol b X → symbol ≡ symbolCode X
         → r ≡ allCome (b .rules) X (coreItems b F state) (slice first last (b .kernels))) ⌝ }
@@ -323,7 +328,8 @@ fn line_comes(
     closures: &[u32],
     i: usize,
 ) -> bool
-    requires { ⌜ ((b : Book) × (F : Sets) × ItemsIn b F (now rules) (now kernels) (now starts) (now closures) × GoesIn (b .goes) (now goes) × (i < length (b .goes))) ⌝ }
+    requires { ⌜ ((b : Book) × (F : Sets) × ItemsIn b F (now rules) (now kernels) (now starts) (now closures)
+        × GoesIn (b .goes) (now goes) × (i < length (b .goes))) ⌝ }
     ensures { λ r. ⌜ ((b : Book) (F : Sets) → ItemsIn b F (now (rules .entry)) (now (kernels .entry)) (now (starts .entry)) (now (closures .entry))
         → GoesIn (b .goes) (now (goes .entry)) → i < length (b .goes) → r ≡ goComes b (coreItems b F) (goAt (b .goes) i)) ⌝ }
 {
@@ -347,7 +353,8 @@ fn lines_come(
     closures: &[u32],
     count: usize,
 ) -> bool
-    requires { ⌜ ((b : Book) × (F : Sets) × ItemsIn b F (now rules) (now kernels) (now starts) (now closures) × GoesIn (b .goes) (now goes) × (count ≡ length (b .goes))) ⌝ }
+    requires { ⌜ ((b : Book) × (F : Sets) × ItemsIn b F (now rules) (now kernels) (now starts) (now closures)
+        × GoesIn (b .goes) (now goes) × (count ≡ length (b .goes))) ⌝ }
     ensures { λ r. ⌜ ((b : Book) (F : Sets) → ItemsIn b F (now (rules .entry)) (now (kernels .entry)) (now (starts .entry)) (now (closures .entry))
         → GoesIn (b .goes) (now (goes .entry)) → count ≡ length (b .goes) → r ≡ goLines b (coreItems b F) (b .goes)) ⌝ }
 {
@@ -375,8 +382,8 @@ pub fn go_rules(
 ) -> bool
     requires { ⌜ ((b : Book) × (F : Sets) × AutomatonIn b F (now rules) (now kernels) (now starts) (now closures) (now table) × GoesIn (b .goes) (now goes)
         × (count ≡ length (b .rules)) × (lines ≡ length (b .goes)) × (states ≡ b .states)) ⌝ }
-    ensures { λ r. ⌜ ((b : Book) (F : Sets) → AutomatonIn b F (now (rules .entry)) (now (kernels .entry)) (now (starts .entry)) (now (closures .entry)) (now (table .entry))
-        → GoesIn (b .goes) (now (goes .entry)) → count ≡ length (b .rules) → lines ≡ length (b .goes) → states ≡ b .states
+    ensures { λ r. ⌜ ((b : Book) (F : Sets) → AutomatonIn b F (now (rules .entry)) (now (kernels .entry)) (now (starts .entry)) (now (closures .entry))
+        (now (table .entry)) → GoesIn (b .goes) (now (goes .entry)) → count ≡ length (b .rules) → lines ≡ length (b .goes) → states ≡ b .states
         → r ≡ goRules b (itemsAt b (itemsTable b F))) ⌝ }
 {
     if !states_advance(

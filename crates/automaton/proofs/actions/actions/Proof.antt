@@ -9,7 +9,8 @@ use Rattle.automaton.proofs.actions.actions.Statement.{statement}
 use Rattle.automaton.proofs.actions.actions.Tie as tie
 
 abbrev Inv-loop : tie.InvT-loop
-Inv-loop rules count kernels starts closures terminals states actions₀ n state₀ actions state = StatesActing rules kernels starts closures terminals states count actions state
+Inv-loop rules count kernels starts closures terminals states actions₀ n state₀ actions state = StatesActing rules kernels starts closures terminals
+    states count actions state
 
 abbrev μ-loop : tie.MeasureT-loop
 μ-loop rules count kernels starts closures terminals states actions₀ n state₀ actions state = states - state
@@ -18,14 +19,16 @@ mul-fill : tie.Need-mul-fill Inv-loop μ-loop
 mul-fill c = let p = c .before .before .before .before .before .before .pre .1 in omega (arith, p .4, p .2 .states-in .grammar-in .limits .states-limit .high)
 
 fill-requires : tie.Need-fill-requires Inv-loop μ-loop
-fill-requires c κs = let p = c .before .before .before .before .before .before .pre in omega (arith, p .0, p .1 .4, p .1 .2 .states-in .grammar-in .limits .states-limit .high)
+fill-requires c κs =
+    let start = c .before .before .before .before .before .before in
+    let p = start .pre in omega (arith, p .0, p .1 .4, p .1 .2 .states-in .grammar-in .limits .states-limit .high)
 
 loop-holds : tie.Need-loop-holds Inv-loop μ-loop
 loop-holds c =
     let s = c .before .before .before .before .before .before .before .before .before in
     rw (c .before .before .fill .ensures)
-    (states-none (s .args .rules .now) (s .args .kernels .now) (s .args .starts .now) (s .args .closures .now) (s .args .terminals) (s .args .states) (s .args .count)
-    (s .args .actions .now) (s .pre .0) (omega (arith, s .pre .0, s .pre .1 .4, s .pre .1 .2 .states-in .grammar-in .limits .states-limit .high)))
+    (states-none (s .args .rules .now) (s .args .kernels .now) (s .args .starts .now) (s .args .closures .now) (s .args .terminals) (s .args .states)
+    (s .args .count) (s .args .actions .now) (s .pre .0) (omega (arith, s .pre .0, s .pre .1 .4, s .pre .1 .2 .states-in .grammar-in .limits .states-limit .high)))
 
 state-acts-requires : tie.Need-state-acts-requires Inv-loop μ-loop
 state-acts-requires c κs =
@@ -33,10 +36,16 @@ state-acts-requires c κs =
     (c .before .before .loop .inv .long, (p .0, p .1, p .2, omega (arith, p .4), p .3, p .5))
 
 same-length : tie.Need-same-length Inv-loop μ-loop
-same-length c = c .before .before .before .state-acts .kept .1 .1 .1 .1 .0 ∙ c .before .before .before .before .before .before .loop .inv .long ∙ sym (c .before .before .before .before .before .before .before .before .before .before .before .before .before .before .before .before .pre .0)
+same-length c =
+    let start = c .before .before .before .before .before .before .before .before .before .before .before .before .before .before .before .before in
+    let head = c .before .before .before .before .before .before in
+    c .before .before .before .state-acts .kept .1 .1 .1 .1 .0 ∙ head .loop .inv .long ∙ sym (start .pre .0)
 
 returns : tie.Need-returns Inv-loop μ-loop
-returns c = states-fail (c .before .before .before .before .before .before .loop .inv) (c .before .before .before .before .before .loop-test .taken) (c .before .before .before .state-acts .ensures) (not-true (c .before .before .before .state-acts .result) (c .if1 .taken))
+returns c =
+    let head = c .before .before .before .before .before .before in
+    states-fail (head .loop .inv) (c .before .before .before .before .before .loop-test .taken) (c .before .before .before .state-acts .ensures)
+    (not-true (c .before .before .before .state-acts .result) (c .if1 .taken))
 
 add-state : tie.Need-add-state Inv-loop μ-loop
 add-state c = search needs
@@ -46,7 +55,9 @@ loop-less c = search needs
 
 loop-again : tie.Need-loop-again Inv-loop μ-loop
 loop-again c =
-    states-more (c .before .before .before .before .before .before .loop .inv) (c .before .before .before .before .before .loop-test .taken) (c .before .before .before .state-acts .ensures) (not-false (c .before .before .before .state-acts .result) (c .if1 .left))
+    let head = c .before .before .before .before .before .before in
+    states-more (head .loop .inv) (c .before .before .before .before .before .loop-test .taken) (c .before .before .before .state-acts .ensures)
+    (not-false (c .before .before .before .state-acts .result) (c .if1 .left))
     (c .before .before .before .state-acts .kept .1 .1 .1 .1 .0)
 
 same-length-2 : tie.Need-same-length-2 Inv-loop μ-loop

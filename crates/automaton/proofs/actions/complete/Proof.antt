@@ -18,13 +18,19 @@ loop-holds : tie.Need-loop-holds Inv-loop μ-loop
 loop-holds c = let a = c .before .args in completing-none (a .terminals) (a .state) (a .rule) (a .set) (a .actions .now)
 
 complete-at-requires : tie.Need-complete-at-requires Inv-loop μ-loop
-complete-at-requires c κs = let s = c .before .before .before .before in (omega (arith, c .before .before .loop .inv .long, s .pre .0), s .pre .1, s .pre .2, omega (arith, s .pre .3))
+complete-at-requires c κs =
+    let head = c .before .before in
+    let s = c .before .before .before .before in (omega (arith, head .loop .inv .long, s .pre .0), s .pre .1, s .pre .2, omega (arith, s .pre .3))
 
 same-length : tie.Need-same-length Inv-loop μ-loop
 same-length c = c .before .before .before .complete-at .kept .0 ∙ c .before .before .before .before .before .before .loop .inv .long
 
 returns : tie.Need-returns Inv-loop μ-loop
-returns c = completing-fail (c .before .before .before .before .before .before .loop .inv) (c .before .before .before .before .before .before .before .before .pre .3) (c .before .before .before .before .before .loop-test .taken) (c .before .before .before .complete-at .ensures) (not-true (c .before .before .before .complete-at .result) (c .if1 .taken))
+returns c =
+    let start = c .before .before .before .before .before .before .before .before in
+    let head = c .before .before .before .before .before .before in
+    completing-fail (head .loop .inv) (start .pre .3) (c .before .before .before .before .before .loop-test .taken)
+    (c .before .before .before .complete-at .ensures) (not-true (c .before .before .before .complete-at .result) (c .if1 .taken))
 
 add-a : tie.Need-add-a Inv-loop μ-loop
 add-a c = search needs
@@ -34,7 +40,10 @@ loop-less c = search needs
 
 loop-again : tie.Need-loop-again Inv-loop μ-loop
 loop-again c =
-    completing-more (c .before .before .before .before .before .before .loop .inv) (c .before .before .before .before .before .before .before .before .pre .3) (c .before .before .before .before .before .loop-test .taken) (c .before .before .before .complete-at .ensures)
+    let start = c .before .before .before .before .before .before .before .before in
+    let head = c .before .before .before .before .before .before in
+    completing-more (head .loop .inv) (start .pre .3) (c .before .before .before .before .before .loop-test .taken)
+    (c .before .before .before .complete-at .ensures)
     (not-false (c .before .before .before .complete-at .result) (c .if1 .left)) (c .before .before .before .complete-at .kept .0)
 
 same-length-2 : tie.Need-same-length-2 Inv-loop μ-loop

@@ -37,10 +37,12 @@ same-length : tie.Need-same-length
 same-length c = search needs
 
 returns-2 : tie.Need-returns-2
-returns-2 c = λ terminals cells few l row.
+returns-2 c =
+    λ terminals cells few l row.
     let s = c .before .before .before .before .before .before .before in
     complete-give (s .args .a) cells (s .args .rule) (s .args .set) row
-    (sym (c .before .before .before .before .before .has .ensures) ∙ not-false (c .before .before .before .before .before .has .result) (c .before .before .before .before .if1 .left))
+    (sym (c .before .before .before .before .before .has .ensures)
+    ∙ not-false (c .before .before .before .before .before .has .result) (c .before .before .before .before .if1 .left))
     few l (omega (arith, s .pre .0, s .pre .1)) (s .pre .2) (c .before .before .give .ensures)
 
 pub complete-at-spec : {M : Type 1} → statement M

@@ -16,8 +16,10 @@ state-low : (c : tie.Start) → c .args .state < 128
 state-low c = omega (arith, c .pre .1 .2 .state-there, c .pre .1 .1 .limits .states-limit .high)
 
 -- a symbol stands behind the dot
-more : (c : tie.Else1) → c .before .before .before .before .args .dot < getD (c .before .before .before .before .args .rules .now) (10 * c .before .before .before .before .args .rule + 1) 0
-more c = rw (c .before .word .ensures) at (c .if1 .left)
+more : (c : tie.Else1) → c .before .before .before .before .args .dot < getD (c .before .before .before .before .args .rules .now)
+    (10 * c .before .before .before .before .args .rule + 1) 0
+more c =
+    rw (c .before .word .ensures) at (c .if1 .left)
 
 mul-place : tie.Need-mul-place
 mul-place c = omega (arith, low (c .before .before) .below)
@@ -37,8 +39,12 @@ same-length : tie.Need-same-length
 same-length c = search needs
 
 returns : tie.Need-returns
-returns c = λ b cells g s t row.
-    item-complete g s t (c .before .before .before .before .before .before .before .before .args .set) cells (rw (c .before .before .before .before .before .word .ensures) at (c .before .before .before .before .if1 .taken)) (c .before .before .complete .ensures cells row)
+returns c =
+    let start = c .before .before .before .before .before .before .before .before in
+    λ b cells g s t row.
+    item-complete g s t (start .args .set) cells
+    (rw (c .before .before .before .before .before .word .ensures) at (c .before .before .before .before .if1 .taken))
+    (c .before .before .complete .ensures cells row)
 
 add-word-2 : tie.Need-add-word-2
 add-word-2 c = omega (arith, low (c .before .before .before .before) .below)
@@ -50,8 +56,10 @@ word-requires-2 : tie.Need-word-requires-2
 word-requires-2 c κs = omega (arith, low (c .before .before .before .before) .there, low (c .before .before .before .before) .size-low, more c)
 
 returns-2 : tie.Need-returns-2
-returns-2 c = λ b cells g s t row.
-    item-nonterminal g s t (c .before .before .before .before .before .before .args .set) cells row (more (c .before .before)) (c .before .word2 .ensures) (c .if2 .taken)
+returns-2 c =
+    let start = c .before .before .before .before .before .before in
+    λ b cells g s t row.
+    item-nonterminal g s t (start .args .set) cells row (more (c .before .before)) (c .before .word2 .ensures) (c .if2 .taken)
 
 mul-give : tie.Need-mul-give
 mul-give c = omega (arith, state-low (c .before .before .before .before .before .before .before))
@@ -60,14 +68,20 @@ add-give : tie.Need-add-give
 add-give c = omega (arith, state-low (c .before .before .before .before .before .before .before))
 
 give-requires : tie.Need-give-requires
-give-requires c κs = omega (arith, state-low (c .before .before .before .before .before .before .before), c .before .before .before .before .before .before .before .pre .0)
+give-requires c κs =
+    let start = c .before .before .before .before .before .before .before in
+    omega (arith, state-low start, start .pre .0)
 
 same-length-2 : tie.Need-same-length-2
 same-length-2 c = search needs
 
 returns-3 : tie.Need-returns-3
-returns-3 c = λ b cells g s t row.
-    item-terminal g s t (c .before .before .before .before .before .before .before .before .before .before .args .set) cells row (more (c .before .before .before .before .before .before)) (c .before .before .before .before .before .word2 .ensures) (c .before .before .before .before .if2 .left) (omega (arith, state-low (c .before .before .before .before .before .before .before .before .before .before), c .before .before .before .before .before .before .before .before .before .before .pre .0))
+returns-3 c =
+    let start = c .before .before .before .before .before .before .before .before .before .before in
+    λ b cells g s t row.
+    item-terminal g s t (start .args .set) cells row (more (c .before .before .before .before .before .before))
+    (c .before .before .before .before .before .word2 .ensures) (c .before .before .before .before .if2 .left)
+    (omega (arith, state-low start, start .pre .0))
     (c .before .before .give .ensures)
 
 pub give-item-spec : {M : Type 1} → statement M

@@ -17,16 +17,23 @@ abbrev μ-loop : tie.MeasureT-loop
 μ-loop rules kernels starts actions₀ terminals state first i₀ actions i = i
 
 -- the words of the line before i
-low : (c : tie.In-loop Inv-loop μ-loop) → KernelLow (c .before .before .before .before .before .before .before .before .args .kernels .now) (c .before .loop .i - 1)
+low : (c : tie.In-loop Inv-loop μ-loop) → KernelLow (c .before .before .before .before .before .before .before .before .args .kernels .now)
+    (c .before .loop .i - 1)
 low c =
-    let p = c .before .before .before .before .before .before .before .before .pre in
+    let start = c .before .before .before .before .before .before .before .before in
+    let p = start .pre in
     kernel-low (p .1 .1) (c .before .loop .i - 1) (line-there (c .before .loop .inv) (c .loop-test .taken) (p .1 .0) (p .1 .1) (p .1 .2))
 
 word-requires : tie.Need-word-requires Inv-loop μ-loop
 word-requires c κs = let s = c .before .before .before .before in omega (arith, state-starts (s .pre .1 .1) (s .args .state) (s .pre .1 .2))
 
 add-word : tie.Need-add-word Inv-loop μ-loop
-add-word c = let s = c .before .before .before .before .before in omega (arith, state-starts (s .pre .1 .1) (s .args .state) (s .pre .1 .2), s .pre .1 .1 .starts-in .long)
+add-word c =
+    let s = c .before .before .before .before .before in omega (
+      arith,
+      state-starts (s .pre .1 .1) (s .args .state) (s .pre .1 .2),
+      s .pre .1 .1 .starts-in .long,
+    )
 
 word-requires-2 : tie.Need-word-requires-2 Inv-loop μ-loop
 word-requires-2 c κs = let s = c .before .before .before .before .before in state-starts (s .pre .1 .1) (s .args .state) (s .pre .1 .2)
@@ -73,10 +80,17 @@ shared-slice-read-give-item c = omega (arith, low (c .before .before .before .be
 
 give-item-requires : tie.Need-give-item-requires Inv-loop μ-loop
 give-item-requires c κs =
-    let p = c .before .before .before .before .before .before .before .before .before .before .before .before .pre in
-    let inside = line-there (c .before .before .before .before .before .loop .inv) (c .before .before .before .before .loop-test .taken) (p .1 .0) (p .1 .1) (p .1 .2) in (
-      omega (arith, p .0, c .before .before .before .before .before .loop .inv .long),
-      (p .1 .0, p .1 .1 .grammar-in, kernel-stands (p .1 .1) (p .1 .2) inside (c .before .before .before .word3 .ensures) (c .before .before .word4 .ensures), p .1 .3),
+    let start = c .before .before .before .before .before .before .before .before .before .before .before .before in
+    let head = c .before .before .before .before .before in
+    let p = start .pre in
+    let inside = line-there (head .loop .inv) (c .before .before .before .before .loop-test .taken) (p .1 .0) (p .1 .1) (p .1 .2) in (
+      omega (arith, p .0, head .loop .inv .long),
+      (
+        p .1 .0,
+        p .1 .1 .grammar-in,
+        kernel-stands (p .1 .1) (p .1 .2) inside (c .before .before .before .word3 .ensures) (c .before .before .word4 .ensures),
+        p .1 .3,
+      ),
     )
 
 same-length : tie.Need-same-length Inv-loop μ-loop
@@ -84,7 +98,10 @@ same-length c = c .before .before .before .give-item .kept .1 .0 ∙ c .before .
 
 returns : tie.Need-returns Inv-loop μ-loop
 returns c =
-    kernels-fail (c .before .before .before .before .before .before .before .before .before .loop .inv) (c .before .before .before .before .before .before .before .before .loop-test .taken) (c .before .before .before .before .before .before .before .word3 .ensures) (c .before .before .before .before .before .before .word4 .ensures) (c .before .before .before .give-item .ensures)
+    let head = c .before .before .before .before .before .before .before .before .before in
+    kernels-fail (head .loop .inv) (c .before .before .before .before .before .before .before .before .loop-test .taken)
+    (c .before .before .before .before .before .before .before .word3 .ensures) (c .before .before .before .before .before .before .word4 .ensures)
+    (c .before .before .before .give-item .ensures)
     (not-true (c .before .before .before .give-item .result) (c .if1 .taken))
 
 loop-less : tie.Need-loop-less Inv-loop μ-loop
@@ -92,7 +109,10 @@ loop-less c = search needs
 
 loop-again : tie.Need-loop-again Inv-loop μ-loop
 loop-again c =
-    kernels-more (c .before .before .before .before .before .before .before .before .before .loop .inv) (c .before .before .before .before .before .before .before .before .loop-test .taken) (c .before .before .before .before .before .before .before .word3 .ensures) (c .before .before .before .before .before .before .word4 .ensures) (c .before .before .before .give-item .ensures)
+    let head = c .before .before .before .before .before .before .before .before .before in
+    kernels-more (head .loop .inv) (c .before .before .before .before .before .before .before .before .loop-test .taken)
+    (c .before .before .before .before .before .before .before .word3 .ensures) (c .before .before .before .before .before .before .word4 .ensures)
+    (c .before .before .before .give-item .ensures)
     (not-false (c .before .before .before .give-item .result) (c .if1 .left)) (c .before .before .before .give-item .kept .1 .0)
 
 same-length-2 : tie.Need-same-length-2 Inv-loop μ-loop

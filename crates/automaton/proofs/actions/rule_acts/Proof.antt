@@ -30,7 +30,9 @@ mul-set-2 c =
     omega (arith, set-place (p .2) (p .3) (p .4 .state-there) (p .4 .rule-there) (c .word .ensures), p .3 .long)
 
 shared-slice-read-set : tie.Need-shared-slice-read-set
-shared-slice-read-set c = let p = c .before .before .before .before .before .pre .1 in set-place (p .2) (p .3) (p .4 .state-there) (p .4 .rule-there) (c .before .word .ensures)
+shared-slice-read-set c =
+    let start = c .before .before .before .before .before in
+    let p = start .pre .1 in set-place (p .2) (p .3) (p .4 .state-there) (p .4 .rule-there) (c .before .word .ensures)
 
 returns : tie.Need-returns
 returns c = λ b F items g k s t row. rule-idle g k s (c .before .before .word .ensures) items (c .if1 .taken) row
@@ -42,8 +44,10 @@ same-length : tie.Need-same-length
 same-length c = search needs
 
 returns-2 : tie.Need-returns-2
-returns-2 c = λ b F items g k s t row.
-    rule-busy g k s (c .before .before .before .before .before .before .word .ensures) items (c .before .before .before .before .if1 .left) (c .before .before .give-item .ensures b _ g s t row)
+returns-2 c =
+    λ b F items g k s t row.
+    rule-busy g k s (c .before .before .before .before .before .before .word .ensures) items (c .before .before .before .before .if1 .left)
+    (c .before .before .give-item .ensures b _ g s t row)
 
 pub rule-acts-spec : {M : Type 1} → statement M
 rule-acts-spec =

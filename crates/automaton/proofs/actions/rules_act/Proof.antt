@@ -19,14 +19,21 @@ loop-holds c = let a = c .before .before .before .args in acting-none (a .rules 
 
 rule-acts-requires : tie.Need-rule-acts-requires Inv-loop μ-loop
 rule-acts-requires c κs =
-    let p = c .before .before .before .before .before .before .pre in
-    (omega (arith, p .0, c .before .before .loop .inv .long), (p .1 .0, p .1 .1, p .1 .2, p .1 .3, record { state-there = p .1 .4; rule-there = omega (arith, p .1 .6); dot-there = zero-le }, p .1 .5))
+    let start = c .before .before .before .before .before .before in
+    let head = c .before .before in
+    let p = start .pre in (
+      omega (arith, p .0, head .loop .inv .long),
+      (p .1 .0, p .1 .1, p .1 .2, p .1 .3, record { state-there = p .1 .4; rule-there = omega (arith, p .1 .6); dot-there = zero-le }, p .1 .5),
+    )
 
 same-length : tie.Need-same-length Inv-loop μ-loop
 same-length c = c .before .before .before .rule-acts .kept .1 .1 .0 ∙ c .before .before .before .before .before .before .loop .inv .long
 
 returns : tie.Need-returns Inv-loop μ-loop
-returns c = acting-fail (c .before .before .before .before .before .before .loop .inv) (c .before .before .before .before .before .loop-test .taken) (c .before .before .before .rule-acts .ensures) (not-true (c .before .before .before .rule-acts .result) (c .if1 .taken))
+returns c =
+    let head = c .before .before .before .before .before .before in
+    acting-fail (head .loop .inv) (c .before .before .before .before .before .loop-test .taken) (c .before .before .before .rule-acts .ensures)
+    (not-true (c .before .before .before .rule-acts .result) (c .if1 .taken))
 
 add-rule : tie.Need-add-rule Inv-loop μ-loop
 add-rule c = search needs
@@ -36,7 +43,9 @@ loop-less c = search needs
 
 loop-again : tie.Need-loop-again Inv-loop μ-loop
 loop-again c =
-    acting-more (c .before .before .before .before .before .before .loop .inv) (c .before .before .before .before .before .loop-test .taken) (c .before .before .before .rule-acts .ensures) (not-false (c .before .before .before .rule-acts .result) (c .if1 .left))
+    let head = c .before .before .before .before .before .before in
+    acting-more (head .loop .inv) (c .before .before .before .before .before .loop-test .taken) (c .before .before .before .rule-acts .ensures)
+    (not-false (c .before .before .before .rule-acts .result) (c .if1 .left))
     (c .before .before .before .rule-acts .kept .1 .1 .0)
 
 same-length-2 : tie.Need-same-length-2 Inv-loop μ-loop

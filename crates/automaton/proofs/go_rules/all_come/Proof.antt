@@ -17,7 +17,8 @@ abbrev μ-loop : tie.MeasureT-loop
 loop-holds : tie.Need-loop-holds Inv-loop μ-loop
 loop-holds c =
     let s = c .before .before .before .before in
-    come-none (s .args .rules .now) (s .args .kernels .now) (s .args .starts .now) (s .args .closures .now) (s .args .state) (s .args .symbol) (s .args .first) (s .args .last) (s .pre .4)
+    come-none (s .args .rules .now) (s .args .kernels .now) (s .args .starts .now) (s .args .closures .now) (s .args .state) (s .args .symbol)
+    (s .args .first) (s .args .last) (s .pre .4)
 
 kernel-comes-requires : tie.Need-kernel-comes-requires Inv-loop μ-loop
 kernel-comes-requires c κs = let s = c .before .before .before .before .before .before in (s .pre .0, s .pre .1, s .pre .2, s .pre .3, omega (arith, s .pre .5))

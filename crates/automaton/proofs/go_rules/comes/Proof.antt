@@ -41,8 +41,10 @@ has-item-requires : tie.Need-has-item-requires
 has-item-requires c κs = let s = c .before .before .before .before .before .before .before in (s .pre .0, s .pre .1, s .pre .2, stands-back (s .pre .3))
 
 returns-3 : tie.Need-returns-3
-returns-3 c = λ b F X h s x e.
-    comes-item h s X (c .before .before .before .if1 .left) x e (c .before .before .word .ensures) (c .before .if2 .left) (c .has-item .ensures b F h (stands-back s))
+returns-3 c =
+    λ b F X h s x e.
+    comes-item h s X (c .before .before .before .if1 .left) x e (c .before .before .word .ensures) (c .before .if2 .left)
+    (c .has-item .ensures b F h (stands-back s))
 
 pub comes-spec : {M : Type 1} → statement M
 comes-spec =

@@ -11,11 +11,14 @@ states-advance-requires : tie.Need-states-advance-requires
 states-advance-requires c κs = search needs
 
 returns : tie.Need-returns
-returns c = λ b F h g p l q.
-    go-fail (h .states-in .grammar-in .declared) F q (sym (not-true (c .before .states-advance .result) (c .if1 .taken)) ∙ c .before .states-advance .ensures b F h q p)
+returns c =
+    λ b F h g p l q.
+    go-fail (h .states-in .grammar-in .declared) F q
+    (sym (not-true (c .before .states-advance .result) (c .if1 .taken)) ∙ c .before .states-advance .ensures b F h q p)
 
 lines-come-requires : tie.Need-lines-come-requires
-lines-come-requires c κs = let s = c .before .before .before .before .before .before .before .before in (s .pre .0, s .pre .1, items (s .pre .2), s .pre .3, s .pre .5)
+lines-come-requires c κs =
+    let s = c .before .before .before .before .before .before .before .before in (s .pre .0, s .pre .1, items (s .pre .2), s .pre .3, s .pre .5)
 
 returns-2 : tie.Need-returns-2
 returns-2 c = λ b F h g p l q.

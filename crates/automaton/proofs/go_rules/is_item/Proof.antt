@@ -14,7 +14,9 @@ word-requires : tie.Need-word-requires
 word-requires c κs = search needs
 
 returns : tie.Need-returns
-returns c = let a = c .before .before .before .args in other-rule (a .kernels .now) (a .i) (a .rule) (a .dot) (a .set) (c .before .word .ensures) (c .if1 .taken)
+returns c =
+    let start = c .before .before .before in
+    let a = start .args in other-rule (a .kernels .now) (a .i) (a .rule) (a .dot) (a .set) (c .before .word .ensures) (c .if1 .taken)
 
 add-word-2 : tie.Need-add-word-2
 add-word-2 c = search needs
@@ -24,8 +26,10 @@ word-requires-2 c κs = search needs
 
 returns-2 : tie.Need-returns-2
 returns-2 c =
-    let a = c .before .before .before .before .before .args in
-    other-dot (a .kernels .now) (a .i) (a .rule) (a .dot) (a .set) (c .before .before .before .word .ensures) (c .before .before .if1 .left) (c .before .word2 .ensures) (c .if2 .taken)
+    let start = c .before .before .before .before .before in
+    let a = start .args in
+    other-dot (a .kernels .now) (a .i) (a .rule) (a .dot) (a .set) (c .before .before .before .word .ensures) (c .before .before .if1 .left)
+    (c .before .word2 .ensures) (c .if2 .taken)
 
 add-subset : tie.Need-add-subset
 add-subset c = search needs
@@ -41,8 +45,10 @@ subset-requires c κs = search needs
 
 returns-3 : tie.Need-returns-3
 returns-3 c =
-    let a = c .before .before .before .before .before .before .before .args in
-    same-dot (a .kernels .now) (a .i) (a .rule) (a .dot) (a .set) (c .before .before .before .before .before .word .ensures) (c .before .before .before .before .if1 .left) (c .before .before .before .word2 .ensures) (c .before .before .if2 .left)
+    let start = c .before .before .before .before .before .before .before in
+    let a = start .args in
+    same-dot (a .kernels .now) (a .i) (a .rule) (a .dot) (a .set) (c .before .before .before .before .before .word .ensures)
+    (c .before .before .before .before .if1 .left) (c .before .before .before .word2 .ensures) (c .before .before .if2 .left)
     (c .subset .ensures)
 
 pub is-item-spec : {M : Type 1} → statement M

@@ -16,19 +16,26 @@ abbrev μ-loop : tie.MeasureT-loop
 μ-loop rules kernels starts table state last i₀ i = last - i
 
 add-word : tie.Need-add-word Inv-loop μ-loop
-add-word c = omega (arith, state-starts (c .before .before .before .before .pre .1 .states-in) (c .before .before .before .before .args .state) (c .before .before .before .before .pre .2), c .before .before .before .before .pre .1 .states-in .starts-in .long)
+add-word c =
+    let start = c .before .before .before .before in
+    omega (arith, state-starts (start .pre .1 .states-in) (start .args .state) (start .pre .2), start .pre .1 .states-in .starts-in .long)
 
 word-requires : tie.Need-word-requires Inv-loop μ-loop
-word-requires c κs = state-starts (c .before .before .before .before .pre .1 .states-in) (c .before .before .before .before .args .state) (c .before .before .before .before .pre .2)
+word-requires c κs =
+    let start = c .before .before .before .before in
+    state-starts (start .pre .1 .states-in) (start .args .state) (start .pre .2)
 
 word-requires-2 : tie.Need-word-requires-2 Inv-loop μ-loop
-word-requires-2 c κs = omega (arith, state-starts (c .before .before .before .before .before .pre .1 .states-in) (c .before .before .before .before .before .args .state) (c .before .before .before .before .before .pre .2))
+word-requires-2 c κs =
+    let start = c .before .before .before .before .before in
+    omega (arith, state-starts (start .pre .1 .states-in) (start .args .state) (start .pre .2))
 
 loop-holds : tie.Need-loop-holds Inv-loop μ-loop
 loop-holds c =
     let s = c .before .before .before .before .before .before in
     let range = state-range (s .pre .1 .states-in) (s .args .state) (s .pre .2) in
-    kernels-none (s .args .rules .now) (s .args .kernels .now) (s .args .starts .now) (s .args .table .now) (s .args .state) (c .word2 .ensures) (c .before .word .ensures)
+    kernels-none (s .args .rules .now) (s .args .kernels .now) (s .args .starts .now) (s .args .table .now) (s .args .state) (c .word2 .ensures)
+    (c .before .word .ensures)
     (omega (arith, range .ordered, c .word2 .ensures, c .before .word .ensures))
 
 kernel-advances-requires : tie.Need-kernel-advances-requires Inv-loop μ-loop
@@ -39,7 +46,9 @@ kernel-advances-requires c κs =
 
 returns : tie.Need-returns Inv-loop μ-loop
 returns c =
-    kernels-fail (c .before .before .before .loop .inv) (c .before .before .loop-test .taken) (λ b h s l. sym (not-true (c .before .kernel-advances .result) (c .if1 .taken)) ∙ c .before .kernel-advances .ensures b h s l)
+    let head = c .before .before .before in
+    kernels-fail (head .loop .inv) (c .before .before .loop-test .taken)
+    (λ b h s l. sym (not-true (c .before .kernel-advances .result) (c .if1 .taken)) ∙ c .before .kernel-advances .ensures b h s l)
 
 add-i : tie.Need-add-i Inv-loop μ-loop
 add-i c = search needs
@@ -49,7 +58,9 @@ loop-less c = search needs
 
 loop-again : tie.Need-loop-again Inv-loop μ-loop
 loop-again c =
-    kernels-more (c .before .before .before .loop .inv) (c .before .before .loop-test .taken) (λ b h s l. sym (not-false (c .before .kernel-advances .result) (c .if1 .left)) ∙ c .before .kernel-advances .ensures b h s l)
+    let head = c .before .before .before in
+    kernels-more (head .loop .inv) (c .before .before .loop-test .taken)
+    (λ b h s l. sym (not-false (c .before .kernel-advances .result) (c .if1 .left)) ∙ c .before .kernel-advances .ensures b h s l)
 
 returns-2 : tie.Need-returns-2 Inv-loop μ-loop
 returns-2 c = kernels-all (c .before .loop .inv) (c .loop-test .left)

@@ -15,10 +15,13 @@ abbrev μ-loop : tie.MeasureT-loop
 μ-loop rules kernels goes starts closures count i₀ i = count - i
 
 loop-holds : tie.Need-loop-holds Inv-loop μ-loop
-loop-holds c = let a = c .before .before .before .before .before .args in lines-none (a .rules .now) (a .kernels .now) (a .goes .now) (a .starts .now) (a .closures .now) (a .count)
+loop-holds c =
+    let start = c .before .before .before .before .before in
+    let a = start .args in lines-none (a .rules .now) (a .kernels .now) (a .goes .now) (a .starts .now) (a .closures .now) (a .count)
 
 line-comes-requires : tie.Need-line-comes-requires Inv-loop μ-loop
-line-comes-requires c κs = let s = c .before .before .before .before .before .before .before in (s .pre .0, s .pre .1, s .pre .2, s .pre .3, omega (arith, s .pre .4))
+line-comes-requires c κs =
+    let s = c .before .before .before .before .before .before .before in (s .pre .0, s .pre .1, s .pre .2, s .pre .3, omega (arith, s .pre .4))
 
 returns : tie.Need-returns Inv-loop μ-loop
 returns c =

@@ -11,7 +11,9 @@ low : (c : tie.Start) → RuleLow (c .args .rules .now) (c .args .rule)
 low c = rule-low (c .pre .2 .states-in .grammar-in) (c .args .rule) (c .pre .3 .rule-there)
 
 mul-set : tie.Need-mul-set
-mul-set c = omega (arith, c .before .before .before .before .before .pre .3 .state-there, c .before .before .before .before .before .pre .2 .states-in .grammar-in .limits .states-limit .high)
+mul-set c =
+    let start = c .before .before .before .before .before in
+    omega (arith, start .pre .3 .state-there, start .pre .2 .states-in .grammar-in .limits .states-limit .high)
 
 mul-word : tie.Need-mul-word
 mul-word c = omega (arith, low (c .before .before .before .before .before) .below)
@@ -20,13 +22,28 @@ word-requires : tie.Need-word-requires
 word-requires c κs = omega (arith, low (c .before .before .before .before .before) .there)
 
 add-set : tie.Need-add-set
-add-set c = omega (arith, set-place (c .before .before .before .before .before .before .pre .2 .states-in .grammar-in) (c .before .before .before .before .before .before .pre .2 .closures-in) (c .before .before .before .before .before .before .pre .3 .state-there) (c .before .before .before .before .before .before .pre .3 .rule-there) (c .word .ensures), c .before .before .before .before .before .before .pre .2 .closures-in .long)
+add-set c =
+    let start = c .before .before .before .before .before .before in
+    omega (
+      arith,
+      set-place (start .pre .2 .states-in .grammar-in) (start .pre .2 .closures-in) (start .pre .3 .state-there) (start .pre .3 .rule-there) (c .word .ensures),
+      start .pre .2 .closures-in .long,
+    )
 
 mul-set-2 : tie.Need-mul-set-2
-mul-set-2 c = omega (arith, set-place (c .before .before .before .before .before .before .pre .2 .states-in .grammar-in) (c .before .before .before .before .before .before .pre .2 .closures-in) (c .before .before .before .before .before .before .pre .3 .state-there) (c .before .before .before .before .before .before .pre .3 .rule-there) (c .word .ensures), c .before .before .before .before .before .before .pre .2 .closures-in .long)
+mul-set-2 c =
+    let start = c .before .before .before .before .before .before in
+    omega (
+      arith,
+      set-place (start .pre .2 .states-in .grammar-in) (start .pre .2 .closures-in) (start .pre .3 .state-there) (start .pre .3 .rule-there) (c .word .ensures),
+      start .pre .2 .closures-in .long,
+    )
 
 shared-slice-read-set : tie.Need-shared-slice-read-set
-shared-slice-read-set c = set-place (c .before .before .before .before .before .before .before .pre .2 .states-in .grammar-in) (c .before .before .before .before .before .before .before .pre .2 .closures-in) (c .before .before .before .before .before .before .before .pre .3 .state-there) (c .before .before .before .before .before .before .before .pre .3 .rule-there) (c .before .word .ensures)
+shared-slice-read-set c =
+    let start = c .before .before .before .before .before .before .before in
+    set-place (start .pre .2 .states-in .grammar-in) (start .pre .2 .closures-in) (start .pre .3 .state-there) (start .pre .3 .rule-there)
+    (c .before .word .ensures)
 
 returns : tie.Need-returns
 returns c = λ b F h s. rule-idle (items h) s (c .before .before .word .ensures) (c .if1 .taken)

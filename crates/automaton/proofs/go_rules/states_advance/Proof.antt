@@ -14,24 +14,37 @@ abbrev μ-loop : tie.MeasureT-loop
 μ-loop rules kernels starts closures table states count state₀ state = state
 
 loop-holds : tie.Need-loop-holds Inv-loop μ-loop
-loop-holds c = let a = c .before .before .before .before .before .args in states-none (a .rules .now) (a .kernels .now) (a .starts .now) (a .closures .now) (a .table .now) (a .states) (a .count)
+loop-holds c =
+    let start = c .before .before .before .before .before in
+    let a = start .args in states-none (a .rules .now) (a .kernels .now) (a .starts .now) (a .closures .now) (a .table .now) (a .states) (a .count)
 
 sub-state : tie.Need-sub-state Inv-loop μ-loop
 sub-state c = search needs
 
 state-advances-requires : tie.Need-state-advances-requires Inv-loop μ-loop
-state-advances-requires c κs = let s = c .before .before .before .before .before .before .before in (s .pre .0, s .pre .1, s .pre .2, omega (arith, s .pre .3, c .before .loop .inv .within), s .pre .4)
+state-advances-requires c κs =
+    let s = c .before .before .before .before .before .before .before in (
+      s .pre .0,
+      s .pre .1,
+      s .pre .2,
+      omega (arith, s .pre .3, c .before .loop .inv .within),
+      s .pre .4,
+    )
 
 returns : tie.Need-returns Inv-loop μ-loop
 returns c =
-    states-fail (c .before .before .before .loop .inv) (c .before .before .loop-test .taken) (λ b F h s n. sym (not-true (c .before .state-advances .result) (c .if1 .taken)) ∙ c .before .state-advances .ensures b F h s n)
+    let head = c .before .before .before in
+    states-fail (head .loop .inv) (c .before .before .loop-test .taken)
+    (λ b F h s n. sym (not-true (c .before .state-advances .result) (c .if1 .taken)) ∙ c .before .state-advances .ensures b F h s n)
 
 loop-less : tie.Need-loop-less Inv-loop μ-loop
 loop-less c = search needs
 
 loop-again : tie.Need-loop-again Inv-loop μ-loop
 loop-again c =
-    states-more (c .before .before .before .loop .inv) (c .before .before .loop-test .taken) (λ b F h s n. sym (not-false (c .before .state-advances .result) (c .if1 .left)) ∙ c .before .state-advances .ensures b F h s n)
+    let head = c .before .before .before in
+    states-more (head .loop .inv) (c .before .before .loop-test .taken)
+    (λ b F h s n. sym (not-false (c .before .state-advances .result) (c .if1 .left)) ∙ c .before .state-advances .ensures b F h s n)
 
 returns-2 : tie.Need-returns-2 Inv-loop μ-loop
 returns-2 c = states-all (c .before .loop .inv) (c .loop-test .left)

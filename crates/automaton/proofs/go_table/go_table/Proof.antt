@@ -14,7 +14,9 @@ abbrev μ-loop : tie.MeasureT-loop
 
 -- the words of the line that is put in
 low : (c : tie.In-loop Inv-loop μ-loop) → LineLow (c .before .before .before .before .before .before .before .before .args .goes .now) (c .before .loop .i - 1)
-low c = line-low (c .before .before .before .before .before .before .before .before .pre .1 .1) (c .before .loop .i - 1) (omega (arith, c .before .loop .inv .within))
+low c =
+    let start = c .before .before .before .before .before .before .before .before in
+    line-low (start .pre .1 .1) (c .before .loop .i - 1) (omega (arith, c .before .loop .inv .within))
 
 mul-fill : tie.Need-mul-fill Inv-loop μ-loop
 mul-fill c = omega (arith, c .before .before .before .pre .1 .1 .states-is, c .before .before .before .pre .1 .1 .limits .states-limit .high)

@@ -13,16 +13,24 @@ expression-requires : tie.Need-expression-requires
 expression-requires c κs = search needs
 
 slice-write-line : tie.Need-slice-write-line
-slice-write-line c = let start = c .before .before .before .before .before .before .before .before .before .before .before in omega (arith, ap length (start .pre .2))
+slice-write-line c =
+    let start = c .before .before .before .before .before .before .before .before .before .before .before in
+    omega (arith, ap length (start .pre .2))
 
 slice-write-line-2 : tie.Need-slice-write-line-2
-slice-write-line-2 c = let start = c .before .before .before .before .before .before .before .before .before .before .before in simp length-set (omega (arith, ap length (start .pre .2)))
+slice-write-line-2 c =
+    let start = c .before .before .before .before .before .before .before .before .before .before .before in
+    simp length-set (omega (arith, ap length (start .pre .2)))
 
 slice-write-line-3 : tie.Need-slice-write-line-3
-slice-write-line-3 c = let start = c .before .before .before .before .before .before .before .before .before .before .before in simp length-set (omega (arith, ap length (start .pre .2)))
+slice-write-line-3 c =
+    let start = c .before .before .before .before .before .before .before .before .before .before .before in
+    simp length-set (omega (arith, ap length (start .pre .2)))
 
 slice-write-line-4 : tie.Need-slice-write-line-4
-slice-write-line-4 c = let start = c .before .before .before .before .before .before .before .before .before .before .before in simp length-set (omega (arith, ap length (start .pre .2)))
+slice-write-line-4 c =
+    let start = c .before .before .before .before .before .before .before .before .before .before .before in
+    simp length-set (omega (arith, ap length (start .pre .2)))
 
 closing-requires : tie.Need-closing-requires
 closing-requires c κs = search needs

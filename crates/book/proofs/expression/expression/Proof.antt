@@ -6,7 +6,8 @@ use lib.ListN.{length, length-set}
 use Rattle.text.specs.Rest.{rest, size}
 use Rattle.grammar.specs.Expression.{machine, expressionSteps}
 use Rattle.book.specs.Expressions.{DEFINITION-WORDS}
-use Rattle.book.specs.ExpressionsLoop.{Working, working-start, begun-shorter, mark-shorter, open-fits, working-open, working-whole, working-space, working-close, working-lost, working-end}
+use Rattle.book.specs.ExpressionsLoop.{Working, working-start, begun-shorter, mark-shorter, open-fits, working-open, working-whole}
+use Rattle.book.specs.ExpressionsLoop.{working-space, working-close, working-lost, working-end}
 use borrow.Author.Needs.{needs}
 use Rattle.book.proofs.expression.expression.Statement.{statement}
 use Rattle.book.proofs.expression.expression.Tie as tie
@@ -76,7 +77,8 @@ loop-again-2 c =
     let inv = turn .before .loop .inv in (
       inv .0,
       search needs,
-      working-whole (inv .2) (turn .loop-test .taken) (begins .begun .ensures) (node .before .before .if2 .left) (begins .before .if1 .taken) (node .put-node .ensures),
+      working-whole (inv .2) (turn .loop-test .taken) (begins .begun .ensures) (node .before .before .if2 .left) (begins .before .if1 .taken)
+          (node .put-node .ensures),
     )
 
 same-length : tie.Need-same-length Inv-loop μ-loop
@@ -121,7 +123,8 @@ loop-again-3 c =
     let inv = turn .before .loop .inv in (
       inv .0,
       search needs,
-      working-close (inv .2) (turn .loop-test .taken) (closed .before .before .before .before .if1 .left) (omega arith) refl (closed .before .if4 .taken) (closed .mark .ensures)
+      working-close (inv .2) (turn .loop-test .taken) (closed .before .before .before .before .if1 .left) (omega arith) refl
+          (closed .before .if4 .taken) (closed .mark .ensures)
           (node .put-node2 .ensures),
     )
 
@@ -146,7 +149,8 @@ loop-again-4 c =
     let start = turn .before .before .before .before .before in (
       simp length-set (inv .0),
       inv .1,
-      working-space (inv .2) (turn .loop-test .taken) (c .before .before .before .before .if1 .left) (omega arith) refl (omega arith) (start .pre .0 .short) (c .before .if4 .left)
+      working-space (inv .2) (turn .loop-test .taken) (c .before .before .before .before .if1 .left) (omega arith) refl (omega arith)
+          (start .pre .0 .short) (c .before .if4 .left)
           (c .mark2 .ensures),
     )
 

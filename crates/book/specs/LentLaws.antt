@@ -60,7 +60,7 @@ module _ {numbers : Book} {inherited synthesized rules definitions kernels : Lis
 pub rule-of : {numbers : Book} {rules : List ℕ} {b : Lines} (P : ℕ) → RulesOf numbers rules b → P < length (b .rules) → RuleOf numbers rules P b
 rule-of P h l = record { rules-of = h; rule-there = l; size-is = h .rules-in .size-is P l; few-right = right-length (h .within) P }
 
-member-at : {A : Type 0} (xs : List A) (i : ℕ) (d : A) → i < length xs → Mem (getD xs i d) xs
+pub member-at : {A : Type 0} (xs : List A) (i : ℕ) (d : A) → i < length xs → Mem (getD xs i d) xs
 member-at [] i d l = absurd (omega arith)
 member-at (x ∷ xs) zero d l = in-head refl
 member-at (x ∷ xs) (suc i) d l = in-tail (member-at xs i d (omega arith))

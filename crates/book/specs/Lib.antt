@@ -13,5 +13,8 @@ pub mod LentLaws
 pub mod LimitLaws
 pub mod LimitTests
 pub mod Lines
+pub mod OwnedLaws
+pub mod OwnedLines
+pub mod OwnedTests
 pub mod Runs
 pub mod Sections

@@ -2,6 +2,7 @@
 pub mod declared;
 pub mod header;
 pub mod limits;
+pub mod owned;
 pub mod owners;
 pub mod rules;
 pub mod spelling;

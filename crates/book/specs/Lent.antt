@@ -130,12 +130,15 @@ pub record Within (numbers : Book) (inherited synthesized rules definitions kern
 
 -- Books in which what is mentioned is declared
 
-pub record DeclaredIn (inherited synthesized rules : List ℕ) (b : Lines) : Type 0 where
+pub record SymbolsIn (rules : List ℕ) (b : Lines) : Type 0 where
   pub within : WithinLimits b
   pub declared : Declared b
+  pub rules-in : RulesIn (b .rules) rules
+
+pub record DeclaredIn (inherited synthesized rules : List ℕ) (b : Lines) : Type 0 where
+  pub symbols-in : SymbolsIn rules b
   pub inherited-in : OwnersIn MAX-INHERITED (b .inheritedOwners) inherited
   pub synthesized-in : OwnersIn MAX-SYNTHESIZED (b .synthesizedOwners) synthesized
-  pub rules-in : RulesIn (b .rules) rules
 
 -- the words of a node of rule p name what is there
 pub record NodeThere (inherited synthesized rules : List ℕ) (p kind first second : ℕ) : Type 0 where
@@ -165,11 +168,25 @@ pub record SynthesizedThere (inherited synthesized rules definitions : List ℕ)
   pub attribute-there : x .line .attribute < length (x .book .synthesizedOwners)
 
 -- a book, but for its states
-pub record DeclaredLines (numbers : Book) (inherited synthesized rules definitions : List ℕ) (b : Lines) : Type 0 where
-  pub counted : Counted numbers b
+pub record DeclaredLines (inherited synthesized rules definitions : List ℕ) (b : Lines) : Type 0 where
   pub inherited-in : OwnersIn MAX-INHERITED (b .inheritedOwners) inherited
   pub synthesized-in : OwnersIn MAX-SYNTHESIZED (b .synthesizedOwners) synthesized
   pub rules-in : RulesIn (b .rules) rules
   pub definitions-in : DefinitionsIn (b .inheritedDefinitions) (b .synthesizedDefinitions) definitions
   pub within : withinLimits b ≡ true
   pub declared : declared b ≡ true
+
+-- with the number of inherited attributes' definitions, and of those of synthesized ones after them
+pub record InheritedLines (inherited synthesized rules definitions : List ℕ) (n : ℕ) (b : Lines) : Type 0 where
+  pub lines : DeclaredLines inherited synthesized rules definitions b
+  pub count : n ≡ length (b .inheritedDefinitions)
+
+pub record SynthesizedLines (inherited synthesized rules definitions : List ℕ) (first n : ℕ) (b : Lines) : Type 0 where
+  pub lines : DeclaredLines inherited synthesized rules definitions b
+  pub start : first ≡ length (b .inheritedDefinitions)
+  pub count : n ≡ length (b .synthesizedDefinitions)
+
+-- with all numbers
+pub record DeclaredBook (numbers : Book) (inherited synthesized rules definitions : List ℕ) (b : Lines) : Type 0 where
+  pub counted : Counted numbers b
+  pub lines : DeclaredLines inherited synthesized rules definitions b

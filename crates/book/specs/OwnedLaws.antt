@@ -33,7 +33,7 @@ use Rattle.book.specs.declared.Book.{Book}
 use Rattle.book.specs.Answers.{same-test, and-true, and-first, and-second}
 use Rattle.book.specs.Layout.{symbolCode}
 use Rattle.book.specs.Held.{nodeAt, nodeKind, nodeFirst, nodeSecond, OwnersIn}
-use Rattle.book.specs.Lent.{Entry, DeclaredIn, NodeThere, LeavesThere, InheritedThere, SynthesizedThere, DeclaredLines}
+use Rattle.book.specs.Lent.{Entry, SymbolsIn, DeclaredIn, NodeThere, LeavesThere, InheritedThere, SynthesizedThere, DeclaredLines}
 use Rattle.book.specs.LentLaws.{member-at}
 use Rattle.book.specs.Leaves.{ofLeaf}
 use Rattle.book.specs.DeclaredLaws.{terminal-code, nonterminal-code}
@@ -58,7 +58,7 @@ module _ (inherited synthesized rules : List ℕ) (p limit kind first second : �
   unfolding ownedCode
   owned-none e f g = rw (ne-eqb kind 1 e, ownedCode) (rw (ne-eqb kind 2 f) (rw (ne-eqb kind 3 g)))
 
-module _ {inherited synthesized rules : List ℕ} {b : Lines} (h : DeclaredIn inherited synthesized rules b) where
+module _ {rules : List ℕ} {b : Lines} (h : SymbolsIn rules b) where
   -- owners are small
   pub inherited-owner : (K : ℕ) → K < length (b .inheritedOwners) → IsNonterminal b (inheritedOwner b K)
   inherited-owner K l = h .declared .inherited-owners _ (member-at (b .inheritedOwners) K 32 l)
@@ -98,18 +98,19 @@ module _ {inherited synthesized rules : List ℕ} {b : Lines} (h : DeclaredIn in
         go (terminal t) r = rw (terminal-code (h .within) r) (lt-ltb t 32 (omega (arith, r .high, h .within .terminals-limit .high)))
         go (nonterminal B) r = rw (nonterminal-code (h .within) r) (le-ltb (32 + B) 32 (omega arith))
 
+module _ {inherited synthesized rules : List ℕ} {b : Lines} (h : DeclaredIn inherited synthesized rules b) where
   -- Nodes
 
   module _ (P : ℕ) (there : P < length (b .rules)) where
     room : 10 * P + 10 ≤ length rules
-    room = omega (arith, h .rules-in .long, h .rules-in .fits)
+    room = omega (arith, h .symbols-in .rules-in .long, h .symbols-in .rules-in .fits)
 
     position-is : (J : ℕ) → isPosition b P J ≡ true → IsPosition b P J
     unfolding isPosition
     position-is J d = oneTo-decides (length (rightOf (b .rules) P)) J .sound d
 
     low : (J : ℕ) → isPosition b P J ≡ true → J ≤ MAX-RIGHT
-    low J d = omega (arith, position-is J d .high, right-length (h .within) P)
+    low J d = omega (arith, position-is J d .high, right-length (h .symbols-in .within) P)
 
     -- what is declared of a node is in reach
     pub node-there : (s : Step Place) → ofLeaf (declaredPlace b P) s ≡ true → NodeThere inherited synthesized rules P (nodeKind s) (nodeFirst s) (nodeSecond s)
@@ -119,7 +120,7 @@ module _ {inherited synthesized rules : List ℕ} {b : Lines} (h : DeclaredIn in
     node-there (load (at J K)) d =
         let l : K < length (b .synthesizedOwners) = ltb-true K (length (b .synthesizedOwners)) (and-second (isPosition b P J) _ d) in
         omega (arith, room, low J (and-first _ _ d), h .synthesized-in .long, h .synthesized-in .fits, h .synthesized-in .owner-is K l,
-        synthesized-owner K l .high, h .within .nonterminals-limit .high)
+        synthesized-owner (h .symbols-in) K l .high, h .symbols-in .within .nonterminals-limit .high)
     node-there (load (val J)) d = omega (arith, room, low J d)
     node-there (operate add) d = omega (arith, room)
     node-there (operate sub) d = omega (arith, room)
@@ -132,12 +133,12 @@ module _ {inherited synthesized rules : List ℕ} {b : Lines} (h : DeclaredIn in
     unfolding ofLeaf nodeKind nodeFirst nodeSecond ownedCode declaredPlace ownedPlace before
     owned-code limit (push n) d = refl
     owned-code limit (load (own K)) d =
-        ap₂ eqb (h .inherited-in .owner-is K (ltb-true K (length (b .inheritedOwners)) d)) (h .rules-in .left-is P there) ∙ sym (and-true _)
+        ap₂ eqb (h .inherited-in .owner-is K (ltb-true K (length (b .inheritedOwners)) d)) (h .symbols-in .rules-in .left-is P there) ∙ sym (and-true _)
     owned-code limit (load (at J K)) d =
         let l : K < length (b .synthesizedOwners) = ltb-true K (length (b .synthesizedOwners)) (and-second (isPosition b P J) _ d) in
         ap (λ (t : Bool). t && ltb J limit) (ap (λ (A : ℕ). eqb (getD rules (10 * P + 1 + J) 0) (32 + A)) (h .synthesized-in .owner-is K l)
-        ∙ nonterminal-word P J there (position-is J (and-first _ _ d)) (synthesizedOwner b K) (omega (arith, synthesized-owner K l .high, h .within .nonterminals-limit .high)))
-    owned-code limit (load (val J)) d = ap (λ (t : Bool). t && ltb J limit) (terminal-word P J there (position-is J d))
+        ∙ nonterminal-word (h .symbols-in) P J there (position-is J (and-first _ _ d)) (synthesizedOwner b K) (omega (arith, synthesized-owner (h .symbols-in) K l .high, h .symbols-in .within .nonterminals-limit .high)))
+    owned-code limit (load (val J)) d = ap (λ (t : Bool). t && ltb J limit) (terminal-word (h .symbols-in) P J there (position-is J d))
     owned-code limit (operate add) d = refl
     owned-code limit (operate sub) d = refl
     owned-code limit (operate min) d = refl

@@ -29,11 +29,10 @@ use Rattle.grammar.specs.ConditionTests.{
 }
 use Rattle.grammar.specs.ConditionTestsLaws.{withinLimits-decides, declared-decides}
 use Rattle.grammar.specs.ConditionsLaws.{right-length}
-use Rattle.book.specs.declared.Book.{Book}
 use Rattle.book.specs.Answers.{holds, and-assoc, and-true, and-first, and-second, all-below, below-at, below-all, below-and}
 use Rattle.book.specs.Held.{inheritedAt, synthesizedAt, nodeAt, nodeKind, nodeFirst, nodeSecond}
-use Rattle.book.specs.Lent.{Entry, DeclaredIn, NodeThere, LeavesThere, InheritedThere, SynthesizedThere, DeclaredLines, RulesOf, DefinitionsOf}
-use Rattle.book.specs.LentLaws.{inheritedEntry, synthesizedEntry, inherited-entry, synthesized-entry}
+use Rattle.book.specs.Lent.{Entry, SymbolsIn, DeclaredIn, NodeThere, LeavesThere, InheritedThere, SynthesizedThere, DeclaredLines}
+use Rattle.book.specs.LentLaws.{inheritedEntry, synthesizedEntry, inherited-line, synthesized-line}
 use Rattle.book.specs.Leaves.{ofLeaf, leaves-nodes}
 use Rattle.book.specs.DeclaredTests.{grammarDeclared, inheritedDeclared, synthesizedDeclared, kernelsDeclared, goesDeclared}
 use Rattle.book.specs.DeclaredLaws.{declared-parts}
@@ -83,6 +82,10 @@ module _ {inherited synthesized rules definitions : List ℕ} {i : ℕ} {x : Ent
         (owned-code (h .declared-in) (x .line .rule) (h .rule-there) limit (nodeAt (x .line .expression) j) (node-declared j l))
 
 -- an inherited attribute's definition
+pub owner-word : {inherited synthesized rules definitions : List ℕ} {i : ℕ} {x : Entry} → InheritedThere inherited synthesized rules definitions i x
+    → getD inherited (getD definitions (49 * i + 2) 0) 0 < 32
+owner-word h = rw (h .leaves-of .line-is .line-in .attribute-is) (h .owner-low)
+
 pub inherited-line-asked : {inherited synthesized rules definitions : List ℕ} {i : ℕ} {x : Entry} {r : Bool}
     → InheritedThere inherited synthesized rules definitions i x → r ≡ leavesOwned (getD definitions (49 * i + 1) 0) x
     → eqb (getD rules (10 * getD definitions (49 * i) 0 + 1 + getD definitions (49 * i + 1) 0) 0) (32 + getD inherited (getD definitions (49 * i + 2) 0) 0) && r
@@ -97,7 +100,7 @@ inherited-line-asked {inherited} {synthesized} {rules} {definitions} {i} {x} {r}
     rw (d .rule-is, d .position-is, d .attribute-is, e)
     (ap₂ (λ (s t : Bool). s && t)
     (ap (λ (A : ℕ). eqb (getD rules (10 * P + 1 + J) 0) (32 + A)) owner
-    ∙ nonterminal-word (g .declared-in) P J (g .rule-there) (h .position-there) (inheritedOwner (x .book) (x .line .attribute)) (rw (← owner) (h .owner-low)))
+    ∙ nonterminal-word (g .declared-in .symbols-in) P J (g .rule-there) (h .position-there) (inheritedOwner (x .book) (x .line .attribute)) (rw (← owner) (h .owner-low)))
     (ap (λ (k : ℕ). leavesOwned k x) (d .position-is))
     ∙ sym (and-assoc (nonterminalAt (x .book) P J (inheritedOwner (x .book) (x .line .attribute))) (allLeaves (ownedPlace (x .book) P) (x .line .expression))
     (allLeaves (before J) (x .line .expression))))
@@ -111,7 +114,7 @@ synthesized-line-asked {inherited} {synthesized} {rules} {definitions} {i} {x} {
     let g = h .leaves-of in
     let d = g .line-is .line-in in
     rw (d .rule-is, d .attribute-is)
-    (ap₂ _&&_ (ap₂ eqb (g .declared-in .synthesized-in .owner-is (x .line .attribute) (h .attribute-there)) (g .declared-in .rules-in .left-is (x .line .rule) (g .rule-there)))
+    (ap₂ _&&_ (ap₂ eqb (g .declared-in .synthesized-in .owner-is (x .line .attribute) (h .attribute-there)) (g .declared-in .symbols-in .rules-in .left-is (x .line .rule) (g .rule-there)))
     (e ∙ (ap (λ (t : Bool). allLeaves (ownedPlace (x .book) (x .line .rule)) (x .line .expression) && t) all-before ∙ and-true _)))
   where
     all-before : allLeaves (before 9) (x .line .expression) ≡ true
@@ -124,29 +127,17 @@ synthesized-line-asked {inherited} {synthesized} {rules} {definitions} {i} {x} {
 
 -- Declared definitions
 
-module _ {numbers : Book} {inherited synthesized rules definitions : List ℕ} {b : Lines}
-    (h : DeclaredLines numbers inherited synthesized rules definitions b) where
+module _ {inherited synthesized rules definitions : List ℕ} {b : Lines} (h : DeclaredLines inherited synthesized rules definitions b) where
   definitions-declared : inheritedDeclared b && synthesizedDeclared b ≡ true
   definitions-declared =
       and-second (grammarDeclared b) (inheritedDeclared b && synthesizedDeclared b)
       (and-first (grammarDeclared b && (inheritedDeclared b && synthesizedDeclared b)) (kernelsDeclared b && goesDeclared b) (declared-parts b ∙ h .declared))
 
-  declared-in : DeclaredIn inherited synthesized rules b
-  declared-in =
-      record {
-        within = withinLimits-decides b .sound (h .within);
-        declared = declared-decides b .sound (h .declared);
-        inherited-in = h .inherited-in;
-        synthesized-in = h .synthesized-in;
-        rules-in = h .rules-in;
-      }
+  pub symbols-in : SymbolsIn rules b
+  symbols-in = record { within = withinLimits-decides b .sound (h .within); declared = declared-decides b .sound (h .declared); rules-in = h .rules-in }
 
-  definitions-of : DefinitionsOf numbers rules definitions b
-  definitions-of =
-      record {
-        rules-of = record { counted = h .counted; within = declared-in .within; rules-in = h .rules-in };
-        definitions-in = h .definitions-in;
-      }
+  declared-in : DeclaredIn inherited synthesized rules b
+  declared-in = record { symbols-in = symbols-in; inherited-in = h .inherited-in; synthesized-in = h .synthesized-in }
 
   pub inherited-there : (i : ℕ) → i < length (b .inheritedDefinitions) → InheritedThere inherited synthesized rules definitions i (inheritedEntry b i)
   unfolding inheritedDeclared declaredInherited isPosition
@@ -160,15 +151,15 @@ module _ {numbers : Book} {inherited synthesized rules definitions : List ℕ} {
       record {
         leaves-of = record {
           declared-in = declared-in;
-          line-is = inherited-entry definitions-of i l .line-is;
+          line-is = inherited-line (symbols-in .within) (h .definitions-in) i l;
           rule-there = rule;
           leaves-there = leaves;
         };
         attribute-there = attribute;
         position-there = position;
-        few-right = right-length (declared-in .within) (d .rule);
-        owner-low = omega (arith, h .inherited-in .owner-is (d .attribute) attribute, inherited-owner declared-in (d .attribute) attribute .high,
-        declared-in .within .nonterminals-limit .high);
+        few-right = right-length (symbols-in .within) (d .rule);
+        owner-low = omega (arith, h .inherited-in .owner-is (d .attribute) attribute, inherited-owner symbols-in (d .attribute) attribute .high,
+        symbols-in .within .nonterminals-limit .high);
       }
 
   pub synthesized-there : (i : ℕ) {n : ℕ} → n ≡ length (b .inheritedDefinitions) → i < length (b .synthesizedDefinitions)
@@ -184,7 +175,7 @@ module _ {numbers : Book} {inherited synthesized rules definitions : List ℕ} {
       record {
         leaves-of = record {
           declared-in = declared-in;
-          line-is = synthesized-entry definitions-of i e l .line-is;
+          line-is = synthesized-line (symbols-in .within) (h .definitions-in) i e l;
           rule-there = rule;
           leaves-there = leaves;
         };

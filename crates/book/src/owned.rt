@@ -3,7 +3,7 @@
 ghost use mathlib.Core.Path.{_≡_};
 ghost use Rattle.grammar.specs.ConditionTests.{owned};
 ghost use Rattle.book.specs.Answers.{Some, Answers};
-ghost use Rattle.book.specs.Lent.{NodeThere, LeavesThere, InheritedThere, SynthesizedThere, DeclaredLines};
+ghost use Rattle.book.specs.Lent.{NodeThere, LeavesThere, InheritedThere, SynthesizedThere, InheritedLines, SynthesizedLines, DeclaredBook};
 ghost use Rattle.book.specs.OwnedTests.{ownedCode, leavesOwned, inheritedLineOwned, synthesizedLineOwned, inheritedOwned, synthesizedOwned};
 
 use super::Book;
@@ -75,14 +75,13 @@ fn synthesized_line_owned(inherited: &[u32], synthesized: &[u32], rules: &[u32],
     (synthesized[k] == rules[10 * p]) & leaves_owned(inherited, synthesized, rules, definitions, i, 9)
 }
 
-fn inherited_owned(book: Book, inherited: &[u32], synthesized: &[u32], rules: &[u32], definitions: &[u32]) -> bool
-    requires { ⌜ Some (DeclaredLines book (now inherited) (now synthesized) (now rules) (now definitions)) ⌝ }
+fn inherited_owned(inherited: &[u32], synthesized: &[u32], rules: &[u32], definitions: &[u32], n: usize) -> bool
+    requires { ⌜ Some (InheritedLines (now inherited) (now synthesized) (now rules) (now definitions) n) ⌝ }
     ensures {
-        λ r. ⌜ Answers (DeclaredLines book (now (inherited .entry)) (now (synthesized .entry)) (now (rules .entry)) (now (definitions .entry)))
+        λ r. ⌜ Answers (InheritedLines (now (inherited .entry)) (now (synthesized .entry)) (now (rules .entry)) (now (definitions .entry)) n)
             inheritedOwned r ⌝
     }
 {
-    let n = book.inherited_definitions as usize;
     let mut i = 0;
     while i < n {
         if !inherited_line_owned(inherited, synthesized, rules, definitions, i) {
@@ -93,15 +92,13 @@ fn inherited_owned(book: Book, inherited: &[u32], synthesized: &[u32], rules: &[
     true
 }
 
-fn synthesized_owned(book: Book, inherited: &[u32], synthesized: &[u32], rules: &[u32], definitions: &[u32]) -> bool
-    requires { ⌜ Some (DeclaredLines book (now inherited) (now synthesized) (now rules) (now definitions)) ⌝ }
+fn synthesized_owned(inherited: &[u32], synthesized: &[u32], rules: &[u32], definitions: &[u32], first: usize, n: usize) -> bool
+    requires { ⌜ Some (SynthesizedLines (now inherited) (now synthesized) (now rules) (now definitions) first n) ⌝ }
     ensures {
-        λ r. ⌜ Answers (DeclaredLines book (now (inherited .entry)) (now (synthesized .entry)) (now (rules .entry)) (now (definitions .entry)))
+        λ r. ⌜ Answers (SynthesizedLines (now (inherited .entry)) (now (synthesized .entry)) (now (rules .entry)) (now (definitions .entry)) first n)
             synthesizedOwned r ⌝
     }
 {
-    let first = book.inherited_definitions as usize;
-    let n = book.synthesized_definitions as usize;
     let mut i = 0;
     while i < n {
         if !synthesized_line_owned(inherited, synthesized, rules, definitions, first + i) {
@@ -114,11 +111,13 @@ fn synthesized_owned(book: Book, inherited: &[u32], synthesized: &[u32], rules: 
 
 // Whether every definition is of an attribute of its symbol, from attributes and values that its rule has.
 pub fn owned(book: Book, inherited: &[u32], synthesized: &[u32], rules: &[u32], definitions: &[u32]) -> bool
-    requires { ⌜ Some (DeclaredLines book (now inherited) (now synthesized) (now rules) (now definitions)) ⌝ }
+    requires { ⌜ Some (DeclaredBook book (now inherited) (now synthesized) (now rules) (now definitions)) ⌝ }
     ensures {
-        λ r. ⌜ Answers (DeclaredLines book (now (inherited .entry)) (now (synthesized .entry)) (now (rules .entry)) (now (definitions .entry)))
+        λ r. ⌜ Answers (DeclaredBook book (now (inherited .entry)) (now (synthesized .entry)) (now (rules .entry)) (now (definitions .entry)))
             owned r ⌝
     }
 {
-    inherited_owned(book, inherited, synthesized, rules, definitions) & synthesized_owned(book, inherited, synthesized, rules, definitions)
+    let first = book.inherited_definitions as usize;
+    let n = book.synthesized_definitions as usize;
+    inherited_owned(inherited, synthesized, rules, definitions, first) & synthesized_owned(inherited, synthesized, rules, definitions, first, n)
 }

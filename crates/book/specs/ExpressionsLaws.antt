@@ -174,7 +174,8 @@ module _ (word : ℕ) (text : List ℕ) (at : ℕ) where
 
 module _ {text : List ℕ} (at : ℕ) {a : ℕ} (e : rest text a ≡ mark open-bracket (rest text at)) where
   pub shows-bracket : (b : ℕ) {word next code x y done : ℕ} {opens : Bool} → a ≤ length text → Reads letters text a word next
-      → rest text b ≡ mark space (rest text next) → Shows (bracket word (rest text b)) text opens code x y done → Shows (begun (rest text at)) text opens code x y done
+      → rest text b ≡ mark space (rest text next) → Shows (bracket word (rest text b)) text opens code x y done
+      → Shows (begun (rest text at)) text opens code x y done
   shows-bracket b h r f s =
       record {
         shown-is =

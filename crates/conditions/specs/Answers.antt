@@ -27,6 +27,10 @@ answers-same e a = record { for-all = λ x h. a .for-all x h ∙ e x h }
 pub answers-where : {A : Type 0} {H H′ : A → Type 0} {t : A → Bool} {r : Bool} → ((x : A) → H x → H′ x) → Answers H′ t r → Answers H t r
 answers-where f a = record { for-all = λ x h. a .for-all x (f x h) }
 
+-- a test decides that it holds
+pub holds : (t : Bool) → Decides t (t ≡ true)
+holds t = record { sound = λ e. e; complete = λ e. e }
+
 -- two tests of one statement are the same
 pub same-test : {s t : Bool} {A : Type 0} → Decides s A → Decides t A → s ≡ t
 same-test {s = true} {t = true} p q = refl
@@ -55,6 +59,10 @@ and-false false = refl
 pub and-first : (s t : Bool) → s && t ≡ true → s ≡ true
 and-first true t e = refl
 and-first false t e = e
+
+pub and-second : (s t : Bool) → s && t ≡ true → t ≡ true
+and-second true t e = e
+and-second false t e = absurd (let z : _≡_ {A = ℕ} 0 1 = cc in omega arith)
 
 below-more : (f : ℕ → Bool) (n : ℕ) → allBelow (suc n) f ≡ allBelow n f && f n
 unfolding allBelow
@@ -104,7 +112,10 @@ below-and f g (suc n) =
     mixed false q r s = refl
 
 pub below-at : (f : ℕ → Bool) (n i : ℕ) → allBelow n f ≡ true → i < n → f i ≡ true
-below-at f n i e l = allBelow-decides {f = f} (λ k. record { sound = λ h. h; complete = λ h. h }) n .sound e i l
+below-at f n i e l = allBelow-decides {f = f} (λ k. holds (f k)) n .sound e i l
+
+pub below-all : (f : ℕ → Bool) (n : ℕ) → ((i : ℕ) → i < n → f i ≡ true) → allBelow n f ≡ true
+below-all f n h = allBelow-decides {f = f} (λ k. holds (f k)) n .complete h
 
 -- a test that fails of one number
 fails : (f : ℕ → Bool) (n i : ℕ) → i < n → f i ≡ false → allBelow n f ≡ false

@@ -8,13 +8,13 @@ use native.Mathlib.Omega.{arith}
 use lib.Dec.{eqb, ltb, leb}
 use lib.ListN.{length, getD}
 use borrow.Author.Tests.{ltb-true, ltb-false, lt-ltb, le-ltb, le-leb, lt-leb, leb-true, ne-eqb, eq-eqb}
-use Rattle.grammar.specs.Conditions.Decides.{oneTo, oneTo-decides, all, allBelow}
+use Rattle.grammar.specs.Conditions.Decides.{OneTo, oneTo, oneTo-decides, all, allBelow}
 use Rattle.grammar.specs.Limits.{MAX-RULES}
 use Rattle.grammar.specs.Data.Symbol.{Symbol, terminal, nonterminal, Rule, ruleAt, leftOf, rightOf}
 use Rattle.grammar.specs.Data.Postfix.{Step, push, load, operate, select, postfix, length-postfix}
 use Rattle.grammar.specs.Data.Term.{add, sub, min, max, nodes}
 use Rattle.grammar.specs.Data.Book.{Place, own, at, val, InheritedDefinition, SynthesizedDefinition, Book as Lines}
-use Rattle.grammar.specs.Conditions.Meaning.{WithinLimits}
+use Rattle.grammar.specs.Conditions.Meaning.{WithinLimits, IsTerminal, IsNonterminal}
 use Rattle.grammar.specs.Conditions.Tests.{allLeaves, oneNonterminal, rightSymbol, goSymbol, isPosition, declaredPlace, declaredInherited, declaredSynthesized, declaredKernel, declaredGo, declared, ownersDeclared as allOwnersDeclared, rulesDeclared as allRulesDeclared}
 use Rattle.grammar.specs.Format.Ordered.{Ascends, ascends-[], ascends-∷, lookaheadKey, Lookaheads, Every, every-[], every-∷}
 use Rattle.grammar.specs.Conditions.MeaningLaws.{right-length}
@@ -42,6 +42,20 @@ by-code P base K f g = go (ltb K 32) refl
     go : (t : Bool) → ltb K 32 ≡ t → P (elim t [ true ↦ base + K | false ↦ 64 ])
     go true e = f (ltb-true K 32 e)
     go false e = g (ltb-false K 32 e)
+
+code-low : (base K : ℕ) → K < 32 → codeOf base K ≡ base + K
+unfolding codeOf
+code-low base K h = rw (lt-ltb K 32 h, codeOf)
+
+-- the words of declared symbols
+module _ {b : Lines} (w : WithinLimits b) where
+  pub terminal-code : {t : ℕ} → IsTerminal b t → symbolCode (terminal t) ≡ t
+  unfolding symbolCode
+  terminal-code {t} d = code-low 0 t (omega (arith, w .terminals-limit .high)) ∙ omega arith
+
+  pub nonterminal-code : {A : ℕ} → IsNonterminal b A → symbolCode (nonterminal A) ≡ 32 + A
+  unfolding symbolCode
+  nonterminal-code {A} d = code-low 32 A (omega (arith, w .nonterminals-limit .high))
 
 module _ (numbers : Book) (code : ℕ) where
   pub right-low : code < 32 → rightCode numbers code ≡ oneTo (numbers .terminals) code
@@ -303,10 +317,6 @@ module _ {numbers : Book} {rules : List ℕ} {P : ℕ} {b : Lines} (h : RuleOf n
 
 -- Rule 0, where its right symbols are declared
 
-code-low : (base K : ℕ) → K < 32 → codeOf base K ≡ base + K
-unfolding codeOf
-code-low base K h = rw (lt-ltb K 32 h, codeOf)
-
 module _ {b : Lines} (w : WithinLimits b) where
   first-declared : (X : Symbol) (β : List Symbol) → all (rightSymbol b) (X ∷ β) ≡ true → rightSymbol b X ≡ true
   unfolding all
@@ -314,15 +324,14 @@ module _ {b : Lines} (w : WithinLimits b) where
 
   one-code : (β : List Symbol) (n code : ℕ) → n ≡ length β → (0 < length β → code ≡ symbolCode (getD β 0 (terminal 0))) → all (rightSymbol b) β ≡ true
       → eqb n 1 && leb 32 code ≡ oneNonterminal β
-  unfolding oneNonterminal symbolCode rightSymbol
+  unfolding oneNonterminal rightSymbol
   one-code [] n code e f d = rw e
   one-code (terminal t ∷ β) n code e f d =
-      let small : t ≤ b .terminals = oneTo-decides (b .terminals) t .sound (first-declared (terminal t) β d) .high in
-      let is : code ≡ 0 + t = f (omega arith) ∙ code-low 0 t (omega (arith, w .terminals-limit .high)) in
+      let small : OneTo (b .terminals) t = oneTo-decides (b .terminals) t .sound (first-declared (terminal t) β d) in
+      let is : code ≡ t = f (omega arith) ∙ terminal-code w small in
       rw (lt-leb 32 code (omega (arith, w .terminals-limit .high))) (and-false (eqb n 1))
   one-code (nonterminal B ∷ []) n code e f d =
-      let small : B ≤ b .nonterminals = oneTo-decides (b .nonterminals) B .sound (first-declared (nonterminal B) [] d) .high in
-      let is : code ≡ 32 + B = f (omega arith) ∙ code-low 32 B (omega (arith, w .nonterminals-limit .high)) in
+      let is : code ≡ 32 + B = f (omega arith) ∙ nonterminal-code w (oneTo-decides (b .nonterminals) B .sound (first-declared (nonterminal B) [] d)) in
       rw (e, le-leb 32 code (omega arith))
   one-code (nonterminal B ∷ X ∷ β) n code e f d = rw (ne-eqb n 1 (λ q. omega arith))
 

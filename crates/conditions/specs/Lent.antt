@@ -9,8 +9,9 @@ use Rattle.grammar.specs.Limits.{MAX-INHERITED, MAX-SYNTHESIZED, MAX-RIGHT, MAX
 use Rattle.grammar.specs.Data.Symbol.{Rule, rightOf}
 use Rattle.grammar.specs.Data.Term.{nodes}
 use Rattle.grammar.specs.Data.Book.{InheritedDefinition, Kernel, Book as Lines}
-use Rattle.grammar.specs.Conditions.Meaning.{WithinLimits}
-use Rattle.grammar.specs.Conditions.Tests.{withinLimits}
+use Rattle.grammar.specs.Conditions.Meaning.{WithinLimits, Declared}
+use Rattle.grammar.specs.Conditions.Tests.{withinLimits, declared, allLeaves, declaredPlace}
+use Rattle.grammar.specs.Conditions.Decides.{OneTo}
 use Rattle.grammar.specs.Format.Ordered.{Ascending, kernelKey, Ordered}
 use Rattle.book.specs.declared.Book.{Book}
 use Rattle.book.specs.Held.{OwnersIn, RulesIn, DefinitionIn, DefinitionsIn, KernelsIn, GoesIn, kept}
@@ -126,3 +127,66 @@ pub record Within (numbers : Book) (inherited synthesized rules definitions kern
   pub lent : Lent numbers inherited synthesized rules definitions kernels b
   pub goes-in : GoesIn (b .goes) goes
   pub within : withinLimits b ≡ true
+
+-- Books in which what is mentioned is declared
+
+pub record SymbolsIn (rules : List ℕ) (b : Lines) : Type 0 where
+  pub within : WithinLimits b
+  pub declared : Declared b
+  pub rules-in : RulesIn (b .rules) rules
+
+pub record DeclaredIn (inherited synthesized rules : List ℕ) (b : Lines) : Type 0 where
+  pub symbols-in : SymbolsIn rules b
+  pub inherited-in : OwnersIn MAX-INHERITED (b .inheritedOwners) inherited
+  pub synthesized-in : OwnersIn MAX-SYNTHESIZED (b .synthesizedOwners) synthesized
+
+-- the words of a node of rule p name what is there
+pub record NodeThere (inherited synthesized rules : List ℕ) (p kind first second : ℕ) : Type 0 where
+  pub rule-there : 10 * p + 10 ≤ length rules
+  pub own-there : kind ≡ 1 → first < length inherited
+  pub at-right : kind ≡ 2 → first ≤ MAX-RIGHT
+  pub val-right : kind ≡ 3 → first ≤ MAX-RIGHT
+  pub at-there : kind ≡ 2 → second < length synthesized
+  pub at-owner : kind ≡ 2 → getD synthesized second 0 < 32
+
+-- the definition in line i, of a rule P, whose leaves are declared
+pub record LeavesThere (inherited synthesized rules definitions : List ℕ) (i : ℕ) (x : Entry) : Type 0 where
+  pub declared-in : DeclaredIn inherited synthesized rules (x .book)
+  pub line-is : LineIs definitions i (x .line)
+  pub rule-there : x .line .rule < length (x .book .rules)
+  pub leaves-there : allLeaves (declaredPlace (x .book) (x .line .rule)) (x .line .expression) ≡ true
+
+pub record InheritedThere (inherited synthesized rules definitions : List ℕ) (i : ℕ) (x : Entry) : Type 0 where
+  pub leaves-of : LeavesThere inherited synthesized rules definitions i x
+  pub attribute-there : x .line .attribute < length (x .book .inheritedOwners)
+  pub position-there : OneTo (length (rightOf (x .book .rules) (x .line .rule))) (x .line .position)
+  pub few-right : length (rightOf (x .book .rules) (x .line .rule)) ≤ MAX-RIGHT
+  pub owner-low : getD inherited (x .line .attribute) 0 < 32
+
+pub record SynthesizedThere (inherited synthesized rules definitions : List ℕ) (i : ℕ) (x : Entry) : Type 0 where
+  pub leaves-of : LeavesThere inherited synthesized rules definitions i x
+  pub attribute-there : x .line .attribute < length (x .book .synthesizedOwners)
+
+-- a book, but for its states
+pub record DeclaredLines (inherited synthesized rules definitions : List ℕ) (b : Lines) : Type 0 where
+  pub inherited-in : OwnersIn MAX-INHERITED (b .inheritedOwners) inherited
+  pub synthesized-in : OwnersIn MAX-SYNTHESIZED (b .synthesizedOwners) synthesized
+  pub rules-in : RulesIn (b .rules) rules
+  pub definitions-in : DefinitionsIn (b .inheritedDefinitions) (b .synthesizedDefinitions) definitions
+  pub within : withinLimits b ≡ true
+  pub declared : declared b ≡ true
+
+-- with the number of inherited attributes' definitions, and of those of synthesized ones after them
+pub record InheritedLines (inherited synthesized rules definitions : List ℕ) (n : ℕ) (b : Lines) : Type 0 where
+  pub lines : DeclaredLines inherited synthesized rules definitions b
+  pub count : n ≡ length (b .inheritedDefinitions)
+
+pub record SynthesizedLines (inherited synthesized rules definitions : List ℕ) (first n : ℕ) (b : Lines) : Type 0 where
+  pub lines : DeclaredLines inherited synthesized rules definitions b
+  pub start : first ≡ length (b .inheritedDefinitions)
+  pub count : n ≡ length (b .synthesizedDefinitions)
+
+-- with all numbers
+pub record DeclaredBook (numbers : Book) (inherited synthesized rules definitions : List ℕ) (b : Lines) : Type 0 where
+  pub counted : Counted numbers b
+  pub lines : DeclaredLines inherited synthesized rules definitions b

@@ -11,9 +11,9 @@ use Rattle.grammar.specs.Conditions.Meaning.{WithinLimits}
 use Rattle.grammar.specs.Conditions.TestsLaws.{withinLimits-decides}
 use Rattle.grammar.specs.Conditions.MeaningLaws.{right-length}
 use Rattle.book.specs.declared.Book.{Book}
-use Rattle.book.specs.Held.{inheritedAt, synthesizedAt, OwnersIn, HasRoom, kept}
+use Rattle.book.specs.Held.{inheritedAt, synthesizedAt, OwnersIn, DefinitionsIn, HasRoom, kept}
 use Rattle.book.specs.HeldLaws.{kept-all}
-use Rattle.conditions.specs.Lent.{Counted, RuleLines, DefinitionLines, KernelLines, Kept, Lent, RulesOf, RuleOf, DefinitionsOf, Entry, EntryOf, KernelsOf, GoesOf, GrammarOf, Within}
+use Rattle.conditions.specs.Lent.{Counted, RuleLines, DefinitionLines, KernelLines, Kept, Lent, RulesOf, RuleOf, DefinitionsOf, Entry, LineIs, EntryOf, KernelsOf, GoesOf, GrammarOf, Within, InheritedLines, SynthesizedLines, DeclaredBook}
 
 -- where there is room, what is kept is all
 pub lent-kept : {numbers : Book} {inherited synthesized rules definitions kernels : List ℕ} {b : Lines}
@@ -60,7 +60,7 @@ module _ {numbers : Book} {inherited synthesized rules definitions kernels : Lis
 pub rule-of : {numbers : Book} {rules : List ℕ} {b : Lines} (P : ℕ) → RulesOf numbers rules b → P < length (b .rules) → RuleOf numbers rules P b
 rule-of P h l = record { rules-of = h; rule-there = l; size-is = h .rules-in .size-is P l; few-right = right-length (h .within) P }
 
-member-at : {A : Type 0} (xs : List A) (i : ℕ) (d : A) → i < length xs → Mem (getD xs i d) xs
+pub member-at : {A : Type 0} (xs : List A) (i : ℕ) (d : A) → i < length xs → Mem (getD xs i d) xs
 member-at [] i d l = absurd (omega arith)
 member-at (x ∷ xs) zero d l = in-head refl
 member-at (x ∷ xs) (suc i) d l = in-tail (member-at xs i d (omega arith))
@@ -75,31 +75,34 @@ synthesizedEntry b i =
     let d : SynthesizedDefinition = synthesizedAt (b .synthesizedDefinitions) i in
     record { book = b; line = record { rule = d .rule; position = 0; attribute = d .attribute; expression = d .expression } }
 
+module _ {definitions : List ℕ} {b : Lines} (w : WithinLimits b) (h : DefinitionsIn (b .inheritedDefinitions) (b .synthesizedDefinitions) definitions)
+    (i : ℕ) where
+  pub inherited-line : i < length (b .inheritedDefinitions) → LineIs definitions i (inheritedEntry b i .line)
+  inherited-line l =
+      record {
+        long = h .long;
+        room = omega (arith, h .fits);
+        few-nodes = w .inherited-nodes _ (member-at (b .inheritedDefinitions) i _ l);
+        line-in = h .inherited-is i l;
+      }
+
+  pub synthesized-line : {n : ℕ} → n ≡ length (b .inheritedDefinitions) → i < length (b .synthesizedDefinitions)
+      → LineIs definitions (n + i) (synthesizedEntry b i .line)
+  synthesized-line e l =
+      record {
+        long = h .long;
+        room = omega (arith, h .fits);
+        few-nodes = w .synthesized-nodes _ (member-at (b .synthesizedDefinitions) i _ l);
+        line-in = rw e (h .synthesized-is i l);
+      }
+
 module _ {numbers : Book} {rules definitions : List ℕ} {b : Lines} (h : DefinitionsOf numbers rules definitions b) (i : ℕ) where
   pub inherited-entry : i < length (b .inheritedDefinitions) → EntryOf numbers rules definitions i (inheritedEntry b i)
-  inherited-entry l =
-      record {
-        rules-of = h .rules-of;
-        line-is = record {
-          long = h .definitions-in .long;
-          room = omega (arith, h .definitions-in .fits);
-          few-nodes = h .rules-of .within .inherited-nodes _ (member-at (b .inheritedDefinitions) i _ l);
-          line-in = h .definitions-in .inherited-is i l;
-        };
-      }
+  inherited-entry l = record { rules-of = h .rules-of; line-is = inherited-line (h .rules-of .within) (h .definitions-in) i l }
 
   pub synthesized-entry : {n : ℕ} → n ≡ length (b .inheritedDefinitions) → i < length (b .synthesizedDefinitions)
       → EntryOf numbers rules definitions (n + i) (synthesizedEntry b i)
-  synthesized-entry e l =
-      record {
-        rules-of = h .rules-of;
-        line-is = record {
-          long = h .definitions-in .long;
-          room = omega (arith, h .definitions-in .fits);
-          few-nodes = h .rules-of .within .synthesized-nodes _ (member-at (b .synthesizedDefinitions) i _ l);
-          line-in = rw e (h .definitions-in .synthesized-is i l);
-        };
-      }
+  synthesized-entry e l = record { rules-of = h .rules-of; line-is = synthesized-line (h .rules-of .within) (h .definitions-in) i e l }
 
 -- The parts of a whole book within its limits
 
@@ -122,3 +125,13 @@ module _ {numbers : Book} {inherited synthesized rules definitions kernels goes 
 
   pub goes-of : GoesOf numbers goes b
   goes-of = record { counted = h .lent .counted; within = within-limits; goes-in = h .goes-in }
+
+-- The lines of each kind of a declared book
+
+module _ {numbers : Book} {inherited synthesized rules definitions : List ℕ} {b : Lines} (h : DeclaredBook numbers inherited synthesized rules definitions b) where
+  pub inherited-lines : InheritedLines inherited synthesized rules definitions (numbers .«inherited_definitions») b
+  inherited-lines = record { lines = h .lines; count = h .counted .inherited-definitions-are }
+
+  pub synthesized-lines : SynthesizedLines inherited synthesized rules definitions (numbers .«inherited_definitions») (numbers .«synthesized_definitions») b
+  synthesized-lines =
+      record { lines = h .lines; start = h .counted .inherited-definitions-are; count = h .counted .synthesized-definitions-are }

@@ -6,5 +6,8 @@ pub mod Lent
 pub mod LentLaws
 pub mod LimitLaws
 pub mod LimitTests
+pub mod OwnedLaws
+pub mod OwnedLines
+pub mod OwnedTests
 pub mod Runs
 pub mod SpellingHeld

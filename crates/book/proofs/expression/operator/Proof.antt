@@ -20,7 +20,9 @@ returns-3 c = rw (ne-eqb _ _ (c .before .before .if1 .left), ne-eqb _ _ (c .befo
 returns-4 : tie.Need-returns-4
 unfolding operatorCode waitingCode nodeWords spelled
 returns-4 c =
-    rw (ne-eqb _ _ (c .before .before .before .if1 .left), ne-eqb _ _ (c .before .before .if2 .left), ne-eqb _ _ (c .before .if3 .left), eq-eqb _ _ (c .if4 .taken))
+    let not-min = c .before in
+    let not-sub = not-min .before in
+    rw (ne-eqb _ _ (not-sub .before .if1 .left), ne-eqb _ _ (not-sub .if2 .left), ne-eqb _ _ (not-min .if3 .left), eq-eqb _ _ (c .if4 .taken))
 
 returns-5 : tie.Need-returns-5
 unfolding operatorCode waitingCode nodeWords spelled

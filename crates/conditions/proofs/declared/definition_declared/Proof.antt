@@ -2,9 +2,6 @@ use Rattle.conditions.specs.DeclaredLaws.{leaves-of, definition-asked, d
 use borrow.Author.Needs.{needs}
 use Rattle.conditions.proofs.declared.definition_declared.Statement.{statement}
 use Rattle.conditions.proofs.declared.definition_declared.Tie as tie
-use Rattle.conditions.proofs.declared.definition_declared.Reads as reads
-use Rattle.conditions.proofs.declared.definition_declared.Lts as lts
-use Rattle.conditions.proofs.declared.leaves_declared.Reads as leaves-declared-reads
 
 mul-p : tie.Need-mul-p
 mul-p c = search needs

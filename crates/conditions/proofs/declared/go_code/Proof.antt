@@ -3,9 +3,6 @@ use Rattle.conditions.specs.DeclaredLaws.{go-low, go-high}
 use borrow.Author.Needs.{needs}
 use Rattle.conditions.proofs.declared.go_code.Statement.{statement}
 use Rattle.conditions.proofs.declared.go_code.Tie as tie
-use Rattle.conditions.proofs.declared.go_code.Reads as reads
-use Rattle.conditions.proofs.declared.go_code.Lts as lts
-use Rattle.conditions.proofs.limits.one_to.Reads as one-to-reads
 
 one-to-requires : tie.Need-one-to-requires
 one-to-requires c κs = search needs

@@ -1,18 +1,13 @@
 use Prim.Native.Nat.{ℕ}
-use mathlib.Core.Path.{ap, ap₂, _∙_}
-use mathlib.Core.Bool.{Bool, _&&_}
+use mathlib.Core.Path.{ap₂, _∙_}
+use mathlib.Core.Bool.{_&&_}
 use Rattle.grammar.specs.Conditions.Decides.{oneTo, all}
 use Rattle.conditions.specs.LentLaws.{owners-are, owners-part}
-use Rattle.conditions.specs.DeclaredTests.{grammarDeclared, startCode}
+use Rattle.conditions.specs.DeclaredTests.{grammarDeclared}
 use Rattle.conditions.specs.DeclaredLaws.{start-rules}
 use borrow.Author.Needs.{needs}
 use Rattle.conditions.proofs.declared.grammar_declared.Statement.{statement}
 use Rattle.conditions.proofs.declared.grammar_declared.Tie as tie
-use Rattle.conditions.proofs.declared.grammar_declared.Reads as reads
-use Rattle.conditions.proofs.declared.grammar_declared.Lts as lts
-use Rattle.conditions.proofs.declared.owners_declared.Reads as owners-declared-reads
-use Rattle.conditions.proofs.declared.rules_declared.Reads as rules-declared-reads
-use Rattle.conditions.proofs.declared.start_declared.Reads as start-declared-reads
 
 cast-i : tie.Need-cast-i
 cast-i c = search needs

@@ -1,5 +1,4 @@
 use Prim.Native.Nat.{_-_}
-use mathlib.Core.Path.{_∙_}
 use native.Mathlib.Omega.{arith}
 use borrow.Author.Tests.{not-true, not-false}
 use Rattle.grammar.specs.Conditions.Tests.{declaredInherited}
@@ -11,9 +10,6 @@ use Rattle.conditions.specs.DeclaredTests.{inheritedLineDeclared, inheri
 use borrow.Author.Needs.{needs}
 use Rattle.conditions.proofs.declared.inherited_declared.Statement.{statement}
 use Rattle.conditions.proofs.declared.inherited_declared.Tie as tie
-use Rattle.conditions.proofs.declared.inherited_declared.Reads as reads
-use Rattle.conditions.proofs.declared.inherited_declared.Lts as lts
-use Rattle.conditions.proofs.declared.inherited_line_declared.Reads as inherited-line-declared-reads
 
 abbrev Inv-loop : tie.InvT-loop
 Inv-loop book rules definitions n i₀ i = Passing (DefinitionsOf book rules definitions) (λ b k. declaredInherited b (inheritedAt (b .inheritedDefinitions) k)) n i

@@ -6,10 +6,6 @@ use Rattle.conditions.specs.DeclaredLaws.{declared-word, inherited-asked
 use borrow.Author.Needs.{needs}
 use Rattle.conditions.proofs.declared.inherited_line_declared.Statement.{statement}
 use Rattle.conditions.proofs.declared.inherited_line_declared.Tie as tie
-use Rattle.conditions.proofs.declared.inherited_line_declared.Reads as reads
-use Rattle.conditions.proofs.declared.inherited_line_declared.Lts as lts
-use Rattle.conditions.proofs.declared.definition_declared.Reads as definition-declared-reads
-use Rattle.conditions.proofs.limits.one_to.Reads as one-to-reads
 
 -- a declared line's rule has a line
 low : (t : tie.Then1) → getD (t .before .before .before .before .args .definitions .now) (49 * t .before .before .before .before .args .i) 0 < 64

@@ -2,8 +2,6 @@ use Rattle.conditions.specs.DeclaredLaws.{kernel-asked, kernel-refused}
 use borrow.Author.Needs.{needs}
 use Rattle.conditions.proofs.declared.kernel_declared.Statement.{statement}
 use Rattle.conditions.proofs.declared.kernel_declared.Tie as tie
-use Rattle.conditions.proofs.declared.kernel_declared.Reads as reads
-use Rattle.conditions.proofs.declared.kernel_declared.Lts as lts
 
 mul-p : tie.Need-mul-p
 mul-p c = search needs

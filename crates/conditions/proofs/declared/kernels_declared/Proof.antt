@@ -1,5 +1,4 @@
 use Prim.Native.Nat.{_-_}
-use mathlib.Core.Path.{refl}
 use native.Mathlib.Omega.{arith}
 use borrow.Author.Tests.{not-true, not-false}
 use Rattle.grammar.specs.Conditions.Tests.{declaredKernel}
@@ -10,9 +9,6 @@ use Rattle.conditions.specs.DeclaredTests.{kernelDeclared, kernelsDeclar
 use borrow.Author.Needs.{needs}
 use Rattle.conditions.proofs.declared.kernels_declared.Statement.{statement}
 use Rattle.conditions.proofs.declared.kernels_declared.Tie as tie
-use Rattle.conditions.proofs.declared.kernels_declared.Reads as reads
-use Rattle.conditions.proofs.declared.kernels_declared.Lts as lts
-use Rattle.conditions.proofs.declared.kernel_declared.Reads as kernel-declared-reads
 
 abbrev Inv-loop : tie.InvT-loop
 Inv-loop book rules kernels n i₀ i = Passing (KernelsOf book rules kernels) (λ b k. declaredKernel b (kernelAt (b .kernels) k)) n i

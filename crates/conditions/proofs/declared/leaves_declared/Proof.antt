@@ -1,11 +1,11 @@
 use Prim.Native.Nat.{_-_}
-use mathlib.Core.Path.{refl, sym, _∙_}
+use mathlib.Core.Path.{sym, _∙_}
 use native.Mathlib.Omega.{arith}
 use borrow.Author.Tests.{not-true, not-false}
-use Rattle.grammar.specs.Data.Postfix.{select, postfix, length-postfix}
+use Rattle.grammar.specs.Data.Postfix.{select, postfix}
 use Rattle.grammar.specs.Conditions.Tests.{declaredPlace}
 use Rattle.book.specs.Held.{nodeAt}
-use Rattle.conditions.specs.Lent.{Entry, LeavesOf}
+use Rattle.conditions.specs.Lent.{LeavesOf}
 use Rattle.conditions.specs.Answers.{answers-same, Passing, passing-start, passing-turn, all-stop, all-end}
 use Rattle.conditions.specs.Leaves.{ofLeaf, leaves-nodes}
 use Rattle.conditions.specs.DeclaredTests.{leavesDeclared}
@@ -13,9 +13,6 @@ use Rattle.conditions.specs.DeclaredLaws.{node-asked, node-count}
 use borrow.Author.Needs.{needs}
 use Rattle.conditions.proofs.declared.leaves_declared.Statement.{statement}
 use Rattle.conditions.proofs.declared.leaves_declared.Tie as tie
-use Rattle.conditions.proofs.declared.leaves_declared.Reads as reads
-use Rattle.conditions.proofs.declared.leaves_declared.Lts as lts
-use Rattle.conditions.proofs.declared.place_declared.Reads as place-declared-reads
 
 abbrev Inv-loop : tie.InvT-loop
 Inv-loop book definitions i size n j₀ j = Passing (LeavesOf book definitions i size) (λ x k. ofLeaf (declaredPlace (x .book) (x .line .rule)) (nodeAt (x .line .expression) k)) n j

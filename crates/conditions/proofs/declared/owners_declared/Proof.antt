@@ -8,9 +8,6 @@ use Rattle.conditions.specs.Answers.{Passing, passing-start, passing-tur
 use borrow.Author.Needs.{needs}
 use Rattle.conditions.proofs.declared.owners_declared.Statement.{statement}
 use Rattle.conditions.proofs.declared.owners_declared.Tie as tie
-use Rattle.conditions.proofs.declared.owners_declared.Reads as reads
-use Rattle.conditions.proofs.declared.owners_declared.Lts as lts
-use Rattle.conditions.proofs.limits.one_to.Reads as one-to-reads
 
 abbrev Inv-loop : tie.InvT-loop
 Inv-loop owners n i₀ i = Passing {A = Unit {0}} (λ u. Unit {0}) (λ u k. oneTo n (getD owners k 0)) (length owners) i

@@ -5,9 +5,6 @@ use Rattle.conditions.specs.DeclaredLaws.{place-own, place-at, place-val
 use borrow.Author.Needs.{needs}
 use Rattle.conditions.proofs.declared.place_declared.Statement.{statement}
 use Rattle.conditions.proofs.declared.place_declared.Tie as tie
-use Rattle.conditions.proofs.declared.place_declared.Reads as reads
-use Rattle.conditions.proofs.declared.place_declared.Lts as lts
-use Rattle.conditions.proofs.limits.one_to.Reads as one-to-reads
 
 returns : tie.Need-returns
 returns c = place-own _ _ _ _ _ (c .before .if1 .taken)

@@ -3,9 +3,6 @@ use Rattle.conditions.specs.DeclaredLaws.{right-low, right-high}
 use borrow.Author.Needs.{needs}
 use Rattle.conditions.proofs.declared.right_code.Statement.{statement}
 use Rattle.conditions.proofs.declared.right_code.Tie as tie
-use Rattle.conditions.proofs.declared.right_code.Reads as reads
-use Rattle.conditions.proofs.declared.right_code.Lts as lts
-use Rattle.conditions.proofs.limits.one_to.Reads as one-to-reads
 
 one-to-requires : tie.Need-one-to-requires
 one-to-requires c κs = search needs

@@ -2,10 +2,6 @@ use Rattle.conditions.specs.DeclaredLaws.{rule-asked, rule-first}
 use borrow.Author.Needs.{needs}
 use Rattle.conditions.proofs.declared.rule_declared.Statement.{statement}
 use Rattle.conditions.proofs.declared.rule_declared.Tie as tie
-use Rattle.conditions.proofs.declared.rule_declared.Reads as reads
-use Rattle.conditions.proofs.declared.rule_declared.Lts as lts
-use Rattle.conditions.proofs.declared.right_declared.Reads as right-declared-reads
-use Rattle.conditions.proofs.limits.one_to.Reads as one-to-reads
 
 mul-one-to : tie.Need-mul-one-to
 mul-one-to c = search needs

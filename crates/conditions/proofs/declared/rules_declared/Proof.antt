@@ -10,9 +10,6 @@ use Rattle.conditions.specs.DeclaredTests.{ruleDeclared, rulesDeclared}
 use borrow.Author.Needs.{needs}
 use Rattle.conditions.proofs.declared.rules_declared.Statement.{statement}
 use Rattle.conditions.proofs.declared.rules_declared.Tie as tie
-use Rattle.conditions.proofs.declared.rules_declared.Reads as reads
-use Rattle.conditions.proofs.declared.rules_declared.Lts as lts
-use Rattle.conditions.proofs.declared.rule_declared.Reads as rule-declared-reads
 
 abbrev Inv-loop : tie.InvT-loop
 Inv-loop book rules n p₀ p = Passing (RulesOf book rules) (λ b P. ruleDeclared P b) n p

@@ -3,8 +3,6 @@ use Rattle.conditions.specs.DeclaredTests.{startCode}
 use borrow.Author.Needs.{needs}
 use Rattle.conditions.proofs.declared.start_declared.Statement.{statement}
 use Rattle.conditions.proofs.declared.start_declared.Tie as tie
-use Rattle.conditions.proofs.declared.start_declared.Reads as reads
-use Rattle.conditions.proofs.declared.start_declared.Lts as lts
 
 shared-slice-read-result : tie.Need-shared-slice-read-result
 shared-slice-read-result c = search needs

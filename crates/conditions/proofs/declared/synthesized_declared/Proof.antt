@@ -12,9 +12,6 @@ use Rattle.conditions.specs.DeclaredLaws.{synthesized-parts}
 use borrow.Author.Needs.{needs}
 use Rattle.conditions.proofs.declared.synthesized_declared.Statement.{statement}
 use Rattle.conditions.proofs.declared.synthesized_declared.Tie as tie
-use Rattle.conditions.proofs.declared.synthesized_declared.Reads as reads
-use Rattle.conditions.proofs.declared.synthesized_declared.Lts as lts
-use Rattle.conditions.proofs.declared.definition_declared.Reads as definition-declared-reads
 
 abbrev Inv-loop : tie.InvT-loop
 Inv-loop book rules definitions first n i₀ i = Passing (DefinitionsOf book rules definitions) (λ b k. declaredSynthesized b (synthesizedAt (b .synthesizedDefinitions) k)) n i

@@ -1,14 +1,10 @@
 use Prim.Native.Nat.{_-_}
-use mathlib.Core.Path.{refl}
 use lib.ListN.{length}
 use native.Mathlib.Omega.{arith}
 use Rattle.conditions.specs.LimitLaws.{Fewer, fewer-start, fewer-turn, fewer-stop, fewer-end}
 use borrow.Author.Needs.{needs}
 use Rattle.conditions.proofs.limits.few.Statement.{statement}
 use Rattle.conditions.proofs.limits.few.Tie as tie
-use Rattle.conditions.proofs.limits.few.Reads as reads
-use Rattle.conditions.proofs.limits.few.Lts as lts
-use Rattle.conditions.proofs.limits.repeats.Reads as repeats-reads
 
 abbrev Inv-loop : tie.InvT-loop
 Inv-loop words n i₀ i = Fewer words n i

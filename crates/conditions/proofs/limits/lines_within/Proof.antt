@@ -6,12 +6,6 @@ use Rattle.conditions.specs.LentLaws.{rule-lines, definition-lines, kern
 use borrow.Author.Needs.{needs}
 use Rattle.conditions.proofs.limits.lines_within.Statement.{statement}
 use Rattle.conditions.proofs.limits.lines_within.Tie as tie
-use Rattle.conditions.proofs.limits.lines_within.Reads as reads
-use Rattle.conditions.proofs.limits.lines_within.Lts as lts
-use Rattle.conditions.proofs.limits.few.Reads as few-reads
-use Rattle.conditions.proofs.limits.nodes_within.Reads as nodes-within-reads
-use Rattle.conditions.proofs.limits.rights_within.Reads as rights-within-reads
-use Rattle.conditions.proofs.limits.states_within.Reads as states-within-reads
 
 cast-i : tie.Need-cast-i
 cast-i c = search needs

@@ -5,13 +5,11 @@ use lib.ListN.{getD}
 use native.Mathlib.Omega.{arith}
 use borrow.Author.Tests.{le-leb, lt-leb}
 use Rattle.conditions.specs.Lent.{DefinitionLines}
-use Rattle.conditions.specs.Answers.{Answers, Passing, passing-start, passing-turn, passing-stop, passing-end, answers-same}
+use Rattle.conditions.specs.Answers.{Passing, passing-start, passing-turn, passing-stop, passing-end, answers-same}
 use Rattle.conditions.specs.LimitLaws.{nodes-lines}
 use borrow.Author.Needs.{needs}
 use Rattle.conditions.proofs.limits.nodes_within.Statement.{statement}
 use Rattle.conditions.proofs.limits.nodes_within.Tie as tie
-use Rattle.conditions.proofs.limits.nodes_within.Reads as reads
-use Rattle.conditions.proofs.limits.nodes_within.Lts as lts
 
 abbrev Inv-loop : tie.InvT-loop
 Inv-loop definitions n i₀ i = Passing (DefinitionLines definitions n) (λ b k. leb (getD definitions (49 * k + 3) 0) 15) n i

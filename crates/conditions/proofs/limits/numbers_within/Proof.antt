@@ -2,9 +2,6 @@ use Rattle.conditions.specs.LimitTests.{numbersWithin}
 use borrow.Author.Needs.{needs}
 use Rattle.conditions.proofs.limits.numbers_within.Statement.{statement}
 use Rattle.conditions.proofs.limits.numbers_within.Tie as tie
-use Rattle.conditions.proofs.limits.numbers_within.Reads as reads
-use Rattle.conditions.proofs.limits.numbers_within.Lts as lts
-use Rattle.conditions.proofs.limits.one_to.Reads as one-to-reads
 
 one-to-requires : tie.Need-one-to-requires
 one-to-requires c κs = search needs

@@ -6,8 +6,6 @@ use native.Mathlib.Omega.{arith}
 use borrow.Author.Needs.{needs}
 use Rattle.conditions.proofs.limits.repeats.Statement.{statement}
 use Rattle.conditions.proofs.limits.repeats.Tie as tie
-use Rattle.conditions.proofs.limits.repeats.Reads as reads
-use Rattle.conditions.proofs.limits.repeats.Lts as lts
 
 abbrev Inv-loop : tie.InvT-loop
 Inv-loop words from word n₀ i₀ n i = Counting words from word n i

@@ -6,10 +6,6 @@ use Rattle.conditions.specs.LentLaws.{lent-kept}
 use borrow.Author.Needs.{needs}
 use Rattle.conditions.proofs.limits.within_limits.Statement.{statement}
 use Rattle.conditions.proofs.limits.within_limits.Tie as tie
-use Rattle.conditions.proofs.limits.within_limits.Reads as reads
-use Rattle.conditions.proofs.limits.within_limits.Lts as lts
-use Rattle.conditions.proofs.limits.lines_within.Reads as lines-within-reads
-use Rattle.conditions.proofs.limits.numbers_within.Reads as numbers-within-reads
 
 numbers-within-requires : tie.Need-numbers-within-requires
 numbers-within-requires c κs = search needs

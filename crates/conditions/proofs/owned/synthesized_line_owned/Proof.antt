@@ -1,0 +1,73 @@
+use Rattle.conditions.specs.OwnedLines.{synthesized-line-asked}
+use borrow.Author.Needs.{needs}
+use Rattle.conditions.proofs.owned.synthesized_line_owned.Statement.{statement}
+use Rattle.conditions.proofs.owned.synthesized_line_owned.Tie as tie
+
+mul-p : tie.Need-mul-p
+mul-p c = search needs
+
+mul-p-2 : tie.Need-mul-p-2
+mul-p-2 c = search needs
+
+shared-slice-read-p : tie.Need-shared-slice-read-p
+shared-slice-read-p c = search needs
+
+cast-p : tie.Need-cast-p
+cast-p c = search needs
+
+mul-k : tie.Need-mul-k
+mul-k c = search needs
+
+add-k : tie.Need-add-k
+add-k c = search needs
+
+mul-k-2 : tie.Need-mul-k-2
+mul-k-2 c = search needs
+
+shared-slice-read-k : tie.Need-shared-slice-read-k
+shared-slice-read-k c = search needs
+
+cast-k : tie.Need-cast-k
+cast-k c = search needs
+
+mul-result : tie.Need-mul-result
+mul-result c = search needs
+
+shared-slice-read-result : tie.Need-shared-slice-read-result
+shared-slice-read-result c = search needs
+
+mul-result-2 : tie.Need-mul-result-2
+mul-result-2 c = search needs
+
+mul-result-3 : tie.Need-mul-result-3
+mul-result-3 c = search needs
+
+shared-slice-read-result-2 : tie.Need-shared-slice-read-result-2
+shared-slice-read-result-2 c = search needs
+
+leaves-owned-requires : tie.Need-leaves-owned-requires
+leaves-owned-requires c κs = search needs
+
+returns : tie.Need-returns
+returns c = record { for-all = λ x h. synthesized-line-asked h (c .leaves-owned .ensures .for-all x (h .leaves-of)) }
+
+pub synthesized-line-owned-spec : {M : Type 1} → statement M
+synthesized-line-owned-spec =
+    tie.close
+    (tie.spec
+    mul-p
+    mul-p-2
+    shared-slice-read-p
+    cast-p
+    mul-k
+    add-k
+    mul-k-2
+    shared-slice-read-k
+    cast-k
+    mul-result
+    shared-slice-read-result
+    mul-result-2
+    mul-result-3
+    shared-slice-read-result-2
+    leaves-owned-requires
+    returns)

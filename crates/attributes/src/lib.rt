@@ -2,4 +2,5 @@
 pub mod formulas;
 pub mod interning;
 pub mod nodes;
+pub mod owned;
 pub mod steps;

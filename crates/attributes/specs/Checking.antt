@@ -59,8 +59,8 @@ pub record ProgressIn (slots : Slots) (done : List Bool) (words marks table head
   pub count-is : count ≡ doneIn done
   pub few : used ≤ MAX-NODES * count
 
--- where a visit ends
-abbrev pub Reached : Progress → (words marks table heads nexts : List ℕ) (used known count : ℕ) (splits : Bool) → Type 0
-Reached (progress slots done) words marks table heads nexts used known count splits =
-    ProgressIn slots done words marks table heads nexts used known count × (splits ≡ false)
-Reached split words marks table heads nexts used known count splits = splits ≡ true
+-- where visits end: the formulas that stand and the definitions that are done, or a split
+pub data Reached (words marks table heads nexts : List ℕ) (used known count : ℕ) (splits : Bool) : Progress → Type 0 where
+  going : {slots : Slots} {done : List Bool} → ProgressIn slots done words marks table heads nexts used known count → splits ≡ false
+      → Reached words marks table heads nexts used known count splits (progress slots done)
+  apart : splits ≡ true → Reached words marks table heads nexts used known count splits split

@@ -30,7 +30,7 @@ use Rattle.attributes.specs.Formulas.{SlotIn, empty, full, Asked, Formed
 use Rattle.attributes.specs.Steps.{inherited-in}
 use Rattle.attributes.specs.SlotsHeld.{SlotsIn, slots-kept, reads-item}
 use Rattle.attributes.specs.Owned.{ownedBelow, isFilled, KnownIn, settled-is}
-use Rattle.attributes.specs.Checking.{memberOf, LineIn, CheckHeld, markOf, ProgressIn, Reached}
+use Rattle.attributes.specs.Checking.{memberOf, LineIn, CheckHeld, markOf, ProgressIn, Reached, going, apart}
 
 -- a test that failed, or held, as a branch over its negation tells it
 failed : {t : Bool} → not t ≡ true → t ≡ false
@@ -165,10 +165,10 @@ module _ {slots : Slots} {done : List Bool} {words marks table heads nexts : Lis
           bit-with known K J (omega arith) ∙ ap (λ (t : Bool). bit known J || t) (ne-eqb K J (λ e. n (sym e))) ∙ or-false (bit known J)
           ∙ R .known-in .known-is J h ∙ ap isFilled (sym (getD-set-other slots K J (some f) none n))
 
-  pub enter-new : getD words K 0 ≡ 0 → Reached (enter slots done K f) (set words K (number + 1)) marks table heads nexts used (with known K) count false
+  pub enter-new : getD words K 0 ≡ 0 → Reached (set words K (number + 1)) marks table heads nexts used (with known K) count false (enter slots done K f)
   enter-new e =
-      enter-by (λ p. Reached p (set words K (number + 1)) marks table heads nexts used (with known K) count false) slots done K f
-      (λ n. (record {
+      enter-by (Reached (set words K (number + 1)) marks table heads nexts used (with known K) count false) slots done K f
+      (λ n. going (record {
         table-in = R .table-in;
         long = (length-set slots K (some f) ∙ R .long .0, R .long .1);
         words-long = length-set words K (number + 1) ∙ R .words-long;
@@ -178,27 +178,27 @@ module _ {slots : Slots} {done : List Bool} {words marks table heads nexts : Lis
         mark-is = R .mark-is;
         count-is = R .count-is;
         few = R .few;
-      }, refl))
+      }) refl)
       (λ o. absurd (differ o)) (λ g o n. absurd (differ o))
     where
       differ : {g : Formula} → slotAt slots K ≡ some g → ⊥
       differ o = let z = sym (slot-none here e) ∙ o in let z : _≡_ {A = ℕ} 0 1 = cc in omega arith
 
-  pub enter-old : getD words K 0 ≡ number + 1 → Reached (enter slots done K f) words marks table heads nexts used known count false
+  pub enter-old : getD words K 0 ≡ number + 1 → Reached words marks table heads nexts used known count false (enter slots done K f)
   enter-old e =
-      enter-by (λ p. Reached p words marks table heads nexts used known count false) slots done K f
-      (λ n. absurd (full-word n)) (λ o. (R, refl))
+      enter-by (Reached words marks table heads nexts used known count false) slots done K f
+      (λ n. absurd (full-word n)) (λ o. going R refl)
       (λ g o n. absurd (let (i, w, same) = slot-some here o in let at : i ≡ number = omega arith in n (one-formula table used (rw at at same) m)))
     where
       full-word : slotAt slots K ≡ none → ⊥
       full-word n = let z = empty-word here n in omega arith
 
-  pub enter-other : (getD words K 0 ≡ 0 → ⊥) → (getD words K 0 ≡ number + 1 → ⊥) → Reached (enter slots done K f) words marks table heads nexts used known count true
+  pub enter-other : (getD words K 0 ≡ 0 → ⊥) → (getD words K 0 ≡ number + 1 → ⊥) → Reached words marks table heads nexts used known count true (enter slots done K f)
   enter-other full-word other =
-      enter-by (λ p. Reached p words marks table heads nexts used known count true) slots done K f
+      enter-by (Reached words marks table heads nexts used known count true) slots done K f
       (λ n. absurd (full-word (empty-word here n)))
       (λ o. absurd (let (i, w, same) = slot-some here o in let at : i ≡ number = one-number (R .table-in) same m in other (omega arith)))
-      (λ g o n. refl)
+      (λ g o n. apart refl)
 
 -- What a visit does
 
@@ -218,19 +218,19 @@ module _ {b : Book} {definitions rules owned masks : List ℕ} (H : CheckHeld b 
 
   -- a definition that is done, or not due, is passed over
   pub visit-done : (getD marks d 0 ≡ 0 → ⊥) → {splits : Bool} → splits ≡ false → (a : ℕ)
-      → Reached (visit b (memberOf masks a) d (progress slots done)) words marks table heads nexts used known count splits
+      → Reached words marks table heads nexts used known count splits (visit b (memberOf masks a) d (progress slots done))
   unfolding visit
-  visit-done n s a = rw (visit, marked (getD done d true) (λ e. n (R .mark-is d line-low ∙ e))) (R, s)
+  visit-done n s a = rw (visit, marked (getD done d true) (λ e. n (R .mark-is d line-low ∙ e))) (going R s)
 
   pub visit-undue : (a : ℕ) {t : Bool} → t ≡ due b (memberOf masks a) slots (lineAt b d) → not t ≡ true → {splits : Bool} → splits ≡ false
-      → Reached (visit b (memberOf masks a) d (progress slots done)) words marks table heads nexts used known count splits
+      → Reached words marks table heads nexts used known count splits (visit b (memberOf masks a) d (progress slots done))
   unfolding visit
   visit-undue a {t} e f {splits} s = by (getD done d true) refl
     where
       by : (u : Bool) → getD done d true ≡ u
-          → Reached (visit b (memberOf masks a) d (progress slots done)) words marks table heads nexts used known count splits
-      by true q = rw (visit, q) (R, s)
-      by false q = rw (visit, q, sym e ∙ failed f) (R, s)
+          → Reached words marks table heads nexts used known count splits (visit b (memberOf masks a) d (progress slots done))
+      by true q = rw (visit, q) (going R s)
+      by false q = rw (visit, q, sym e ∙ failed f) (going R s)
 
   -- any other gives its formula
   module _ (mark : getD marks d 0 ≡ 0) where

@@ -10,6 +10,7 @@ ghost use Rattle.grammar.specs.Formulas.Formula.{Formula};
 ghost use Rattle.grammar.specs.Formulas.Slots.{Slots};
 ghost use Rattle.grammar.specs.Formulas.FormulaCheck as grammar;
 ghost use Rattle.grammar.specs.Formulas.FormulaCheck.{progress, lineAt};
+ghost use Rattle.grammar.specs.Formulas.Passes.{visits};
 ghost use Rattle.attributes.specs.Table.{ROOM};
 ghost use Rattle.attributes.specs.Meaning.{Means};
 ghost use Rattle.attributes.specs.Owned.{KnownIn};
@@ -59,7 +60,7 @@ fn enter(slots: &mut [u32], attribute: u32, number: u32, used: u32, known: u32, 
     requires { ⌜ (attribute < 16) × (length (now slots) ≡ 16) × (number < ROOM) ⌝ }
     ensures { λ r. ⌜ ((s : Slots) (done : List Bool) (marks table heads nexts : List ℕ) (f : Formula)
         → ProgressIn s done (now (slots .entry)) marks table heads nexts used known count → Means table used number f
-        → Reached (grammar.enter s done attribute f) (now (slots .exit)) marks table heads nexts (r .used) (r .known) (r .count) (r .split)) ⌝ }
+        → Reached (now (slots .exit)) marks table heads nexts (r .used) (r .known) (r .count) (r .split) (grammar.enter s done attribute f)) ⌝ }
 {
     let k = attribute as usize;
     let stands = slots[k];
@@ -110,8 +111,8 @@ fn visit(
     ensures { λ r. ⌜ ((b : Book) (s : Slots) (d : List Bool) → CheckHeld b (now (definitions .entry)) (now (rules .entry)) (now (owned .entry)) (now (masks .entry))
         → line < grammar.definitions b
         → ProgressIn s d (now (slots .entry)) (now (done .entry)) (now (table .entry)) (now (heads .entry)) (now (nexts .entry)) (p .used) (p .known) (p .count)
-        → Reached (grammar.visit b (memberOf (now (masks .entry)) terminal) line (progress s d)) (now (slots .exit)) (now (done .exit)) (now (table .exit))
-          (now (heads .exit)) (now (nexts .exit)) (r .used) (r .known) (r .count) (r .split)) ⌝ }
+        → Reached (now (slots .exit)) (now (done .exit)) (now (table .exit)) (now (heads .exit)) (now (nexts .exit)) (r .used) (r .known) (r .count) (r .split)
+          (grammar.visit b (memberOf (now (masks .entry)) terminal) line (progress s d))) ⌝ }
 {
     if done[line] != 0 {
         return p;
@@ -124,4 +125,53 @@ fn visit(
     let r = formula_of(definitions, line, dot, slots, table, heads, nexts, p.used);
     done[line] = 1;
     enter(slots, attribute, r.number, r.used, p.known, p.count + 1)
+}
+
+// One pass over the definitions, up to a split.
+fn pass(
+    definitions: &[u32],
+    lines: usize,
+    terminal: u32,
+    masks: &[u32],
+    rules: &[u32],
+    owned: &[u32],
+    slots: &mut [u32],
+    done: &mut [u8],
+    table: &mut [u32],
+    heads: &mut [u32],
+    nexts: &mut [u32],
+    mut p: Progress,
+) -> Progress
+    requires { ⌜ ((b : Book) × (s : Slots) × (d : List Bool) × CheckHeld b (now definitions) (now rules) (now owned) (now masks)
+        × (lines ≡ grammar.definitions b)
+        × ProgressIn s d (now slots) (now done) (now table) (now heads) (now nexts) (p .used) (p .known) (p .count))
+        × (terminal < 32) × (p .split ≡ false) ⌝ }
+    ensures { λ r. ⌜ ((b : Book) (s : Slots) (d : List Bool) → CheckHeld b (now (definitions .entry)) (now (rules .entry)) (now (owned .entry)) (now (masks .entry))
+        → lines ≡ grammar.definitions b
+        → ProgressIn s d (now (slots .entry)) (now (done .entry)) (now (table .entry)) (now (heads .entry)) (now (nexts .entry)) (p .used) (p .known) (p .count)
+        → Reached (now (slots .exit)) (now (done .exit)) (now (table .exit)) (now (heads .exit)) (now (nexts .exit)) (r .used) (r .known) (r .count) (r .split)
+          (visits (grammar.visit b (memberOf (now (masks .entry)) terminal)) lines (progress s d))) ⌝ }
+{
+    let mut i = 0;
+    while i < lines {
+        p = visit(
+            definitions,
+            i,
+            terminal,
+            masks,
+            rules,
+            owned,
+            slots,
+            done,
+            table,
+            heads,
+            nexts,
+            p,
+        );
+        if p.split {
+            return p;
+        }
+        i += 1;
+    }
+    p
 }

@@ -9,7 +9,8 @@ ghost use Rattle.grammar.specs.Data.Book.{Book};
 ghost use Rattle.grammar.specs.Formulas.Formula.{Formula};
 ghost use Rattle.grammar.specs.Formulas.Slots.{Slots};
 ghost use Rattle.grammar.specs.Formulas.FormulaCheck as grammar;
-ghost use Rattle.grammar.specs.Formulas.FormulaCheck.{progress, lineAt};
+ghost use Rattle.grammar.specs.Formulas.FormulaCheck.{progress, advance, unsplit, lineAt};
+ghost use Rattle.grammar.specs.Formulas.Passes as fixpoint;
 ghost use Rattle.grammar.specs.Formulas.Passes.{visits};
 ghost use Rattle.attributes.specs.Table.{ROOM};
 ghost use Rattle.attributes.specs.Meaning.{Means};
@@ -174,4 +175,53 @@ fn pass(
         i += 1;
     }
     p
+}
+
+// Passes until one does nothing more, or two formulas of one attribute differ.
+fn passes(
+    definitions: &[u32],
+    lines: usize,
+    terminal: u32,
+    masks: &[u32],
+    rules: &[u32],
+    owned: &[u32],
+    slots: &mut [u32],
+    done: &mut [u8],
+    table: &mut [u32],
+    heads: &mut [u32],
+    nexts: &mut [u32],
+    mut p: Progress,
+) -> bool
+    requires { ⌜ ((b : Book) × (s : Slots) × (d : List Bool) × CheckHeld b (now definitions) (now rules) (now owned) (now masks)
+        × (lines ≡ grammar.definitions b)
+        × ProgressIn s d (now slots) (now done) (now table) (now heads) (now nexts) (p .used) (p .known) (p .count))
+        × (terminal < 32) × (p .split ≡ false) ⌝ }
+    ensures { λ r. ⌜ ((b : Book) (s : Slots) (d : List Bool) → CheckHeld b (now (definitions .entry)) (now (rules .entry)) (now (owned .entry)) (now (masks .entry))
+        → lines ≡ grammar.definitions b
+        → ProgressIn s d (now (slots .entry)) (now (done .entry)) (now (table .entry)) (now (heads .entry)) (now (nexts .entry)) (p .used) (p .known) (p .count)
+        → r ≡ unsplit (fixpoint.passes (grammar.visit b (memberOf (now (masks .entry)) terminal)) advance (grammar.definitions b) (progress s d))) ⌝ }
+{
+    loop {
+        let before = p.count;
+        p = pass(
+            definitions,
+            lines,
+            terminal,
+            masks,
+            rules,
+            owned,
+            slots,
+            done,
+            table,
+            heads,
+            nexts,
+            p,
+        );
+        if p.split {
+            return false;
+        }
+        if p.count == before {
+            return true;
+        }
+    }
 }

@@ -17,7 +17,7 @@ use Rattle.grammar.specs.Formulas.FormulaCheck.{Progress, progress, split, done
 use Rattle.grammar.specs.Formulas.FormulaCheckSteps.{Long}
 use Rattle.grammar.specs.Formulas.DefinitionPremises.{DefinitionPremises}
 use Rattle.book.specs.Held.{RulesIn, DefinitionsIn}
-use Rattle.attributes.specs.Table.{Table}
+use Rattle.attributes.specs.Table.{ROOM, HEADS, Table}
 use Rattle.attributes.specs.SlotsHeld.{SlotsIn}
 use Rattle.attributes.specs.Owned.{OwnedIn, KnownIn}
 
@@ -64,3 +64,11 @@ pub data Reached (words marks table heads nexts : List ℕ) (used known count : 
   going : {slots : Slots} {done : List Bool} → ProgressIn slots done words marks table heads nexts used known count → splits ≡ false
       → Reached words marks table heads nexts used known count splits (progress slots done)
   apart : splits ≡ true → Reached words marks table heads nexts used known count splits split
+
+-- room for the check of a partial state
+pub record Room (words marks table heads nexts : List ℕ) : Type 0 where
+  pub words-long : length words ≡ MAX-INHERITED
+  pub marks-long : length marks ≡ MAX-DEFINITIONS
+  pub table-long : length table ≡ 4 * ROOM
+  pub heads-long : length heads ≡ HEADS
+  pub nexts-long : length nexts ≡ ROOM

@@ -3,8 +3,8 @@
 ghost use mathlib.Core.Path.{_≡_};
 ghost use mathlib.Core.Bool.{Bool, true, false};
 ghost use mathlib.Core.List.{List};
-ghost use Prim.Native.Nat.{ℕ, _<_};
-ghost use lib.ListN.{length};
+ghost use Prim.Native.Nat.{ℕ, suc, _<_};
+ghost use lib.ListN.{length, replicate};
 ghost use Rattle.grammar.specs.Data.Book.{Book};
 ghost use Rattle.grammar.specs.Formulas.Formula.{Formula};
 ghost use Rattle.grammar.specs.Formulas.Slots.{Slots};
@@ -15,9 +15,12 @@ ghost use Rattle.grammar.specs.Formulas.Passes.{visits};
 ghost use Rattle.attributes.specs.Table.{ROOM};
 ghost use Rattle.attributes.specs.Meaning.{Means};
 ghost use Rattle.attributes.specs.Owned.{KnownIn};
-ghost use Rattle.attributes.specs.Checking.{memberOf, CheckHeld, ProgressIn, Reached};
+ghost use Rattle.attributes.specs.Checking.{memberOf, CheckHeld, ProgressIn, Reached, Room};
+ghost use Rattle.grammar.specs.Conditions.Decides.{allBelow};
+use automaton::words::fill;
 use automaton::words::word;
 use super::formulas::formula_of;
+use super::interning::clear;
 
 // How far a check is: the nodes of the table, the set of the attributes that have a formula, the definitions that are done, and whether two formulas
 // of one attribute differ.
@@ -224,4 +227,102 @@ fn passes(
             return true;
         }
     }
+}
+
+// No attribute has a formula.
+fn clear_slots(slots: &mut [u32])
+    requires { ⌜ length (now slots) ≡ 16 ⌝ }
+    ensures { λ _. ⌜ now (slots .exit) ≡ replicate 16 0 ⌝ }
+{
+    let mut i = 0;
+    while i < 16 {
+        slots[i] = 0;
+        i += 1;
+    }
+}
+
+// 10, of one partial state: the items whose sets have the terminal.
+fn check(
+    definitions: &[u32],
+    lines: usize,
+    terminal: u32,
+    masks: &[u32],
+    rules: &[u32],
+    owned: &[u32],
+    slots: &mut [u32],
+    done: &mut [u8],
+    table: &mut [u32],
+    heads: &mut [u32],
+    nexts: &mut [u32],
+) -> bool
+    requires { ⌜ ((b : Book) × CheckHeld b (now definitions) (now rules) (now owned) (now masks) × (lines ≡ grammar.definitions b))
+        × (terminal < 32) × Room (now slots) (now done) (now table) (now heads) (now nexts) ⌝ }
+    ensures { λ r. ⌜ ((b : Book) → CheckHeld b (now (definitions .entry)) (now (rules .entry)) (now (owned .entry)) (now (masks .entry))
+        → lines ≡ grammar.definitions b → r ≡ grammar.check b (memberOf (now (masks .entry)) terminal)) ⌝ }
+{
+    clear_slots(slots);
+    fill(done, 128, 0);
+    clear(heads);
+    let p = Progress {
+        used: 0,
+        known: 0,
+        count: 0,
+        split: false,
+    };
+    passes(
+        definitions,
+        lines,
+        terminal,
+        masks,
+        rules,
+        owned,
+        slots,
+        done,
+        table,
+        heads,
+        nexts,
+        p,
+    )
+}
+
+// 10, of the partial states of one state.
+pub fn check_state(
+    definitions: &[u32],
+    lines: usize,
+    terminals: u32,
+    masks: &[u32],
+    rules: &[u32],
+    owned: &[u32],
+    slots: &mut [u32],
+    done: &mut [u8],
+    table: &mut [u32],
+    heads: &mut [u32],
+    nexts: &mut [u32],
+) -> bool
+    requires { ⌜ ((b : Book) × CheckHeld b (now definitions) (now rules) (now owned) (now masks) × (lines ≡ grammar.definitions b))
+        × (terminals < 32) × Room (now slots) (now done) (now table) (now heads) (now nexts) ⌝ }
+    ensures { λ r. ⌜ ((b : Book) → CheckHeld b (now (definitions .entry)) (now (rules .entry)) (now (owned .entry)) (now (masks .entry))
+        → lines ≡ grammar.definitions b → terminals ≡ b .terminals
+        → r ≡ allBelow (suc (b .terminals)) (λ a. grammar.check b (memberOf (now (masks .entry)) a))) ⌝ }
+{
+    let mut a = 0;
+    while a <= terminals {
+        if !check(
+            definitions,
+            lines,
+            a,
+            masks,
+            rules,
+            owned,
+            slots,
+            done,
+            table,
+            heads,
+            nexts,
+        ) {
+            return false;
+        }
+        a += 1;
+    }
+    true
 }

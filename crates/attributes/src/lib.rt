@@ -2,6 +2,7 @@
 pub mod check;
 pub mod formulas;
 pub mod interning;
+pub mod masks;
 pub mod nodes;
 pub mod owned;
 pub mod steps;

@@ -1,0 +1,23 @@
+// The partial states of a state: for each item the set of the terminals with which it is in one.
+ghost use mathlib.Core.Path.{_≡_};
+ghost use mathlib.Core.List.{List};
+ghost use Prim.Native.Nat.{ℕ, _+_, _*_, _≤_, _<_};
+ghost use lib.ListN.{length};
+ghost use Rattle.grammar.specs.Data.Symbol.{Rule, rightOf, after};
+ghost use Rattle.grammar.specs.Automaton.FirstSets.{Sets};
+ghost use Rattle.grammar.specs.Automaton.ReachSets.{reachWith};
+ghost use Rattle.automaton.specs.Arrays.{SuffixesIn, ReachesIn};
+
+// What is reached by items of a rule, with the dot after `dot` symbols and the lookaheads `own`.
+fn reach_with(nulls: &[u32], reaches: &[u32], rule: usize, dot: usize, own: u32) -> u32
+    requires { ⌜ (9 * rule + dot < length (now nulls)) × (9 * rule + dot < length (now reaches)) ⌝ }
+    ensures { λ r. ⌜ ((G : List Rule) (F : Sets) (R firsts : List ℕ) → SuffixesIn G F (now (nulls .entry)) firsts → ReachesIn G F R (now (reaches .entry))
+        → rule < length G → dot ≤ length (rightOf G rule) → r ≡ reachWith F R (after G rule dot) own) ⌝ }
+{
+    let place = 9 * rule + dot;
+    let reach = reaches[place];
+    if nulls[place] == 0 {
+        return reach;
+    }
+    sets::union(reach, own)
+}

@@ -26,9 +26,11 @@ use Rattle.attributes.specs.Owned.{KnownIn}
 use Rattle.attributes.specs.Checking.{markOf, ProgressIn, Room}
 
 no-slots : (table : List ℕ) → SlotsIn table 0 (replicate MAX-INHERITED none) (replicate MAX-INHERITED 0)
-no-slots table = record { slot-is = λ K h.
-    let low : K < 16 = omega (arith, h, length-replicate {A = ℕ} 16 0) in
-    rw (getD-replicate {A = Option Formula} 16 K none none low, getD-replicate {A = ℕ} 16 K 0 0 low) formulas.empty }
+no-slots table = record {
+  slot-is = λ K h.
+      let low : K < 16 = omega (arith, h, length-replicate {A = ℕ} 16 0) in
+      rw (getD-replicate {A = Option Formula} 16 K none none low, getD-replicate {A = ℕ} 16 K 0 0 low) formulas.empty;
+}
 
 none-known : KnownIn (replicate MAX-INHERITED none) 0
 unfolding empty
@@ -40,7 +42,7 @@ none-done = refl
 
 fresh-in : {table nexts : List ℕ} → Table table (replicate HEADS 0) nexts 0
     → ProgressIn (replicate MAX-INHERITED none) (replicate MAX-DEFINITIONS false) (replicate MAX-INHERITED 0) (replicate MAX-DEFINITIONS 0)
-      table (replicate HEADS 0) nexts 0 0 0
+    table (replicate HEADS 0) nexts 0 0 0
 fresh-in {table} T = record {
   table-in = T;
   long = fresh-long;

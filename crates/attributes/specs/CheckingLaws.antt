@@ -88,7 +88,7 @@ module _ {b : Book} {definitions rules owned masks : List ℕ} (H : CheckHeld b 
     member-is : {t : Bool} → t ≡ bit (getD masks (9 * rule + position - 1) 0) a → memberOf masks a (lineAt b d .rule) (dotOf (lineAt b d)) ≡ t
     member-is e =
         let place : 9 * lineAt b d .rule + (lineAt b d .position - 1) ≡ 9 * rule + position - 1 =
-            omega (arith, rule-word, position-word, H .line-in d l .position-low) in
+        omega (arith, rule-word, position-word, H .line-in d l .position-low) in
         ap (λ (i : ℕ). bit (getD masks i 0) a) place ∙ sym e
 
     pub due-absent : {t : Bool} → t ≡ bit (getD masks (9 * rule + position - 1) 0) a → not t ≡ true → false ≡ due b (memberOf masks a) slots (lineAt b d)

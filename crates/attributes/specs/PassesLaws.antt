@@ -76,5 +76,5 @@ module _ (b : Book) (member : ℕ → ℕ → Bool) where
       unfolding unsplit
       passing-end e same =
           let at : end (progress (P .slots) (P .done)) ≡ progress (P .slots) (P .done) =
-              passes-end (growing b member) (progress (P .slots) (P .done)) (P .holds .long) (size e ∙ same ∙ sym size-before) in
+          passes-end (growing b member) (progress (P .slots) (P .done)) (P .holds .long) (size e ∙ same ∙ sym size-before) in
           ap unsplit (sym at ∙ P .same-end)

@@ -17,10 +17,10 @@ ghost use Rattle.attributes.specs.Meaning.{Means};
 ghost use Rattle.attributes.specs.Owned.{KnownIn};
 ghost use Rattle.attributes.specs.Checking.{memberOf, CheckHeld, ProgressIn, Reached, Room};
 ghost use Rattle.grammar.specs.Conditions.Decides.{allBelow};
-use automaton::words::fill;
-use automaton::words::word;
 use super::formulas::formula_of;
 use super::interning::clear;
+use automaton::words::fill;
+use automaton::words::word;
 
 // How far a check is: the nodes of the table, the set of the attributes that have a formula, the definitions that are done, and whether two formulas
 // of one attribute differ.
@@ -60,7 +60,14 @@ fn due(
 }
 
 // The formula of a number for a slot: an empty slot takes it, and what stands there must be the same.
-fn enter(slots: &mut [u32], attribute: u32, number: u32, used: u32, known: u32, count: u32) -> Progress
+fn enter(
+    slots: &mut [u32],
+    attribute: u32,
+    number: u32,
+    used: u32,
+    known: u32,
+    count: u32,
+) -> Progress
     requires { ⌜ (attribute < 16) × (length (now slots) ≡ 16) × (number < ROOM) ⌝ }
     ensures { λ r. ⌜ ((s : Slots) (done : List Bool) (marks table heads nexts : List ℕ) (f : Formula)
         → ProgressIn s done (now (slots .entry)) marks table heads nexts used known count → Means table used number f
@@ -116,7 +123,7 @@ fn visit(
         → line < grammar.definitions b
         → ProgressIn s d (now (slots .entry)) (now (done .entry)) (now (table .entry)) (now (heads .entry)) (now (nexts .entry)) (p .used) (p .known) (p .count)
         → Reached (now (slots .exit)) (now (done .exit)) (now (table .exit)) (now (heads .exit)) (now (nexts .exit)) (r .used) (r .known) (r .count) (r .split)
-          (grammar.visit b (memberOf (now (masks .entry)) terminal) line (progress s d))) ⌝ }
+        (grammar.visit b (memberOf (now (masks .entry)) terminal) line (progress s d))) ⌝ }
 {
     if done[line] != 0 {
         return p;
@@ -154,7 +161,7 @@ fn pass(
         → lines ≡ grammar.definitions b
         → ProgressIn s d (now (slots .entry)) (now (done .entry)) (now (table .entry)) (now (heads .entry)) (now (nexts .entry)) (p .used) (p .known) (p .count)
         → Reached (now (slots .exit)) (now (done .exit)) (now (table .exit)) (now (heads .exit)) (now (nexts .exit)) (r .used) (r .known) (r .count) (r .split)
-          (visits (grammar.visit b (memberOf (now (masks .entry)) terminal)) lines (progress s d))) ⌝ }
+        (visits (grammar.visit b (memberOf (now (masks .entry)) terminal)) lines (progress s d))) ⌝ }
 {
     let mut i = 0;
     while i < lines {

@@ -2,7 +2,8 @@
 ghost use mathlib.Core.Path.{_≡_};
 ghost use mathlib.Core.List.{List};
 ghost use Prim.Native.Nat.{ℕ, _+_, _*_, _≤_, _<_};
-ghost use lib.ListN.{length};
+ghost use lib.ListN.{length, getD, set};
+ghost use Rattle.sets.specs.Sets.{union};
 ghost use Rattle.grammar.specs.Data.Symbol.{Rule, rightOf, after};
 ghost use Rattle.grammar.specs.Automaton.FirstSets.{Sets};
 ghost use Rattle.grammar.specs.Automaton.ReachSets.{reachWith};
@@ -20,4 +21,17 @@ fn reach_with(nulls: &[u32], reaches: &[u32], rule: usize, dot: usize, own: u32)
         return reach;
     }
     sets::union(reach, own)
+}
+
+// An item of a rule, with the dot after `dot` symbols and the lookaheads `own`: what it reaches joins its set.
+fn mark_item(nulls: &[u32], reaches: &[u32], rule: usize, dot: usize, own: u32, masks: &mut [u32])
+    requires { ⌜ (9 * rule + dot < length (now nulls)) × (9 * rule + dot < length (now reaches)) × (9 * rule + dot < length (now masks)) ⌝ }
+    ensures { λ _. ⌜ ((G : List Rule) (F : Sets) (R firsts : List ℕ) → SuffixesIn G F (now (nulls .entry)) firsts → ReachesIn G F R (now (reaches .entry))
+        → rule < length G → dot ≤ length (rightOf G rule)
+        → now (masks .exit) ≡ set (now (masks .entry)) (9 * rule + dot)
+        (union (getD (now (masks .entry)) (9 * rule + dot) 0) (reachWith F R (after G rule dot) own))) ⌝ }
+{
+    let place = 9 * rule + dot;
+    let reach = reach_with(nulls, reaches, rule, dot, own);
+    masks[place] = sets::union(masks[place], reach);
 }

@@ -23,10 +23,19 @@ clear-requires : tie.Need-clear-requires
 clear-requires c κs = search needs
 
 passes-requires : tie.Need-passes-requires
-passes-requires c κs = 
-    let s = entry c in
-    ((s .pre .0 .0, replicate 16 none, replicate 128 false, s .pre .0 .1, s .pre .0 .2,
-    begun (s .pre .2) (c .before .before .before .before .before .before .before .before .before .before .before .before .before .before .before .clear-slots .ensures) (c .before .before .before .before .before .before .before .before .before .before .before .fill .ensures) (c .before .before .before .before .before .before .before .clear .ensures)), s .pre .1, refl)
+passes-requires c κs =
+    let s = entry c in (
+      (
+        s .pre .0 .0,
+        replicate 16 none,
+        replicate 128 false,
+        s .pre .0 .1,
+        s .pre .0 .2,
+        begun (s .pre .2) (c .before .before .before .before .before .before .before .before .before .before .before .before .before .before .before .clear-slots .ensures) (c .before .before .before .before .before .before .before .before .before .before .before .fill .ensures) (c .before .before .before .before .before .before .before .clear .ensures),
+      ),
+      s .pre .1,
+      refl,
+    )
 
 same-length : tie.Need-same-length
 same-length c = search needs

@@ -40,17 +40,20 @@ loop-holds : tie.Need-loop-holds Inv-loop μ-loop
 loop-holds c = (omega arith, refl, refl, refl, refl, refl, λ b H e. all-start _)
 
 check-requires : tie.Need-check-requires Inv-loop μ-loop
-check-requires c κs = 
+check-requires c κs =
     let t = c .before .before .before .before .before in
     let at = t .before .loop in
-    let g = entry (t .before) .pre in
-    (g .0, omega (arith, t .loop-test .taken, g .1), record {
-      words-long = at .inv .1 ∙ g .2 .words-long;
-      marks-long = at .inv .2 ∙ g .2 .marks-long;
-      table-long = at .inv .3 ∙ g .2 .table-long;
-      heads-long = at .inv .4 ∙ g .2 .heads-long;
-      nexts-long = at .inv .5 ∙ g .2 .nexts-long;
-    })
+    let g = entry (t .before) .pre in (
+      g .0,
+      omega (arith, t .loop-test .taken, g .1),
+      record {
+        words-long = at .inv .1 ∙ g .2 .words-long;
+        marks-long = at .inv .2 ∙ g .2 .marks-long;
+        table-long = at .inv .3 ∙ g .2 .table-long;
+        heads-long = at .inv .4 ∙ g .2 .heads-long;
+        nexts-long = at .inv .5 ∙ g .2 .nexts-long;
+      },
+    )
 
 same-length : tie.Need-same-length Inv-loop μ-loop
 same-length c = search needs
@@ -80,11 +83,18 @@ loop-less : tie.Need-loop-less Inv-loop μ-loop
 loop-less c = search needs
 
 loop-again : tie.Need-loop-again Inv-loop μ-loop
-loop-again c = 
+loop-again c =
     let v = c .before .before .before .before .before .before .before .before .before .before .before in
-    let l = turn v .before in
-    (omega (arith, turn v .loop-test .taken), search needs, search needs, search needs, search needs, search needs, λ b H e.
-    all-turn (answer l b) (l .loop .a) (l .loop .inv .6 b H e) (v .check .ensures b H e) (c .if1 .left))
+    let l = turn v .before in (
+      omega (arith, turn v .loop-test .taken),
+      search needs,
+      search needs,
+      search needs,
+      search needs,
+      search needs,
+      λ b H e.
+          all-turn (answer l b) (l .loop .a) (l .loop .inv .6 b H e) (v .check .ensures b H e) (c .if1 .left),
+    )
 
 same-length-6 : tie.Need-same-length-6 Inv-loop μ-loop
 same-length-6 c = c .before .loop .inv .1

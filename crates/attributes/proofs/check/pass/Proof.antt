@@ -24,7 +24,7 @@ Inv-loop definitions lines terminal masks rules owned slots₀ done₀ table₀ 
     × ((b : Book) (s : Slots) (d : List Bool) → CheckHeld b definitions rules owned masks → lines ≡ grammar.definitions b
     → ProgressIn s d slots₀ done₀ table₀ heads₀ nexts₀ (p₀ .used) (p₀ .known) (p₀ .count)
     → Reached slots done table heads nexts (p .used) (p .known) (p .count) (p .split)
-      (visits (visit b (memberOf masks terminal)) i (progress s d)))
+    (visits (visit b (memberOf masks terminal)) i (progress s d)))
 
 abbrev μ-loop : tie.MeasureT-loop
 μ-loop definitions lines terminal masks rules owned slots₀ done₀ table₀ heads₀ nexts₀ p₀ i₀ slots done table heads nexts p i = lines - i
@@ -41,7 +41,7 @@ loop-holds : tie.Need-loop-holds Inv-loop μ-loop
 loop-holds c = let s = c .before .before .before .before .before .before .before .before .before in (omega arith, s .pre .2, refl, refl, refl, refl, refl, λ b slots done H e R. pass-start b _ R (s .pre .2))
 
 visit-requires : tie.Need-visit-requires Inv-loop μ-loop
-visit-requires c κs = 
+visit-requires c κs =
     let t = c .before .before .before .before .before in
     let at = t .before .loop in
     let g = entry (t .before) .pre in
@@ -82,10 +82,18 @@ loop-again : tie.Need-loop-again Inv-loop μ-loop
 loop-again c =
     let v = c .before .before .before .before .before .before .before .before .before .before .before in
     let t = turn v in
-    let at = t .before .loop in
-    (omega (arith, t .loop-test .taken), c .if1 .left, search needs, search needs, search needs, search needs, search needs, λ b s d H e R.
-    pass-turn b _ (at .i) (progress s d) (at .inv .7 b s d H e R) (at .inv .1)
-    (λ slots done Q. v .visit .ensures b slots done H (omega (arith, t .loop-test .taken, e)) Q))
+    let at = t .before .loop in (
+      omega (arith, t .loop-test .taken),
+      c .if1 .left,
+      search needs,
+      search needs,
+      search needs,
+      search needs,
+      search needs,
+      λ b s d H e R.
+          pass-turn b _ (at .i) (progress s d) (at .inv .7 b s d H e R) (at .inv .1)
+          (λ slots done Q. v .visit .ensures b slots done H (omega (arith, t .loop-test .taken, e)) Q),
+    )
 
 same-length-6 : tie.Need-same-length-6 Inv-loop μ-loop
 same-length-6 c = c .before .loop .inv .2

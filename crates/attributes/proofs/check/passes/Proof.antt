@@ -36,12 +36,12 @@ abbrev turn : tie.After-pass Inv-loop μ-loop → tie.At-loop Inv-loop μ-loop
 turn c = c .before .before .before .before .before .before
 
 loop-holds : tie.Need-loop-holds Inv-loop μ-loop
-loop-holds c = 
+loop-holds c =
     let s = c .before .before .before .before .before .before .before .before .before in
     (s .pre .2, refl, refl, refl, refl, refl, λ b slots done H e R. record { slots = slots; done = done; holds = R; same-end = refl })
 
 pass-requires : tie.Need-pass-requires Inv-loop μ-loop
-pass-requires c κs = 
+pass-requires c κs =
     let at = c .before .before .before .before .before in
     let g = entry at .pre in
     let P = at .loop .inv .6 (g .0 .0) (g .0 .1) (g .0 .2) (g .0 .3) (g .0 .4) (g .0 .5) in
@@ -90,7 +90,7 @@ returns-2 c = λ b s d H e Q.
     passing-end b _ P e (v .pass .ensures b (P .slots) (P .done) H e (P .holds)) (c .before .before .if1 .left) (c .if2 .taken)
 
 loop-less : tie.Need-loop-less Inv-loop μ-loop
-loop-less c = 
+loop-less c =
     let v = c .before .before .before .before .before .before .before .before .before .before .before .before .before in
     let g = entry (turn v) .pre .0 in
     let P = turn v .loop .inv .6 (g .0) (g .1) (g .2) (g .3) (g .4) (g .5) in
@@ -102,12 +102,19 @@ loop-less c =
     omega (arith, more, few, other)
 
 loop-again : tie.Need-loop-again Inv-loop μ-loop
-loop-again c = 
+loop-again c =
     let v = c .before .before .before .before .before .before .before .before .before .before .before .before .before in
-    let l = c .before .before .if1 .left in
-    (l, search needs, search needs, search needs, search needs, search needs, λ b s d H e Q.
-    let P = turn v .loop .inv .6 b s d H e Q in
-    passing-turn b _ P e (v .pass .ensures b (P .slots) (P .done) H e (P .holds)) l)
+    let l = c .before .before .if1 .left in (
+      l,
+      search needs,
+      search needs,
+      search needs,
+      search needs,
+      search needs,
+      λ b s d H e Q.
+          let P = turn v .loop .inv .6 b s d H e Q in
+          passing-turn b _ P e (v .pass .ensures b (P .slots) (P .done) H e (P .holds)) l,
+    )
 
 pub passes-spec : {M : Type 1} → statement M
 passes-spec =

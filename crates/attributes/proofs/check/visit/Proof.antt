@@ -74,7 +74,7 @@ shared-slice-read-attribute : tie.Need-shared-slice-read-attribute
 shared-slice-read-attribute c = search needs
 
 formula-of-requires : tie.Need-formula-of-requires
-formula-of-requires c κs = 
+formula-of-requires c κs =
     let e = c .before .before .before .before .before .before in
     let s = entry e in
     let line = lineAt (s .pre .0 .0) (s .args .line) in
@@ -82,18 +82,18 @@ formula-of-requires c κs =
     (R .table-in, (line .expression, ownAt (s .pre .0 .1) (dotOf line), asked-line (s .pre .0 .3) (s .pre .0 .4) R (mark e) refl))
 
 slice-write-done : tie.Need-slice-write-done
-slice-write-done c = 
+slice-write-done c =
     let s = entry (c .before .before .before .before .before .before .before .before .before .before .before .before .before) in
     omega (arith, line-low (s .pre .0 .3) (s .pre .0 .4) (s .pre .0 .5), s .pre .0 .5 .marks-long)
 
 add-enter : tie.Need-add-enter
-add-enter c = 
+add-enter c =
     let e = c .before .before .before .before .before .before .before .before .before .before .before .before .before .before .before in
     let s = entry e in
     omega (arith, count-low (s .pre .0 .3) (s .pre .0 .4) (s .pre .0 .5) (mark e))
 
 enter-requires : tie.Need-enter-requires
-enter-requires c κs = 
+enter-requires c κs =
     let g = c .before .before .before .before .before .before .before .before in
     let e = g .before .before .before .before .before .before .before in
     let s = entry e in

@@ -78,9 +78,11 @@ loop-again : tie.Need-loop-again Inv-loop μ-loop
 loop-again c =
     let turn = c .before .before .before in
     let at = turn .before .loop in
-    let taken : at .i < turn .before .before .before .before .args .count = turn .loop-test .taken in
-    (omega arith, λ os H e.
-    rw (c .with .ensures) (owned-turn (at .inv .1 os H e) _ (sym (H .owner-is (at .i) (omega (arith, e)))) (owner turn)))
+    let taken : at .i < turn .before .before .before .before .args .count = turn .loop-test .taken in (
+      omega arith,
+      λ os H e.
+          rw (c .with .ensures) (owned-turn (at .inv .1 os H e) _ (sym (H .owner-is (at .i) (omega (arith, e)))) (owner turn)),
+    )
 
 same-length : tie.Need-same-length Inv-loop μ-loop
 same-length c = let s = c .before .before .before .before in omega (arith, long (c .before), owned-start {owners = s .pre .0 .0} (s .pre .1) .long)

@@ -1,19 +1,18 @@
 -- Laws of the check of a partial state from cleared words on, and of the checks of all terminals. Assumes nothing.
-use Prim.Native.Nat.{ℕ, suc, _+_, _*_, _<_, _≤_}
+use Prim.Native.Nat.{ℕ, _+_, _<_, _≤_}
 use mathlib.Core.Path.{_≡_, refl, sym, ap, _∙_}
 use mathlib.Core.Bool.{Bool, true, false, not}
 use mathlib.Core.Option.{Option, none}
 use mathlib.Core.List.{List, [], _++_, append-nil}
 use native.Mathlib.Numerals.{add-one}
 use native.Mathlib.Omega.{arith}
-use lib.ListN.{length, getD, drop, replicate, length-replicate, getD-replicate, drop-of-length-le}
-use Rattle.sets.specs.Sets.{bit, empty}
+use lib.ListN.{length, drop, replicate, length-replicate, getD-replicate, drop-of-length-le}
+use Rattle.sets.specs.Sets.{empty}
 use Rattle.sets.specs.SetsLaws.{bit-empty}
 use Rattle.grammar.specs.Limits.{MAX-INHERITED, MAX-DEFINITIONS}
 use Rattle.grammar.specs.Conditions.Decides.{allBelow}
 use Rattle.grammar.specs.Data.Book.{Book}
 use Rattle.grammar.specs.Formulas.Formula.{Formula}
-use Rattle.grammar.specs.Formulas.Slots.{slotAt}
 use Rattle.grammar.specs.Formulas.Passes.{passes}
 use Rattle.grammar.specs.Formulas.FormulaCheck.{doneIn, advance, unsplit, fresh, definitions, visit, ended, check}
 use Rattle.grammar.specs.Formulas.FormulaCheckSteps.{fresh-long}

@@ -1,6 +1,6 @@
 -- The one-formula check (`FormulaCheck` of the grammar) over words: the formulas that stand as numbers, the definitions that are done as marks, and a
 -- partial state by the sets of terminals of its items. Assumes nothing.
-use Prim.Native.Nat.{ℕ, zero, suc, _+_, _*_, _-_, _<_, _≤_}
+use Prim.Native.Nat.{ℕ, _+_, _*_, _<_, _≤_}
 use mathlib.Core.Path.{_≡_}
 use mathlib.Core.Bool.{Bool, true, false}
 use mathlib.Core.List.{List}
@@ -10,8 +10,7 @@ use Rattle.grammar.specs.Limits.{MAX-INHERITED, MAX-DEFINITIONS, MAX-NODES}
 use Rattle.grammar.specs.Data.Symbol.{leftOf}
 use Rattle.grammar.specs.Data.Term.{nodes}
 use Rattle.grammar.specs.Data.Book.{Book}
-use Rattle.grammar.specs.Formulas.Formula.{Formula}
-use Rattle.grammar.specs.Formulas.Slots.{Slots, slotAt, attributes}
+use Rattle.grammar.specs.Formulas.Slots.{Slots, attributes}
 use Rattle.grammar.specs.Formulas.FormulaCheck as FormulaCheck
 use Rattle.grammar.specs.Formulas.FormulaCheck.{Progress, progress, split, doneIn, lineAt}
 use Rattle.grammar.specs.Formulas.FormulaCheckSteps.{Long}

@@ -8,29 +8,27 @@ use mathlib.Core.List.{List}
 use native.Mathlib.Numerals.{add-one}
 use native.Mathlib.Omega.{arith}
 use native.Mathlib.Decide.{ℕ-discrete}
-use lib.Dec.{eqb}
 use lib.ListN.{length, getD, set, length-set}
 use lib.Seq.{getD-set-same, getD-set-other}
 use borrow.Author.Tests.{ne-eqb}
 use Rattle.sets.specs.Sets.{bit, with, subset}
 use Rattle.sets.specs.SetsLaws.{bit-with, with-self}
-use Rattle.grammar.specs.Limits.{MAX-INHERITED, MAX-DEFINITIONS}
+use Rattle.grammar.specs.Limits.{MAX-DEFINITIONS}
 use Rattle.grammar.specs.Automaton.TestLaws.{true-false}
 use Rattle.grammar.specs.Data.Symbol.{leftOf}
-use Rattle.grammar.specs.Data.Term.{nodes}
 use Rattle.grammar.specs.Data.Book.{Book}
 use Rattle.grammar.specs.Formulas.Formula.{Formula}
 use Rattle.grammar.specs.Formulas.Slots.{Slots, slotAt, ownAt, settledBelow, attributes, ready}
 use Rattle.grammar.specs.Formulas.FormulaCheck as grammar
-use Rattle.grammar.specs.Formulas.FormulaCheck.{Progress, progress, split, dotOf, doneIn, enter, formulaOf, lineAt, due, visit}
+use Rattle.grammar.specs.Formulas.FormulaCheck.{progress, dotOf, doneIn, enter, formulaOf, lineAt, due, visit}
 use Rattle.grammar.specs.Formulas.FormulaCheckSteps.{enter-by, done-more, done-length}
-use Rattle.attributes.specs.Table.{ROOM, Table, Grown}
+use Rattle.attributes.specs.Table.{ROOM}
 use Rattle.attributes.specs.Meaning.{Means, means, one-formula, one-number}
 use Rattle.attributes.specs.Formulas.{SlotIn, empty, full, Asked, Formed}
 use Rattle.attributes.specs.Steps.{inherited-in}
 use Rattle.attributes.specs.SlotsHeld.{SlotsIn, slots-kept, reads-item}
-use Rattle.attributes.specs.Owned.{ownedBelow, isFilled, KnownIn, settled-is}
-use Rattle.attributes.specs.Checking.{memberOf, LineIn, CheckHeld, markOf, ProgressIn, Reached, going, apart}
+use Rattle.attributes.specs.Owned.{isFilled, KnownIn, settled-is}
+use Rattle.attributes.specs.Checking.{memberOf, CheckHeld, markOf, ProgressIn, Reached, going, apart}
 
 -- a test that failed, or held, as a branch over its negation tells it
 failed : {t : Bool} → not t ≡ true → t ≡ false

@@ -1,6 +1,6 @@
 -- The sets of terminals of a state's items (01, "Partial states and chains"): word 9 * P + D has those for which the item (P, D) is in the partial state.
 -- Assumes nothing.
-use Prim.Native.Nat.{ℕ, _+_, _*_, _<_, _≤_}
+use Prim.Native.Nat.{ℕ, _+_, _*_, _<_}
 use native.Mathlib.Omega.{arith}
 use native.Mathlib.Decide.{ℕ-discrete}
 use mathlib.Core.Path.{_≡_, refl, sym, ap, _∙_}

@@ -15,7 +15,6 @@ use lib.Seq.{getD-set-same, getD-set-other}
 use borrow.Author.Tests.{eq-eqb, ne-eqb, eqb-true, eqb-false}
 use Rattle.sets.specs.Sets.{bit, empty, with, subset}
 use Rattle.sets.specs.SetsLaws.{bit-empty, bit-with, with-keeps, with-self, subset-holds, subset-true}
-use Rattle.grammar.specs.Conditions.Decides.{Decides}
 use Rattle.grammar.specs.Automaton.TestLaws.{true-false}
 use Rattle.grammar.specs.Data.Book.{ownerAt}
 use Rattle.grammar.specs.Formulas.Formula.{Formula}

@@ -1,14 +1,14 @@
 -- Laws of the passes of the one-formula check over words: each pass leaves their end as it is, and the last one is at it. Assumes nothing.
-use Prim.Native.Nat.{ℕ, _+_, _*_, _-_, _<_, _≤_}
-use mathlib.Core.Path.{_≡_, refl, sym, ap, _∙_}
-use mathlib.Core.Logic.{_⊎_, inl, inr}
+use Prim.Native.Nat.{ℕ, _≤_}
+use mathlib.Core.Path.{_≡_, sym, ap, _∙_}
+use mathlib.Core.Logic.{inl, inr}
 use mathlib.Core.Bool.{Bool, true, false}
 use mathlib.Core.List.{List}
 use native.Mathlib.Omega.{arith}
 use Rattle.grammar.specs.Data.Book.{Book}
 use Rattle.grammar.specs.Formulas.Slots.{Slots}
 use Rattle.grammar.specs.Formulas.Passes.{visits, passes, Larger, Keeps, visits-keep, passes-turn, passes-end}
-use Rattle.grammar.specs.Formulas.FormulaCheck.{Progress, progress, split, doneIn, advance, unsplit, definitions, visit}
+use Rattle.grammar.specs.Formulas.FormulaCheck.{Progress, progress, split, advance, unsplit, definitions, visit}
 use Rattle.grammar.specs.Formulas.FormulaCheckSteps.{Long, growing, done-length}
 use Rattle.grammar.specs.Formulas.FormulaCheckAll.{split-ends}
 use Rattle.attributes.specs.Checking.{ProgressIn, Reached}

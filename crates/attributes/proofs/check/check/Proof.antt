@@ -1,6 +1,6 @@
 -- `check::check` meets its contract: the passes begin with no formula and no definition done.
 -- Assumes nothing.
-use mathlib.Core.Path.{_≡_, refl, _∙_}
+use mathlib.Core.Path.{refl, _∙_}
 use mathlib.Core.Bool.{false}
 use mathlib.Core.Option.{none}
 use lib.ListN.{replicate}

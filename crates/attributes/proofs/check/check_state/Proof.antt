@@ -1,15 +1,15 @@
 -- `check::check_state` meets its contract: the terminals passed have one formula for each attribute.
 -- Assumes nothing.
-use Prim.Native.Nat.{ℕ, suc, _+_, _-_, _<_, _≤_}
-use mathlib.Core.Path.{_≡_, refl, sym, ap, _∙_}
-use mathlib.Core.Bool.{Bool, true, false}
+use Prim.Native.Nat.{ℕ, suc, _+_, _-_, _≤_}
+use mathlib.Core.Path.{_≡_, refl, sym, _∙_}
+use mathlib.Core.Bool.{Bool, true}
 use native.Mathlib.Omega.{arith}
 use lib.ListN.{length}
 use borrow.Author.Needs.{needs}
 use Rattle.grammar.specs.Conditions.Decides.{allBelow}
 use Rattle.grammar.specs.Data.Book.{Book}
 use Rattle.grammar.specs.Formulas.FormulaCheck as grammar
-use Rattle.attributes.specs.Checking.{memberOf, CheckHeld, Room}
+use Rattle.attributes.specs.Checking.{memberOf, CheckHeld}
 use Rattle.attributes.specs.CheckLaws.{all-start, all-turn, one-fails}
 use Rattle.attributes.proofs.check.check_state.Statement.{statement}
 use Rattle.attributes.proofs.check.check_state.Tie as tie

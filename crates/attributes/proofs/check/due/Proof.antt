@@ -1,7 +1,7 @@
 -- `check::due` meets its contract: the three ends are the laws of `due`.
 -- Assumes nothing.
 use Prim.Native.Nat.{_≤_, _<_}
-use mathlib.Core.Path.{_≡_, sym, ap, _∙_}
+use mathlib.Core.Path.{_∙_}
 use native.Mathlib.Omega.{arith}
 use borrow.Author.Needs.{needs}
 use Rattle.attributes.specs.CheckingLaws.{rule-low, position-low, position-high, left-below, due-absent, due-behind, due-front}

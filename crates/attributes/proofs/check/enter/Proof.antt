@@ -1,7 +1,5 @@
 -- `check::enter` meets its contract: the slot is empty, or has the formula, or has another.
 -- Assumes nothing.
-use mathlib.Core.Path.{_≡_, sym, _∙_}
-use native.Mathlib.Omega.{arith}
 use borrow.Author.Needs.{needs}
 use Rattle.attributes.specs.CheckingLaws.{enter-new, enter-old, enter-other}
 use Rattle.attributes.proofs.check.enter.Statement.{statement}

@@ -1,8 +1,8 @@
 -- `check::passes` meets its contract: the loop keeps `Passing`, for every book and progress that the arrays hold.
 -- Assumes nothing.
-use Prim.Native.Nat.{ℕ, _+_, _-_, _<_, _≤_}
-use mathlib.Core.Path.{_≡_, refl, sym, ap, _∙_}
-use mathlib.Core.Bool.{Bool, true, false}
+use Prim.Native.Nat.{_-_}
+use mathlib.Core.Path.{_≡_, refl}
+use mathlib.Core.Bool.{Bool, false}
 use mathlib.Core.List.{List}
 use native.Mathlib.Omega.{arith}
 use lib.ListN.{length}
@@ -11,7 +11,7 @@ use Rattle.grammar.specs.Data.Book.{Book}
 use Rattle.grammar.specs.Formulas.Slots.{Slots}
 use Rattle.grammar.specs.Formulas.FormulaCheck as grammar
 use Rattle.grammar.specs.Formulas.FormulaCheck.{progress}
-use Rattle.attributes.specs.Checking.{memberOf, CheckHeld, ProgressIn, Reached}
+use Rattle.attributes.specs.Checking.{memberOf, CheckHeld, ProgressIn}
 use Rattle.attributes.specs.PassesLaws.{Passing, few-done, passing-split, passing-turn, passing-further, passing-end}
 use Rattle.attributes.proofs.check.passes.Statement.{statement}
 use Rattle.attributes.proofs.check.passes.Tie as tie

@@ -1,14 +1,12 @@
 -- `check::visit` meets its contract: a definition that is done or not due is passed over, any other gives its formula.
 -- Assumes nothing.
-use Prim.Native.Nat.{ℕ}
-use mathlib.Core.Path.{_≡_, refl, sym, ap, _∙_}
+use mathlib.Core.Path.{_≡_, refl}
 use mathlib.Core.Bool.{true}
 use native.Mathlib.Omega.{arith}
 use lib.ListN.{getD, set}
 use borrow.Author.Needs.{needs}
 use Rattle.grammar.specs.Formulas.Slots.{ownAt}
 use Rattle.grammar.specs.Formulas.FormulaCheck.{dotOf, formulaOf, lineAt}
-use Rattle.attributes.specs.Checking.{Reached}
 use Rattle.attributes.specs.CheckingLaws.{
   position-low,
   attribute-low,

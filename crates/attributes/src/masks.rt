@@ -7,7 +7,11 @@ ghost use Rattle.sets.specs.Sets.{union};
 ghost use Rattle.grammar.specs.Data.Symbol.{Rule, rightOf, after};
 ghost use Rattle.grammar.specs.Automaton.FirstSets.{Sets};
 ghost use Rattle.grammar.specs.Automaton.ReachSets.{reachWith};
+ghost use Rattle.grammar.specs.Automaton.CoreItems.{ofRules};
 ghost use Rattle.automaton.specs.Arrays.{SuffixesIn, ReachesIn};
+ghost use Rattle.attributes.specs.Marks.{MarksIn};
+ghost use Rattle.attributes.specs.MarkRules.{LooksIn};
+use automaton::words::word;
 
 // What is reached by items of a rule, with the dot after `dot` symbols and the lookaheads `own`.
 fn reach_with(nulls: &[u32], reaches: &[u32], rule: usize, dot: usize, own: u32) -> u32
@@ -34,4 +38,28 @@ fn mark_item(nulls: &[u32], reaches: &[u32], rule: usize, dot: usize, own: u32, 
     let place = 9 * rule + dot;
     let reach = reach_with(nulls, reaches, rule, dot, own);
     masks[place] = sets::union(masks[place], reach);
+}
+
+// The items of a rule with the dot in front, where the closure, from word `first` of `looks` on, has lookaheads of its left side.
+fn mark_rule(
+    rules: &[u32],
+    looks: &[u32],
+    first: usize,
+    nulls: &[u32],
+    reaches: &[u32],
+    rule: usize,
+    masks: &mut [u32],
+)
+    requires { ⌜ ((G : List Rule) × (L : List ℕ) × LooksIn G (now rules) L (now looks) first × (rule < length G)) × (first + 32 ≤ length (now looks))
+        × (length (now nulls) ≡ 576) × (length (now reaches) ≡ 576) × (length (now masks) ≡ 576) ⌝ }
+    ensures { λ _. ⌜ ((G : List Rule) (F : Sets) (R firsts L : List ℕ) → LooksIn G (now (rules .entry)) L (now (looks .entry)) first → rule < length G
+        → SuffixesIn G F (now (nulls .entry)) firsts → ReachesIn G F R (now (reaches .entry)) → MarksIn G F R (ofRules G L rule) (now (masks .entry))
+        → MarksIn G F R (ofRules G L (rule + 1)) (now (masks .exit))) ⌝ }
+{
+    let left = word(rules, 10 * rule);
+    let own = looks[first + left];
+    if own == 0 {
+        return;
+    }
+    mark_item(nulls, reaches, rule, 0, own, masks);
 }

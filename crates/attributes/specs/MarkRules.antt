@@ -3,7 +3,7 @@ use Prim.Native.Nat.{ℕ, zero, suc, _+_, _*_, _<_}
 use native.Mathlib.Numerals.{add-one}
 use native.Mathlib.Omega.{arith}
 use mathlib.Core.Path.{_≡_, refl, sym, ap, _∙_}
-use mathlib.Core.List.{List, _∷_}
+use mathlib.Core.List.{List, [], _∷_}
 use lib.ListN.{length, getD, set}
 use Rattle.sets.specs.Sets.{union}
 use Rattle.grammar.specs.Data.Symbol.{Rule, leftOf, after}
@@ -48,9 +48,13 @@ module _ {G : List Rule} {rules looks words : List ℕ} {first : ℕ} (L : Looks
   pub rule-marks : {F : Sets} {R masks : List ℕ} {left : ℕ} → left ≡ getD rules (10 * P) 0 → (getD words (first + left) 0 ≡ 0 → ⊥)
       → MarksIn G F R (ofRules G looks P) masks
       → MarksIn G F R (ofRules G looks (P + 1))
-        (set masks (9 * P + 0) (union (getD masks (9 * P + 0) 0) (reachWith F R (after G P 0) (getD words (first + left) 0))))
+      (set masks (9 * P + 0) (union (getD masks (9 * P + 0) 0) (reachWith F R (after G P 0) (getD words (first + left) 0))))
   rule-marks {F} {R} {masks} {left} e n H =
       let M = setAt looks (leftOf G P) in
       let is = look e in
       rw (is, more-rules ∙ entered-more P M (ofRules G looks P) (λ z. n (is ∙ z)))
       (marks-item G F R H P 0 M (omega (arith, p, L .rules-in .fits)) (omega arith))
+
+pub rules-start : {G : List Rule} (looks : List ℕ) {F : Sets} {R masks : List ℕ} → MarksIn G F R [] masks → MarksIn G F R (ofRules G looks 0) masks
+unfolding ofRules
+rules-start looks H = H

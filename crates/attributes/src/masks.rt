@@ -1,6 +1,6 @@
 // The partial states of a state: for each item the set of the terminals with which it is in one.
 ghost use mathlib.Core.Path.{_≡_};
-ghost use mathlib.Core.List.{List};
+ghost use mathlib.Core.List.{List, []};
 ghost use Prim.Native.Nat.{ℕ, _+_, _*_, _≤_, _<_};
 ghost use lib.ListN.{length, getD, set};
 ghost use Rattle.sets.specs.Sets.{union};
@@ -62,4 +62,27 @@ fn mark_rule(
         return;
     }
     mark_item(nulls, reaches, rule, 0, own, masks);
+}
+
+// The items of all rules with the dot in front, from sets that have nothing.
+fn mark_rules(
+    rules: &[u32],
+    count: usize,
+    looks: &[u32],
+    first: usize,
+    nulls: &[u32],
+    reaches: &[u32],
+    masks: &mut [u32],
+)
+    requires { ⌜ ((G : List Rule) × (L : List ℕ) × LooksIn G (now rules) L (now looks) first × (count ≡ length G)) × (first + 32 ≤ length (now looks))
+        × (length (now nulls) ≡ 576) × (length (now reaches) ≡ 576) × (length (now masks) ≡ 576) ⌝ }
+    ensures { λ _. ⌜ ((G : List Rule) (F : Sets) (R firsts L : List ℕ) → LooksIn G (now (rules .entry)) L (now (looks .entry)) first → count ≡ length G
+        → SuffixesIn G F (now (nulls .entry)) firsts → ReachesIn G F R (now (reaches .entry)) → MarksIn G F R [] (now (masks .entry))
+        → MarksIn G F R (ofRules G L count) (now (masks .exit))) ⌝ }
+{
+    let mut i = 0;
+    while i < count {
+        mark_rule(rules, looks, first, nulls, reaches, i, masks);
+        i += 1;
+    }
 }

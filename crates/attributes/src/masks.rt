@@ -1,0 +1,88 @@
+// The partial states of a state: for each item the set of the terminals with which it is in one.
+ghost use mathlib.Core.Path.{_≡_};
+ghost use mathlib.Core.List.{List, []};
+ghost use Prim.Native.Nat.{ℕ, _+_, _*_, _≤_, _<_};
+ghost use lib.ListN.{length, getD, set};
+ghost use Rattle.sets.specs.Sets.{union};
+ghost use Rattle.grammar.specs.Data.Symbol.{Rule, rightOf, after};
+ghost use Rattle.grammar.specs.Automaton.FirstSets.{Sets};
+ghost use Rattle.grammar.specs.Automaton.ReachSets.{reachWith};
+ghost use Rattle.grammar.specs.Automaton.CoreItems.{ofRules};
+ghost use Rattle.automaton.specs.Arrays.{SuffixesIn, ReachesIn};
+ghost use Rattle.attributes.specs.Marks.{MarksIn};
+ghost use Rattle.attributes.specs.MarkRules.{LooksIn};
+use automaton::words::word;
+
+// What is reached by items of a rule, with the dot after `dot` symbols and the lookaheads `own`.
+fn reach_with(nulls: &[u32], reaches: &[u32], rule: usize, dot: usize, own: u32) -> u32
+    requires { ⌜ (9 * rule + dot < length (now nulls)) × (9 * rule + dot < length (now reaches)) ⌝ }
+    ensures { λ r. ⌜ ((G : List Rule) (F : Sets) (R firsts : List ℕ) → SuffixesIn G F (now (nulls .entry)) firsts → ReachesIn G F R (now (reaches .entry))
+        → rule < length G → dot ≤ length (rightOf G rule) → r ≡ reachWith F R (after G rule dot) own) ⌝ }
+{
+    let place = 9 * rule + dot;
+    let reach = reaches[place];
+    if nulls[place] == 0 {
+        return reach;
+    }
+    sets::union(reach, own)
+}
+
+// An item of a rule, with the dot after `dot` symbols and the lookaheads `own`: what it reaches joins its set.
+fn mark_item(nulls: &[u32], reaches: &[u32], rule: usize, dot: usize, own: u32, masks: &mut [u32])
+    requires { ⌜ (9 * rule + dot < length (now nulls)) × (9 * rule + dot < length (now reaches)) × (9 * rule + dot < length (now masks)) ⌝ }
+    ensures { λ _. ⌜ ((G : List Rule) (F : Sets) (R firsts : List ℕ) → SuffixesIn G F (now (nulls .entry)) firsts → ReachesIn G F R (now (reaches .entry))
+        → rule < length G → dot ≤ length (rightOf G rule)
+        → now (masks .exit) ≡ set (now (masks .entry)) (9 * rule + dot)
+        (union (getD (now (masks .entry)) (9 * rule + dot) 0) (reachWith F R (after G rule dot) own))) ⌝ }
+{
+    let place = 9 * rule + dot;
+    let reach = reach_with(nulls, reaches, rule, dot, own);
+    masks[place] = sets::union(masks[place], reach);
+}
+
+// The items of a rule with the dot in front, where the closure, from word `first` of `looks` on, has lookaheads of its left side.
+fn mark_rule(
+    rules: &[u32],
+    looks: &[u32],
+    first: usize,
+    nulls: &[u32],
+    reaches: &[u32],
+    rule: usize,
+    masks: &mut [u32],
+)
+    requires { ⌜ ((G : List Rule) × (L : List ℕ) × LooksIn G (now rules) L (now looks) first × (rule < length G)) × (first + 32 ≤ length (now looks))
+        × (length (now nulls) ≡ 576) × (length (now reaches) ≡ 576) × (length (now masks) ≡ 576) ⌝ }
+    ensures { λ _. ⌜ ((G : List Rule) (F : Sets) (R firsts L : List ℕ) → LooksIn G (now (rules .entry)) L (now (looks .entry)) first → rule < length G
+        → SuffixesIn G F (now (nulls .entry)) firsts → ReachesIn G F R (now (reaches .entry)) → MarksIn G F R (ofRules G L rule) (now (masks .entry))
+        → MarksIn G F R (ofRules G L (rule + 1)) (now (masks .exit))) ⌝ }
+{
+    let left = word(rules, 10 * rule);
+    let own = looks[first + left];
+    if own == 0 {
+        return;
+    }
+    mark_item(nulls, reaches, rule, 0, own, masks);
+}
+
+// The items of all rules with the dot in front, from sets that have nothing.
+fn mark_rules(
+    rules: &[u32],
+    count: usize,
+    looks: &[u32],
+    first: usize,
+    nulls: &[u32],
+    reaches: &[u32],
+    masks: &mut [u32],
+)
+    requires { ⌜ ((G : List Rule) × (L : List ℕ) × LooksIn G (now rules) L (now looks) first × (count ≡ length G)) × (first + 32 ≤ length (now looks))
+        × (length (now nulls) ≡ 576) × (length (now reaches) ≡ 576) × (length (now masks) ≡ 576) ⌝ }
+    ensures { λ _. ⌜ ((G : List Rule) (F : Sets) (R firsts L : List ℕ) → LooksIn G (now (rules .entry)) L (now (looks .entry)) first → count ≡ length G
+        → SuffixesIn G F (now (nulls .entry)) firsts → ReachesIn G F R (now (reaches .entry)) → MarksIn G F R [] (now (masks .entry))
+        → MarksIn G F R (ofRules G L count) (now (masks .exit))) ⌝ }
+{
+    let mut i = 0;
+    while i < count {
+        mark_rule(rules, looks, first, nulls, reaches, i, masks);
+        i += 1;
+    }
+}

@@ -38,6 +38,8 @@ use Rattle.book.specs.Layout.{
   definitionWords,
 }
 use Rattle.book.specs.Held.{
+  noKernel,
+  noGo,
   kernelAt,
   goAt,
   inheritedAt,
@@ -169,7 +171,7 @@ rules-in G out h =
 pub kernels-in : (ks : List Kernel) (out : List ℕ) → length out ≡ 5 * MAX-KERNELS → KernelsIn (take MAX-KERNELS ks) (storeLines kernelWords MAX-KERNELS 0 ks out)
 unfolding kernelWords
 kernels-in ks out h =
-    let word = store-line kernelWords 5 MAX-KERNELS (λ k. refl) (record { state = 0; rule = 0; dot = 0; lookaheads = [] }) ks out h in
+    let word = store-line kernelWords 5 MAX-KERNELS (λ k. refl) noKernel ks out h in
     record {
       long = length-store kernelWords MAX-KERNELS 0 ks out ∙ h;
       fits = few MAX-KERNELS ks;
@@ -183,7 +185,7 @@ kernels-in ks out h =
 pub goes-in : (gs : List Go) (out : List ℕ) → length out ≡ 3 * MAX-GOES → GoesIn (take MAX-GOES gs) (storeLines goWords MAX-GOES 0 gs out)
 unfolding goWords
 goes-in gs out h =
-    let word = store-line goWords 3 MAX-GOES (λ g. refl) (record { state = 0; symbol = terminal 0; target = 0 }) gs out h in
+    let word = store-line goWords 3 MAX-GOES (λ g. refl) noGo gs out h in
     record {
       long = length-store goWords MAX-GOES 0 gs out ∙ h;
       fits = few MAX-GOES gs;

@@ -2,6 +2,8 @@ pub mod Answers
 pub mod Counts
 pub mod DeclaredLaws
 pub mod DeclaredTests
+pub mod DefinedLaws
+pub mod DefinedTests
 pub mod Header
 pub mod Held
 pub mod HeldLaws

@@ -1,5 +1,6 @@
 // Reading a book's text into arrays, and its conditions 2 to 6.
 pub mod declared;
+pub mod defined;
 pub mod header;
 pub mod limits;
 pub mod owned;

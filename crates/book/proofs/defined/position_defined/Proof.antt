@@ -1,3 +1,13 @@
+use Prim.Native.Nat.{ℕ, _-_}
+use mathlib.Core.Path.{ap}
+use native.Mathlib.Omega.{arith}
+use borrow.Author.Tests.{not-true, not-false}
+use Rattle.grammar.specs.Decides.{allBelow}
+use Rattle.book.specs.Lent.{InheritedPlace}
+use Rattle.book.specs.Answers.{answers-where, answers-same, Passing, passing-start, passing-turn, passing-stop, passing-end}
+use Rattle.book.specs.DefinedTests.{inheritedAttributeDefined, positionDefined}
+use Rattle.book.specs.DefinedLaws.{inherited-attribute}
+use borrow.Author.Needs.{needs}
 use Rattle.book.proofs.defined.position_defined.Statement.{statement}
 use Rattle.book.proofs.defined.position_defined.Tie as tie
 use Rattle.book.proofs.defined.position_defined.Reads as reads
@@ -5,39 +15,42 @@ use Rattle.book.proofs.defined.position_defined.Lts as lts
 use Rattle.book.proofs.defined.inherited_attribute_defined.Reads as inherited-attribute-defined-reads
 
 abbrev Inv-loop : tie.InvT-loop
-Inv-loop inherited rules definitions attributes n p j k₀ k = ?
+Inv-loop inherited rules definitions attributes n p j k₀ k = Passing (InheritedPlace inherited rules definitions attributes n p j) (λ b m. inheritedAttributeDefined p j m b) attributes k
 
 abbrev μ-loop : tie.MeasureT-loop
-μ-loop inherited rules definitions attributes n p j k₀ k = ?
+μ-loop inherited rules definitions attributes n p j k₀ k = attributes - k
 
--- src/defined.rt:52:5
 loop-holds : tie.Need-loop-holds Inv-loop μ-loop
-loop-holds c = ?
+loop-holds c = passing-start
 
--- src/defined.rt:53:13
 inherited-attribute-defined-requires :
     tie.Need-inherited-attribute-defined-requires Inv-loop μ-loop
-inherited-attribute-defined-requires c κs = ?
+inherited-attribute-defined-requires c κs = let h = c .before .before .before .before .before .pre in
+    (h .0, inherited-attribute (c .before .loop .k) (h .1) (omega (arith, h .1 .rule .side .attributes-are)))
 
--- src/defined.rt:54:13
 returns : tie.Need-returns Inv-loop μ-loop
-returns c = ?
+unfolding positionDefined
+returns c = let a = c .before in
+    let k = a .before .before in
+    answers-same (λ b h. ap (λ (m : ℕ). allBelow m (λ i. inheritedAttributeDefined (k .before .before .before .before .args .p) (k .before .before .before .before .args .j) i b)) (h .rule .side .attributes-are)) (passing-stop (k .loop .inv) (omega arith)
+    (answers-where (λ b h. inherited-attribute (k .loop .k) h (omega (arith, h .rule .side .attributes-are))) (a .inherited-attribute-defined .ensures)) (not-true _ (c .if1 .taken)))
 
--- src/defined.rt:56:9
 add-k : tie.Need-add-k Inv-loop μ-loop
-add-k c = ?
+add-k c = search needs
 
--- src/defined.rt:52:5
 loop-less : tie.Need-loop-less Inv-loop μ-loop
-loop-less c = ?
+loop-less c = search needs
 
--- src/defined.rt:52:5
 loop-again : tie.Need-loop-again Inv-loop μ-loop
-loop-again c = ?
+loop-again c = let a = c .before in
+    let k = a .before .before in
+    passing-turn (k .loop .inv) (omega arith)
+    (answers-where (λ b h. inherited-attribute (k .loop .k) h (omega (arith, h .rule .side .attributes-are))) (a .inherited-attribute-defined .ensures)) (not-false _ (c .if1 .left))
 
--- src/defined.rt:44:1
 returns-2 : tie.Need-returns-2 Inv-loop μ-loop
-returns-2 c = ?
+unfolding positionDefined
+returns-2 c = let k = c .before in
+    answers-same (λ b h. ap (λ (m : ℕ). allBelow m (λ i. inheritedAttributeDefined (k .before .before .before .before .args .p) (k .before .before .before .before .args .j) i b)) (h .rule .side .attributes-are)) (passing-end (k .loop .inv) (c .loop-test .left))
 
 pub position-defined-spec : {M : Type 1} → statement M
 position-defined-spec =

@@ -1,3 +1,13 @@
+use Prim.Native.Nat.{ℕ, _-_}
+use mathlib.Core.Path.{ap}
+use native.Mathlib.Omega.{arith}
+use borrow.Author.Tests.{not-true, not-false}
+use Rattle.grammar.specs.Decides.{allBelow}
+use Rattle.book.specs.Lent.{SynthesizedRule}
+use Rattle.book.specs.Answers.{answers-where, answers-same, Passing, passing-start, passing-turn, passing-stop, passing-end}
+use Rattle.book.specs.DefinedTests.{synthesizedAttributeDefined, synthesizedRuleDefined}
+use Rattle.book.specs.DefinedLaws.{synthesized-attribute}
+use borrow.Author.Needs.{needs}
 use Rattle.book.proofs.defined.synthesized_rule_defined.Statement.{statement}
 use Rattle.book.proofs.defined.synthesized_rule_defined.Tie as tie
 use Rattle.book.proofs.defined.synthesized_rule_defined.Reads as reads
@@ -5,39 +15,42 @@ use Rattle.book.proofs.defined.synthesized_rule_defined.Lts as lts
 use Rattle.book.proofs.defined.synthesized_attribute_defined.Reads as synthesized-attribute-defined-reads
 
 abbrev Inv-loop : tie.InvT-loop
-Inv-loop synthesized rules definitions attributes first n p k₀ k = ?
+Inv-loop synthesized rules definitions attributes first n p k₀ k = Passing (SynthesizedRule synthesized rules definitions attributes first n p) (λ b m. synthesizedAttributeDefined p m b) attributes k
 
 abbrev μ-loop : tie.MeasureT-loop
-μ-loop synthesized rules definitions attributes first n p k₀ k = ?
+μ-loop synthesized rules definitions attributes first n p k₀ k = attributes - k
 
--- src/defined.rt:117:5
 loop-holds : tie.Need-loop-holds Inv-loop μ-loop
-loop-holds c = ?
+loop-holds c = passing-start
 
--- src/defined.rt:118:13
 synthesized-attribute-defined-requires :
     tie.Need-synthesized-attribute-defined-requires Inv-loop μ-loop
-synthesized-attribute-defined-requires c κs = ?
+synthesized-attribute-defined-requires c κs = let h = c .before .before .before .before .before .pre in
+    (h .0, synthesized-attribute (c .before .loop .k) (h .1) (omega (arith, h .1 .side .attributes-are)))
 
--- src/defined.rt:119:13
 returns : tie.Need-returns Inv-loop μ-loop
-returns c = ?
+unfolding synthesizedRuleDefined
+returns c = let a = c .before in
+    let k = a .before .before in
+    answers-same (λ b h. ap (λ (m : ℕ). allBelow m (λ i. synthesizedAttributeDefined (k .before .before .before .before .args .p) i b)) (h .side .attributes-are)) (passing-stop (k .loop .inv) (omega arith)
+    (answers-where (λ b h. synthesized-attribute (k .loop .k) h (omega (arith, h .side .attributes-are))) (a .synthesized-attribute-defined .ensures)) (not-true _ (c .if1 .taken)))
 
--- src/defined.rt:121:9
 add-k : tie.Need-add-k Inv-loop μ-loop
-add-k c = ?
+add-k c = search needs
 
--- src/defined.rt:117:5
 loop-less : tie.Need-loop-less Inv-loop μ-loop
-loop-less c = ?
+loop-less c = search needs
 
--- src/defined.rt:117:5
 loop-again : tie.Need-loop-again Inv-loop μ-loop
-loop-again c = ?
+loop-again c = let a = c .before in
+    let k = a .before .before in
+    passing-turn (k .loop .inv) (omega arith)
+    (answers-where (λ b h. synthesized-attribute (k .loop .k) h (omega (arith, h .side .attributes-are))) (a .synthesized-attribute-defined .ensures)) (not-false _ (c .if1 .left))
 
--- src/defined.rt:109:1
 returns-2 : tie.Need-returns-2 Inv-loop μ-loop
-returns-2 c = ?
+unfolding synthesizedRuleDefined
+returns-2 c = let k = c .before in
+    answers-same (λ b h. ap (λ (m : ℕ). allBelow m (λ i. synthesizedAttributeDefined (k .before .before .before .before .args .p) i b)) (h .side .attributes-are)) (passing-end (k .loop .inv) (c .loop-test .left))
 
 pub synthesized-rule-defined-spec : {M : Type 1} → statement M
 synthesized-rule-defined-spec =

@@ -7,21 +7,21 @@ use mathlib.Core.List.{List, [], _∷_}
 use native.Mathlib.Omega.{arith}
 use lib.Dec.{eqb, ltb, leb}
 use lib.ListN.{length, getD}
-use borrow.Author.Tests.{ltb-true, ltb-false, lt-ltb, le-ltb, le-leb, lt-leb, leb-true, ne-eqb, eq-eqb}
+use borrow.Author.Tests.{ltb-true, ltb-false, lt-ltb, le-ltb, le-leb, lt-leb, leb-true, ne-eqb}
 use Rattle.grammar.specs.Decides.{OneTo, oneTo, oneTo-decides, all, allBelow}
 use Rattle.grammar.specs.Limits.{MAX-RULES}
-use Rattle.grammar.specs.Symbol.{Symbol, terminal, nonterminal, Rule, ruleAt, leftOf, rightOf}
+use Rattle.grammar.specs.Symbol.{Symbol, terminal, nonterminal, ruleAt, leftOf, rightOf}
 use Rattle.grammar.specs.Postfix.{Step, push, load, operate, select, postfix, length-postfix}
 use Rattle.grammar.specs.Term.{add, sub, min, max, nodes}
 use Rattle.grammar.specs.Book.{Place, own, at, val, InheritedDefinition, SynthesizedDefinition, Book as Lines}
 use Rattle.grammar.specs.Conditions.{WithinLimits, IsTerminal, IsNonterminal}
 use Rattle.grammar.specs.ConditionTests.{allLeaves, oneNonterminal, rightSymbol, goSymbol, isPosition, declaredPlace, declaredInherited, declaredSynthesized, declaredKernel, declaredGo, declared}
-use Rattle.grammar.specs.Ordered.{Ascends, ascends-[], ascends-∷, lookaheadKey, Lookaheads, Every, every-[], every-∷}
+use Rattle.grammar.specs.Ordered.{Ascends, ascends-[], ascends-∷, lookaheadKey, Lookaheads, Every, every-∷}
 use Rattle.grammar.specs.ConditionsLaws.{right-length}
 use Rattle.book.specs.declared.Book.{Book}
 use Rattle.book.specs.Layout.{codeOf, symbolCode, lastOf}
 use Rattle.book.specs.Held.{synthesizedAt, nodeAt, kernelAt, goAt, nodeKind, nodeFirst, nodeSecond, RulesIn}
-use Rattle.book.specs.Lent.{Counted, RulesOf, RuleOf, Entry, LineIs, EntryOf, LeavesOf, KernelOf, GoesOf}
+use Rattle.book.specs.Lent.{Counted, RuleOf, Entry, LineIs, EntryOf, LeavesOf, KernelOf, GoesOf}
 use Rattle.book.specs.LentLaws.{synthesizedEntry}
 use Rattle.book.specs.Runs.{lead, before-lead}
 use Rattle.book.specs.Answers.{then-and, and-assoc, and-true, and-false, and-first, all-below, below-and, below-at}

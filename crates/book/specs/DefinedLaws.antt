@@ -1,6 +1,6 @@
 -- Condition 6: what a search over definition lines finds, and what is there at each rule, position and attribute.
 -- Assumes nothing.
-use Prim.Native.Nat.{ℕ, _+_, _*_, _≤_, _<_}
+use Prim.Native.Nat.{ℕ, _+_, _*_, _<_}
 use mathlib.Core.Path.{_≡_, refl, sym, ap, ap₂, _∙_}
 use mathlib.Core.Bool.{Bool, true, false, _&&_, not}
 use mathlib.Core.List.{List, [], _∷_}
@@ -8,9 +8,9 @@ use native.Mathlib.Omega.{arith}
 use lib.Dec.{eqb}
 use lib.ListN.{length, getD}
 use borrow.Author.Tests.{eq-eqb, ne-eqb}
-use Rattle.grammar.specs.Decides.{OneTo, all, any, allBelow, allOneTo}
+use Rattle.grammar.specs.Decides.{all, any, allBelow}
 use Rattle.grammar.specs.Symbol.{leftOf, rightOf}
-use Rattle.grammar.specs.Book.{InheritedDefinition, SynthesizedDefinition, Book as Lines, inheritedOwner, synthesizedOwner}
+use Rattle.grammar.specs.Book.{Book as Lines, inheritedOwner, synthesizedOwner}
 use Rattle.grammar.specs.ConditionTests.{nonterminalAt, definesInherited, definesSynthesized, defined}
 use Rattle.grammar.specs.ConditionsLaws.{right-length}
 use Rattle.book.specs.declared.Book.{Book}

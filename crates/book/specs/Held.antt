@@ -14,7 +14,7 @@ use Rattle.grammar.specs.Limits.{
   MAX-KERNELS,
   MAX-GOES,
 }
-use Rattle.grammar.specs.Symbol.{Symbol, terminal, Rule, leftOf, rightOf}
+use Rattle.grammar.specs.Symbol.{terminal, Rule, leftOf, rightOf}
 use Rattle.grammar.specs.Term.{number, nodes, add, sub, min, max}
 use Rattle.grammar.specs.Postfix.{Step, push, load, operate, select, postfix}
 use Rattle.grammar.specs.Book.{Place, own, at, val, Expr, InheritedDefinition, SynthesizedDefinition, Kernel, Go, Book, ownerAt}

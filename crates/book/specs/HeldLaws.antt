@@ -1,11 +1,11 @@
 -- From lines that are stored one after another to what the arrays hold (`Held`).
 -- Assumes nothing.
 use Prim.Native.Nat.{ℕ, zero, suc, _+_, _*_, _-_, _≤_, _<_, min}
-use mathlib.Core.Path.{_≡_, refl, sym, ap, _∙_}
+use mathlib.Core.Path.{_≡_, refl, ap, _∙_}
 use mathlib.Core.Bool.{Bool, true, false}
 use mathlib.Core.List.{List, [], _∷_}
 use native.Mathlib.Omega.{arith}
-use native.Mathlib.Nat.{mul-le-mul-right, mul-le-mul-left, add-mul, mul-add, mul-comm, mul-suc}
+use native.Mathlib.Nat.{mul-comm, mul-suc}
 use lib.Dec.{ltb}
 use lib.ListN.{length, set, getD, take, length-set, length-take}
 use lib.Seq.{getD-set-same, getD-set-other, getD-take, take-all}
@@ -18,7 +18,7 @@ use Rattle.grammar.specs.Limits.{
   MAX-KERNELS,
   MAX-GOES,
 }
-use Rattle.grammar.specs.Symbol.{Symbol, terminal, Rule, ruleAt, leftOf, rightOf}
+use Rattle.grammar.specs.Symbol.{Symbol, terminal, Rule, ruleAt, rightOf}
 use Rattle.grammar.specs.Term.{add, sub, min as least, max as greatest}
 use Rattle.grammar.specs.Postfix.{Step, push, load, operate, select, postfix, length-postfix}
 use Rattle.grammar.specs.Book.{Place, own, at, val, Expr, InheritedDefinition, SynthesizedDefinition, Kernel, Go, Book}
@@ -37,31 +37,8 @@ use Rattle.book.specs.Layout.{
   nodesWords,
   definitionWords,
 }
-use Rattle.book.specs.Held.{
-  noKernel,
-  noGo,
-  kernelAt,
-  goAt,
-  inheritedAt,
-  synthesizedAt,
-  nodeAt,
-  nodeKind,
-  nodeFirst,
-  nodeSecond,
-  inheritedWords,
-  synthesizedWords,
-  OwnersIn,
-  RulesIn,
-  NodeIn,
-  DefinitionIn,
-  DefinitionsIn,
-  KernelsIn,
-  GoesIn,
-  Held,
-  HasRoom,
-  kept,
-}
-use Rattle.book.specs.LayoutLaws.{length-write, length-put, length-store, put-in, put-out, room-for}
+use Rattle.book.specs.Held.{noKernel, noGo, inheritedAt, synthesizedAt, nodeKind, nodeFirst, nodeSecond, inheritedWords, synthesizedWords, OwnersIn, RulesIn, NodeIn, DefinitionIn, DefinitionsIn, KernelsIn, GoesIn, Held, HasRoom, kept}
+use Rattle.book.specs.LayoutLaws.{length-put, length-store, put-in, put-out, room-for}
 
 -- a word before the place is kept
 write-before : (place : ℕ) (ws out : List ℕ) (w : ℕ) → w < place → getD (writeAt place ws out) w 0 ≡ getD out w 0

@@ -13,7 +13,7 @@ use Rattle.grammar.specs.ConditionsLaws.{right-length}
 use Rattle.book.specs.declared.Book.{Book}
 use Rattle.book.specs.Held.{inheritedAt, synthesizedAt, OwnersIn, DefinitionsIn, HasRoom, kept}
 use Rattle.book.specs.HeldLaws.{kept-all}
-use Rattle.book.specs.Lent.{Counted, RuleLines, DefinitionLines, KernelLines, Kept, Lent, RulesOf, RuleOf, DefinitionsOf, Entry, LineIs, EntryOf, KernelsOf, GoesOf, GrammarOf, Within, InheritedLines, SynthesizedLines, DeclaredBook}
+use Rattle.book.specs.Lent.{RuleLines, DefinitionLines, KernelLines, Kept, Lent, RulesOf, RuleOf, DefinitionsOf, Entry, LineIs, EntryOf, KernelsOf, GoesOf, GrammarOf, Within, InheritedLines, SynthesizedLines, DeclaredBook}
 
 -- where there is room, what is kept is all
 pub lent-kept : {numbers : Book} {inherited synthesized rules definitions kernels : List ℕ} {b : Lines}

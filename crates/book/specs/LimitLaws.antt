@@ -2,30 +2,15 @@
 -- Assumes nothing.
 use Prim.Native.Nat.{ℕ, zero, suc, _+_, _*_, _-_, _≤_, _<_, zero-le}
 use mathlib.Core.Path.{_≡_, refl, sym, ap, ap₂, _∙_}
-use mathlib.Core.Bool.{Bool, true, false, _&&_, not}
-use mathlib.Core.List.{List, [], _∷_, map}
+use mathlib.Core.Bool.{true, false, _&&_, not}
+use mathlib.Core.List.{List, map}
 use native.Mathlib.Omega.{arith}
 use native.Mathlib.Numerals.{add-one}
 use lib.Dec.{eqb, ltb, leb}
 use lib.ListN.{length, getD, drop, drop-of-length-le, length-map, List·getD-map}
 use lib.Seq.{drop-cons}
-use borrow.Author.Tests.{eq-eqb, ne-eqb, eqb-true, eqb-false, lt-ltb, le-ltb}
-use Rattle.grammar.specs.Decides.{
-  Decides,
-  equivalent,
-  le-decides,
-  and-decides,
-  and3-decides,
-  and4-decides,
-  OneTo,
-  oneTo-decides,
-  all-decides,
-  few-decides,
-  count,
-  few,
-  all,
-  allBelow,
-}
+use borrow.Author.Tests.{lt-ltb, le-ltb}
+use Rattle.grammar.specs.Decides.{Decides, equivalent, le-decides, and-decides, and3-decides, and4-decides, OneTo, oneTo-decides, all-decides, few-decides, count, few, allBelow}
 use Rattle.grammar.specs.ConditionTests.{withinLimits}
 use Rattle.grammar.specs.ConditionTestsLaws.{withinLimits-decides}
 use Rattle.grammar.specs.Limits.{

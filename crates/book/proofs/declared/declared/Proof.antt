@@ -1,17 +1,11 @@
+-- `declared` meets its contract: the parts make the whole.
+-- Assumes nothing.
 use mathlib.Core.Path.{ap₂, _∙_}
 use mathlib.Core.Bool.{_&&_}
 use Rattle.book.specs.LentLaws.{grammar-of, definitions-of, kernels-of, goes-of}
 use Rattle.book.specs.DeclaredLaws.{declared-parts}
-use borrow.Author.Needs.{needs}
 use Rattle.book.proofs.declared.declared.Statement.{statement}
 use Rattle.book.proofs.declared.declared.Tie as tie
-use Rattle.book.proofs.declared.declared.Reads as reads
-use Rattle.book.proofs.declared.declared.Lts as lts
-use Rattle.book.proofs.declared.goes_declared.Reads as goes-declared-reads
-use Rattle.book.proofs.declared.grammar_declared.Reads as grammar-declared-reads
-use Rattle.book.proofs.declared.inherited_declared.Reads as inherited-declared-reads
-use Rattle.book.proofs.declared.kernels_declared.Reads as kernels-declared-reads
-use Rattle.book.proofs.declared.synthesized_declared.Reads as synthesized-declared-reads
 
 grammar-declared-requires : tie.Need-grammar-declared-requires
 grammar-declared-requires c κs = let h = c .before .before .before .before .before .before .pre in (h .0, grammar-of (h .1))

@@ -1,10 +1,9 @@
+-- `definition_declared` meets its contract: the rule first, since its length is read then.
+-- Assumes nothing.
 use Rattle.book.specs.DeclaredLaws.{leaves-of, definition-asked, definition-refused}
 use borrow.Author.Needs.{needs}
 use Rattle.book.proofs.declared.definition_declared.Statement.{statement}
 use Rattle.book.proofs.declared.definition_declared.Tie as tie
-use Rattle.book.proofs.declared.definition_declared.Reads as reads
-use Rattle.book.proofs.declared.definition_declared.Lts as lts
-use Rattle.book.proofs.declared.leaves_declared.Reads as leaves-declared-reads
 
 mul-p : tie.Need-mul-p
 mul-p c = search needs

@@ -1,5 +1,6 @@
+-- `goes_declared` meets its contract: the loop keeps `Passing`.
+-- Assumes nothing.
 use Prim.Native.Nat.{_-_}
-use mathlib.Core.Path.{refl}
 use native.Mathlib.Omega.{arith}
 use borrow.Author.Tests.{not-true, not-false}
 use Rattle.grammar.specs.ConditionTests.{declaredGo}
@@ -11,9 +12,6 @@ use Rattle.book.specs.DeclaredLaws.{go-asked}
 use borrow.Author.Needs.{needs}
 use Rattle.book.proofs.declared.goes_declared.Statement.{statement}
 use Rattle.book.proofs.declared.goes_declared.Tie as tie
-use Rattle.book.proofs.declared.goes_declared.Reads as reads
-use Rattle.book.proofs.declared.goes_declared.Lts as lts
-use Rattle.book.proofs.declared.go_code.Reads as go-code-reads
 
 abbrev Inv-loop : tie.InvT-loop
 Inv-loop book goes n i₀ i = Passing (GoesOf book goes) (λ b k. declaredGo b (goAt (b .goes) k)) n i

@@ -1,18 +1,15 @@
+-- `grammar_declared` meets its contract: owners, rule 0 and all rules, one after another.
+-- Assumes nothing.
 use Prim.Native.Nat.{ℕ}
-use mathlib.Core.Path.{ap, ap₂, _∙_}
-use mathlib.Core.Bool.{Bool, _&&_}
+use mathlib.Core.Path.{ap₂, _∙_}
+use mathlib.Core.Bool.{_&&_}
 use Rattle.grammar.specs.Decides.{oneTo, all}
 use Rattle.book.specs.LentLaws.{owners-are, owners-part}
-use Rattle.book.specs.DeclaredTests.{grammarDeclared, startCode}
+use Rattle.book.specs.DeclaredTests.{grammarDeclared}
 use Rattle.book.specs.DeclaredLaws.{start-rules}
 use borrow.Author.Needs.{needs}
 use Rattle.book.proofs.declared.grammar_declared.Statement.{statement}
 use Rattle.book.proofs.declared.grammar_declared.Tie as tie
-use Rattle.book.proofs.declared.grammar_declared.Reads as reads
-use Rattle.book.proofs.declared.grammar_declared.Lts as lts
-use Rattle.book.proofs.declared.owners_declared.Reads as owners-declared-reads
-use Rattle.book.proofs.declared.rules_declared.Reads as rules-declared-reads
-use Rattle.book.proofs.declared.start_declared.Reads as start-declared-reads
 
 cast-i : tie.Need-cast-i
 cast-i c = search needs

@@ -1,3 +1,5 @@
+-- `inherited_line_declared` meets its contract: the position last, since it is asked of a rule that is there.
+-- Assumes nothing.
 use Prim.Native.Nat.{_*_, _<_}
 use mathlib.Core.Path.{sym, _∙_}
 use native.Mathlib.Omega.{arith}
@@ -6,10 +8,6 @@ use Rattle.book.specs.DeclaredLaws.{declared-word, inherited-asked, inhe
 use borrow.Author.Needs.{needs}
 use Rattle.book.proofs.declared.inherited_line_declared.Statement.{statement}
 use Rattle.book.proofs.declared.inherited_line_declared.Tie as tie
-use Rattle.book.proofs.declared.inherited_line_declared.Reads as reads
-use Rattle.book.proofs.declared.inherited_line_declared.Lts as lts
-use Rattle.book.proofs.declared.definition_declared.Reads as definition-declared-reads
-use Rattle.book.proofs.limits.one_to.Reads as one-to-reads
 
 -- a declared line's rule has a line
 low : (t : tie.Then1) → getD (t .before .before .before .before .args .definitions .now) (49 * t .before .before .before .before .args .i) 0 < 64

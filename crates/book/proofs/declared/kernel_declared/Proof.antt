@@ -1,9 +1,9 @@
+-- `kernel_declared` meets its contract: the rule first; the last lookahead is the largest.
+-- Assumes nothing.
 use Rattle.book.specs.DeclaredLaws.{kernel-asked, kernel-refused}
 use borrow.Author.Needs.{needs}
 use Rattle.book.proofs.declared.kernel_declared.Statement.{statement}
 use Rattle.book.proofs.declared.kernel_declared.Tie as tie
-use Rattle.book.proofs.declared.kernel_declared.Reads as reads
-use Rattle.book.proofs.declared.kernel_declared.Lts as lts
 
 mul-p : tie.Need-mul-p
 mul-p c = search needs

@@ -1,5 +1,6 @@
+-- `kernels_declared` meets its contract: the loop keeps `Passing`.
+-- Assumes nothing.
 use Prim.Native.Nat.{_-_}
-use mathlib.Core.Path.{refl}
 use native.Mathlib.Omega.{arith}
 use borrow.Author.Tests.{not-true, not-false}
 use Rattle.grammar.specs.ConditionTests.{declaredKernel}
@@ -10,9 +11,6 @@ use Rattle.book.specs.DeclaredTests.{kernelDeclared, kernelsDeclared}
 use borrow.Author.Needs.{needs}
 use Rattle.book.proofs.declared.kernels_declared.Statement.{statement}
 use Rattle.book.proofs.declared.kernels_declared.Tie as tie
-use Rattle.book.proofs.declared.kernels_declared.Reads as reads
-use Rattle.book.proofs.declared.kernels_declared.Lts as lts
-use Rattle.book.proofs.declared.kernel_declared.Reads as kernel-declared-reads
 
 abbrev Inv-loop : tie.InvT-loop
 Inv-loop book rules kernels n i₀ i = Passing (KernelsOf book rules kernels) (λ b k. declaredKernel b (kernelAt (b .kernels) k)) n i

@@ -1,11 +1,13 @@
+-- `leaves_declared` meets its contract: the loop keeps `Passing` over the nodes, of which the leaves are asked.
+-- Assumes nothing.
 use Prim.Native.Nat.{_-_}
-use mathlib.Core.Path.{refl, sym, _∙_}
+use mathlib.Core.Path.{sym, _∙_}
 use native.Mathlib.Omega.{arith}
 use borrow.Author.Tests.{not-true, not-false}
-use Rattle.grammar.specs.Postfix.{select, postfix, length-postfix}
+use Rattle.grammar.specs.Postfix.{select, postfix}
 use Rattle.grammar.specs.ConditionTests.{declaredPlace}
 use Rattle.book.specs.Held.{nodeAt}
-use Rattle.book.specs.Lent.{Entry, LeavesOf}
+use Rattle.book.specs.Lent.{LeavesOf}
 use Rattle.book.specs.Answers.{answers-same, Passing, passing-start, passing-turn, all-stop, all-end}
 use Rattle.book.specs.Leaves.{ofLeaf, leaves-nodes}
 use Rattle.book.specs.DeclaredTests.{leavesDeclared}
@@ -13,9 +15,6 @@ use Rattle.book.specs.DeclaredLaws.{node-asked, node-count}
 use borrow.Author.Needs.{needs}
 use Rattle.book.proofs.declared.leaves_declared.Statement.{statement}
 use Rattle.book.proofs.declared.leaves_declared.Tie as tie
-use Rattle.book.proofs.declared.leaves_declared.Reads as reads
-use Rattle.book.proofs.declared.leaves_declared.Lts as lts
-use Rattle.book.proofs.declared.place_declared.Reads as place-declared-reads
 
 abbrev Inv-loop : tie.InvT-loop
 Inv-loop book definitions i size n j₀ j = Passing (LeavesOf book definitions i size) (λ x k. ofLeaf (declaredPlace (x .book) (x .line .rule)) (nodeAt (x .line .expression) k)) n j

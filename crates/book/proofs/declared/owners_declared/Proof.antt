@@ -1,3 +1,5 @@
+-- `owners_declared` meets its contract: the loop keeps `Passing`.
+-- Assumes nothing.
 use Prim.Native.Nat.{_-_}
 use mathlib.Core.Path.{refl}
 use native.Mathlib.Omega.{arith}
@@ -8,9 +10,6 @@ use Rattle.book.specs.Answers.{Passing, passing-start, passing-turn, all
 use borrow.Author.Needs.{needs}
 use Rattle.book.proofs.declared.owners_declared.Statement.{statement}
 use Rattle.book.proofs.declared.owners_declared.Tie as tie
-use Rattle.book.proofs.declared.owners_declared.Reads as reads
-use Rattle.book.proofs.declared.owners_declared.Lts as lts
-use Rattle.book.proofs.limits.one_to.Reads as one-to-reads
 
 abbrev Inv-loop : tie.InvT-loop
 Inv-loop owners n i₀ i = Passing {A = Unit {0}} (λ u. Unit {0}) (λ u k. oneTo n (getD owners k 0)) (length owners) i

@@ -1,3 +1,5 @@
+-- `place_declared` meets its contract: by the kind of the node.
+-- Assumes nothing.
 use mathlib.Core.Path.{ap, _∙_}
 use mathlib.Core.Bool.{Bool, _&&_}
 use lib.Dec.{ltb}
@@ -5,9 +7,6 @@ use Rattle.book.specs.DeclaredLaws.{place-own, place-at, place-val, plac
 use borrow.Author.Needs.{needs}
 use Rattle.book.proofs.declared.place_declared.Statement.{statement}
 use Rattle.book.proofs.declared.place_declared.Tie as tie
-use Rattle.book.proofs.declared.place_declared.Reads as reads
-use Rattle.book.proofs.declared.place_declared.Lts as lts
-use Rattle.book.proofs.limits.one_to.Reads as one-to-reads
 
 returns : tie.Need-returns
 returns c = place-own _ _ _ _ _ (c .before .if1 .taken)

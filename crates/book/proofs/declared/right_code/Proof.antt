@@ -1,11 +1,10 @@
+-- `right_code` meets its contract: by the two kinds of symbols.
+-- Assumes nothing.
 use mathlib.Core.Path.{sym, _∙_}
 use Rattle.book.specs.DeclaredLaws.{right-low, right-high}
 use borrow.Author.Needs.{needs}
 use Rattle.book.proofs.declared.right_code.Statement.{statement}
 use Rattle.book.proofs.declared.right_code.Tie as tie
-use Rattle.book.proofs.declared.right_code.Reads as reads
-use Rattle.book.proofs.declared.right_code.Lts as lts
-use Rattle.book.proofs.limits.one_to.Reads as one-to-reads
 
 one-to-requires : tie.Need-one-to-requires
 one-to-requires c κs = search needs

@@ -1,5 +1,7 @@
-use Prim.Native.Nat.{_-_, _<_}
-use mathlib.Core.Path.{refl, _∙_}
+-- `right_declared` meets its contract: the loop keeps `Passing`, and each word is the code of a right symbol.
+-- Assumes nothing.
+use Prim.Native.Nat.{_-_}
+use mathlib.Core.Path.{_∙_}
 use native.Mathlib.Omega.{arith}
 use lib.ListN.{getD}
 use borrow.Author.Tests.{not-true, not-false}
@@ -12,9 +14,6 @@ use Rattle.book.specs.DeclaredLaws.{right-symbol}
 use borrow.Author.Needs.{needs}
 use Rattle.book.proofs.declared.right_declared.Statement.{statement}
 use Rattle.book.proofs.declared.right_declared.Tie as tie
-use Rattle.book.proofs.declared.right_declared.Reads as reads
-use Rattle.book.proofs.declared.right_declared.Lts as lts
-use Rattle.book.proofs.declared.right_code.Reads as right-code-reads
 
 abbrev Inv-loop : tie.InvT-loop
 Inv-loop book rules p n d₀ d = Passing (RuleOf book rules p) (λ b k. rightSymbol b (getD (rightOf (b .rules) p) k (terminal 0))) n d

@@ -1,11 +1,9 @@
+-- `rule_declared` meets its contract: rule 0 apart.
+-- Assumes nothing.
 use Rattle.book.specs.DeclaredLaws.{rule-asked, rule-first}
 use borrow.Author.Needs.{needs}
 use Rattle.book.proofs.declared.rule_declared.Statement.{statement}
 use Rattle.book.proofs.declared.rule_declared.Tie as tie
-use Rattle.book.proofs.declared.rule_declared.Reads as reads
-use Rattle.book.proofs.declared.rule_declared.Lts as lts
-use Rattle.book.proofs.declared.right_declared.Reads as right-declared-reads
-use Rattle.book.proofs.limits.one_to.Reads as one-to-reads
 
 mul-one-to : tie.Need-mul-one-to
 mul-one-to c = search needs

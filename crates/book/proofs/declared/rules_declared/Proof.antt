@@ -1,3 +1,5 @@
+-- `rules_declared` meets its contract: the loop keeps `Passing`.
+-- Assumes nothing.
 use Prim.Native.Nat.{ℕ, _-_}
 use mathlib.Core.Path.{ap}
 use native.Mathlib.Omega.{arith}
@@ -10,9 +12,6 @@ use Rattle.book.specs.DeclaredTests.{ruleDeclared, rulesDeclared}
 use borrow.Author.Needs.{needs}
 use Rattle.book.proofs.declared.rules_declared.Statement.{statement}
 use Rattle.book.proofs.declared.rules_declared.Tie as tie
-use Rattle.book.proofs.declared.rules_declared.Reads as reads
-use Rattle.book.proofs.declared.rules_declared.Lts as lts
-use Rattle.book.proofs.declared.rule_declared.Reads as rule-declared-reads
 
 abbrev Inv-loop : tie.InvT-loop
 Inv-loop book rules n p₀ p = Passing (RulesOf book rules) (λ b P. ruleDeclared P b) n p

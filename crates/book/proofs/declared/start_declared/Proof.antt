@@ -1,10 +1,10 @@
+-- `start_declared` meets its contract: it does what the definition says.
+-- Assumes nothing.
 use mathlib.Core.Path.{refl}
 use Rattle.book.specs.DeclaredTests.{startCode}
 use borrow.Author.Needs.{needs}
 use Rattle.book.proofs.declared.start_declared.Statement.{statement}
 use Rattle.book.proofs.declared.start_declared.Tie as tie
-use Rattle.book.proofs.declared.start_declared.Reads as reads
-use Rattle.book.proofs.declared.start_declared.Lts as lts
 
 shared-slice-read-result : tie.Need-shared-slice-read-result
 shared-slice-read-result c = search needs

@@ -1,3 +1,5 @@
+-- `synthesized_declared` meets its contract: the loop keeps `Passing`.
+-- Assumes nothing.
 use Prim.Native.Nat.{_-_}
 use mathlib.Core.Path.{_∙_}
 use native.Mathlib.Omega.{arith}
@@ -12,9 +14,6 @@ use Rattle.book.specs.DeclaredLaws.{synthesized-parts}
 use borrow.Author.Needs.{needs}
 use Rattle.book.proofs.declared.synthesized_declared.Statement.{statement}
 use Rattle.book.proofs.declared.synthesized_declared.Tie as tie
-use Rattle.book.proofs.declared.synthesized_declared.Reads as reads
-use Rattle.book.proofs.declared.synthesized_declared.Lts as lts
-use Rattle.book.proofs.declared.definition_declared.Reads as definition-declared-reads
 
 abbrev Inv-loop : tie.InvT-loop
 Inv-loop book rules definitions first n i₀ i = Passing (DefinitionsOf book rules definitions) (λ b k. declaredSynthesized b (synthesizedAt (b .synthesizedDefinitions) k)) n i

@@ -1,13 +1,11 @@
+-- `defined` meets its contract: the parts make the whole.
+-- Assumes nothing.
 use mathlib.Core.Path.{ap₂, _∙_}
 use mathlib.Core.Bool.{_&&_}
 use Rattle.book.specs.DefinedLaws.{inherited-side, synthesized-side, defined-parts}
 use borrow.Author.Needs.{needs}
 use Rattle.book.proofs.defined.defined.Statement.{statement}
 use Rattle.book.proofs.defined.defined.Tie as tie
-use Rattle.book.proofs.defined.defined.Reads as reads
-use Rattle.book.proofs.defined.defined.Lts as lts
-use Rattle.book.proofs.defined.inherited_defined.Reads as inherited-defined-reads
-use Rattle.book.proofs.defined.synthesized_defined.Reads as synthesized-defined-reads
 
 cast-first : tie.Need-cast-first
 cast-first c = search needs

@@ -1,15 +1,14 @@
+-- `defines` meets its contract: the loop keeps `Passing`: no line so far.
+-- Assumes nothing.
 use Prim.Native.Nat.{_+_, _*_, _-_}
-use mathlib.Core.Path.{ap}
+use mathlib.Core.Path.{ap, refl}
 use mathlib.Core.Bool.{not}
 use native.Mathlib.Omega.{arith}
 use Rattle.book.specs.Answers.{Passing, passing-start, passing-turn, passing-stop, passing-end}
 use Rattle.book.specs.DefinedTests.{lineDefines, definesCode}
-use mathlib.Core.Path.{refl}
 use borrow.Author.Needs.{needs}
 use Rattle.book.proofs.defined.defines.Statement.{statement}
 use Rattle.book.proofs.defined.defines.Tie as tie
-use Rattle.book.proofs.defined.defines.Reads as reads
-use Rattle.book.proofs.defined.defines.Lts as lts
 
 abbrev Inv-loop : tie.InvT-loop
 Inv-loop definitions first n p j k i₀ i = Passing {A = Unit {0}} (λ u. Unit {0}) (λ u m. not (lineDefines definitions p j k (first + m))) n i

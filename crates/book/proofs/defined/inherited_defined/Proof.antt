@@ -1,3 +1,5 @@
+-- `inherited_defined` meets its contract: the loop keeps `Passing`.
+-- Assumes nothing.
 use Prim.Native.Nat.{ℕ, _-_}
 use mathlib.Core.Path.{ap}
 use native.Mathlib.Omega.{arith}
@@ -10,9 +12,6 @@ use Rattle.book.specs.DefinedLaws.{inherited-rule}
 use borrow.Author.Needs.{needs}
 use Rattle.book.proofs.defined.inherited_defined.Statement.{statement}
 use Rattle.book.proofs.defined.inherited_defined.Tie as tie
-use Rattle.book.proofs.defined.inherited_defined.Reads as reads
-use Rattle.book.proofs.defined.inherited_defined.Lts as lts
-use Rattle.book.proofs.defined.inherited_rule_defined.Reads as inherited-rule-defined-reads
 
 abbrev Inv-loop : tie.InvT-loop
 Inv-loop inherited rules definitions attributes n count p₀ p = Passing (InheritedSide inherited rules definitions attributes n count) (λ b m. inheritedRuleDefined m b) count p

@@ -1,3 +1,5 @@
+-- `inherited_rule_defined` meets its contract: the loop keeps `Passing` over the positions 1, 2, ...
+-- Assumes nothing.
 use Prim.Native.Nat.{ℕ, suc, _-_}
 use mathlib.Core.Path.{ap}
 use native.Mathlib.Omega.{arith}
@@ -11,9 +13,6 @@ use Rattle.book.specs.DefinedLaws.{inherited-place}
 use borrow.Author.Needs.{needs}
 use Rattle.book.proofs.defined.inherited_rule_defined.Statement.{statement}
 use Rattle.book.proofs.defined.inherited_rule_defined.Tie as tie
-use Rattle.book.proofs.defined.inherited_rule_defined.Reads as reads
-use Rattle.book.proofs.defined.inherited_rule_defined.Lts as lts
-use Rattle.book.proofs.defined.position_defined.Reads as position-defined-reads
 
 abbrev Inv-loop : tie.InvT-loop
 Inv-loop inherited rules definitions attributes n p size d₀ d = Passing (InheritedRule inherited rules definitions attributes n p) (λ b m. positionDefined p (suc m) b) size d

@@ -1,3 +1,5 @@
+-- `position_defined` meets its contract: the loop keeps `Passing`.
+-- Assumes nothing.
 use Prim.Native.Nat.{ℕ, _-_}
 use mathlib.Core.Path.{ap}
 use native.Mathlib.Omega.{arith}
@@ -10,9 +12,6 @@ use Rattle.book.specs.DefinedLaws.{inherited-attribute}
 use borrow.Author.Needs.{needs}
 use Rattle.book.proofs.defined.position_defined.Statement.{statement}
 use Rattle.book.proofs.defined.position_defined.Tie as tie
-use Rattle.book.proofs.defined.position_defined.Reads as reads
-use Rattle.book.proofs.defined.position_defined.Lts as lts
-use Rattle.book.proofs.defined.inherited_attribute_defined.Reads as inherited-attribute-defined-reads
 
 abbrev Inv-loop : tie.InvT-loop
 Inv-loop inherited rules definitions attributes n p j k₀ k = Passing (InheritedPlace inherited rules definitions attributes n p j) (λ b m. inheritedAttributeDefined p j m b) attributes k

@@ -1,3 +1,5 @@
+-- `synthesized_defined` meets its contract: the loop keeps `Passing`.
+-- Assumes nothing.
 use Prim.Native.Nat.{ℕ, _-_}
 use mathlib.Core.Path.{ap}
 use native.Mathlib.Omega.{arith}
@@ -10,9 +12,6 @@ use Rattle.book.specs.DefinedLaws.{synthesized-rule}
 use borrow.Author.Needs.{needs}
 use Rattle.book.proofs.defined.synthesized_defined.Statement.{statement}
 use Rattle.book.proofs.defined.synthesized_defined.Tie as tie
-use Rattle.book.proofs.defined.synthesized_defined.Reads as reads
-use Rattle.book.proofs.defined.synthesized_defined.Lts as lts
-use Rattle.book.proofs.defined.synthesized_rule_defined.Reads as synthesized-rule-defined-reads
 
 abbrev Inv-loop : tie.InvT-loop
 Inv-loop synthesized rules definitions attributes first n count p₀ p = Passing (SynthesizedSide synthesized rules definitions attributes first n count) (λ b m. synthesizedRuleDefined m b) count p

@@ -1,3 +1,5 @@
+-- `synthesized_rule_defined` meets its contract: the loop keeps `Passing`.
+-- Assumes nothing.
 use Prim.Native.Nat.{ℕ, _-_}
 use mathlib.Core.Path.{ap}
 use native.Mathlib.Omega.{arith}
@@ -10,9 +12,6 @@ use Rattle.book.specs.DefinedLaws.{synthesized-attribute}
 use borrow.Author.Needs.{needs}
 use Rattle.book.proofs.defined.synthesized_rule_defined.Statement.{statement}
 use Rattle.book.proofs.defined.synthesized_rule_defined.Tie as tie
-use Rattle.book.proofs.defined.synthesized_rule_defined.Reads as reads
-use Rattle.book.proofs.defined.synthesized_rule_defined.Lts as lts
-use Rattle.book.proofs.defined.synthesized_attribute_defined.Reads as synthesized-attribute-defined-reads
 
 abbrev Inv-loop : tie.InvT-loop
 Inv-loop synthesized rules definitions attributes first n p k₀ k = Passing (SynthesizedRule synthesized rules definitions attributes first n p) (λ b m. synthesizedAttributeDefined p m b) attributes k

@@ -1,14 +1,12 @@
+-- `few` meets its contract: the loop keeps `Fewer`.
+-- Assumes nothing.
 use Prim.Native.Nat.{_-_}
-use mathlib.Core.Path.{refl}
-use lib.ListN.{length}
 use native.Mathlib.Omega.{arith}
+use lib.ListN.{length}
 use Rattle.book.specs.LimitLaws.{Fewer, fewer-start, fewer-turn, fewer-stop, fewer-end}
 use borrow.Author.Needs.{needs}
 use Rattle.book.proofs.limits.few.Statement.{statement}
 use Rattle.book.proofs.limits.few.Tie as tie
-use Rattle.book.proofs.limits.few.Reads as reads
-use Rattle.book.proofs.limits.few.Lts as lts
-use Rattle.book.proofs.limits.repeats.Reads as repeats-reads
 
 abbrev Inv-loop : tie.InvT-loop
 Inv-loop words n i₀ i = Fewer words n i

@@ -1,3 +1,5 @@
+-- `lines_within` meets its contract: the lines of each kind, one after another.
+-- Assumes nothing.
 use mathlib.Core.Path.{ap, ap₂, _∙_}
 use mathlib.Core.Bool.{_&&_}
 use Rattle.grammar.specs.Decides.{few}
@@ -6,12 +8,6 @@ use Rattle.book.specs.LentLaws.{rule-lines, definition-lines, kernel-lin
 use borrow.Author.Needs.{needs}
 use Rattle.book.proofs.limits.lines_within.Statement.{statement}
 use Rattle.book.proofs.limits.lines_within.Tie as tie
-use Rattle.book.proofs.limits.lines_within.Reads as reads
-use Rattle.book.proofs.limits.lines_within.Lts as lts
-use Rattle.book.proofs.limits.few.Reads as few-reads
-use Rattle.book.proofs.limits.nodes_within.Reads as nodes-within-reads
-use Rattle.book.proofs.limits.rights_within.Reads as rights-within-reads
-use Rattle.book.proofs.limits.states_within.Reads as states-within-reads
 
 cast-i : tie.Need-cast-i
 cast-i c = search needs

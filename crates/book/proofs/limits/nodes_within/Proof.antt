@@ -1,17 +1,17 @@
+-- `nodes_within` meets its contract: the loop keeps `Passing` over the lines of both kinds.
+-- Assumes nothing.
 use Prim.Native.Nat.{_+_, _*_, _-_}
 use mathlib.Core.Path.{refl, sym}
+use native.Mathlib.Omega.{arith}
 use lib.Dec.{leb}
 use lib.ListN.{getD}
-use native.Mathlib.Omega.{arith}
 use borrow.Author.Tests.{le-leb, lt-leb}
 use Rattle.book.specs.Lent.{DefinitionLines}
-use Rattle.book.specs.Answers.{Answers, Passing, passing-start, passing-turn, passing-stop, passing-end, answers-same}
+use Rattle.book.specs.Answers.{Passing, passing-start, passing-turn, passing-stop, passing-end, answers-same}
 use Rattle.book.specs.LimitLaws.{nodes-lines}
 use borrow.Author.Needs.{needs}
 use Rattle.book.proofs.limits.nodes_within.Statement.{statement}
 use Rattle.book.proofs.limits.nodes_within.Tie as tie
-use Rattle.book.proofs.limits.nodes_within.Reads as reads
-use Rattle.book.proofs.limits.nodes_within.Lts as lts
 
 abbrev Inv-loop : tie.InvT-loop
 Inv-loop definitions n i₀ i = Passing (DefinitionLines definitions n) (λ b k. leb (getD definitions (49 * k + 3) 0) 15) n i

@@ -1,10 +1,9 @@
+-- `numbers_within` meets its contract: the numbers are those of the book.
+-- Assumes nothing.
 use Rattle.book.specs.LimitTests.{numbersWithin}
 use borrow.Author.Needs.{needs}
 use Rattle.book.proofs.limits.numbers_within.Statement.{statement}
 use Rattle.book.proofs.limits.numbers_within.Tie as tie
-use Rattle.book.proofs.limits.numbers_within.Reads as reads
-use Rattle.book.proofs.limits.numbers_within.Lts as lts
-use Rattle.book.proofs.limits.one_to.Reads as one-to-reads
 
 one-to-requires : tie.Need-one-to-requires
 one-to-requires c κs = search needs

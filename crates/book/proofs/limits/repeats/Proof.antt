@@ -1,13 +1,13 @@
+-- `repeats` meets its contract: the loop keeps `Counting`.
+-- Assumes nothing.
 use Prim.Native.Nat.{_-_}
 use mathlib.Core.Logic.{⊎-elim}
+use native.Mathlib.Omega.{arith}
 use lib.ListN.{length}
 use Rattle.book.specs.LimitLaws.{Counting, counting-start, counting-met, counting-on, counting-end}
-use native.Mathlib.Omega.{arith}
 use borrow.Author.Needs.{needs}
 use Rattle.book.proofs.limits.repeats.Statement.{statement}
 use Rattle.book.proofs.limits.repeats.Tie as tie
-use Rattle.book.proofs.limits.repeats.Reads as reads
-use Rattle.book.proofs.limits.repeats.Lts as lts
 
 abbrev Inv-loop : tie.InvT-loop
 Inv-loop words from word n₀ i₀ n i = Counting words from word n i

@@ -1,18 +1,18 @@
+-- `states_within` meets its contract: the loop keeps `Passing`; since the states ascend, lines 16 places apart tell.
+-- Assumes nothing.
 use Prim.Native.Nat.{_+_, _*_, _-_}
 use mathlib.Core.Path.{refl, sym, ap}
-use mathlib.Core.Bool.{Bool, not}
+use mathlib.Core.Bool.{not}
+use native.Mathlib.Omega.{arith}
 use lib.Dec.{eqb}
 use lib.ListN.{getD}
-use native.Mathlib.Omega.{arith}
 use borrow.Author.Tests.{eq-eqb, ne-eqb}
 use Rattle.book.specs.Lent.{KernelLines}
-use Rattle.book.specs.Answers.{Answers, Passing, passing-start, passing-turn, passing-stop, passing-end, answers-same}
+use Rattle.book.specs.Answers.{Passing, passing-start, passing-turn, passing-stop, passing-end, answers-same}
 use Rattle.book.specs.LimitLaws.{states-lines}
 use borrow.Author.Needs.{needs}
 use Rattle.book.proofs.limits.states_within.Statement.{statement}
 use Rattle.book.proofs.limits.states_within.Tie as tie
-use Rattle.book.proofs.limits.states_within.Reads as reads
-use Rattle.book.proofs.limits.states_within.Lts as lts
 
 abbrev Inv-loop : tie.InvT-loop
 Inv-loop kernels n i₀ i = Passing (KernelLines kernels n) (λ ks k. not (eqb (getD kernels (5 * k) 0) (getD kernels (5 * (k + 16)) 0))) (n - 16) i

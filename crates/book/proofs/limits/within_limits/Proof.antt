@@ -1,3 +1,5 @@
+-- `within_limits` meets its contract: where the numbers are within the limits, what is kept is all.
+-- Assumes nothing.
 use mathlib.Core.Path.{sym, ap, _∙_}
 use mathlib.Core.Bool.{Bool, _&&_}
 use Rattle.book.specs.LimitTests.{linesWithin}
@@ -6,10 +8,6 @@ use Rattle.book.specs.LentLaws.{lent-kept}
 use borrow.Author.Needs.{needs}
 use Rattle.book.proofs.limits.within_limits.Statement.{statement}
 use Rattle.book.proofs.limits.within_limits.Tie as tie
-use Rattle.book.proofs.limits.within_limits.Reads as reads
-use Rattle.book.proofs.limits.within_limits.Lts as lts
-use Rattle.book.proofs.limits.lines_within.Reads as lines-within-reads
-use Rattle.book.proofs.limits.numbers_within.Reads as numbers-within-reads
 
 numbers-within-requires : tie.Need-numbers-within-requires
 numbers-within-requires c κs = search needs

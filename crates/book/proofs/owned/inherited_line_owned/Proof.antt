@@ -1,14 +1,10 @@
-use mathlib.Core.Path.{ap}
-use Prim.Native.Nat.{ℕ}
-use lib.ListN.{getD}
+-- `inherited_line_owned` meets its contract: the target, then the leaves left of it.
+-- Assumes nothing.
 use native.Mathlib.Omega.{arith}
 use Rattle.book.specs.OwnedLines.{inherited-line-asked, owner-word}
 use borrow.Author.Needs.{needs}
 use Rattle.book.proofs.owned.inherited_line_owned.Statement.{statement}
 use Rattle.book.proofs.owned.inherited_line_owned.Tie as tie
-use Rattle.book.proofs.owned.inherited_line_owned.Reads as reads
-use Rattle.book.proofs.owned.inherited_line_owned.Lts as lts
-use Rattle.book.proofs.owned.leaves_owned.Reads as leaves-owned-reads
 
 mul-p : tie.Need-mul-p
 mul-p c = search needs

@@ -1,3 +1,5 @@
+-- `inherited_owned` meets its contract: the loop keeps `Passing`.
+-- Assumes nothing.
 use Prim.Native.Nat.{_-_}
 use native.Mathlib.Omega.{arith}
 use borrow.Author.Tests.{not-true, not-false}
@@ -11,9 +13,6 @@ use Rattle.book.specs.OwnedLines.{inherited-there}
 use borrow.Author.Needs.{needs}
 use Rattle.book.proofs.owned.inherited_owned.Statement.{statement}
 use Rattle.book.proofs.owned.inherited_owned.Tie as tie
-use Rattle.book.proofs.owned.inherited_owned.Reads as reads
-use Rattle.book.proofs.owned.inherited_owned.Lts as lts
-use Rattle.book.proofs.owned.inherited_line_owned.Reads as inherited-line-owned-reads
 
 abbrev Inv-loop : tie.InvT-loop
 Inv-loop inherited synthesized rules definitions n i₀ i = Passing (InheritedLines inherited synthesized rules definitions n) (λ b k. ownedInherited b (inheritedAt (b .inheritedDefinitions) k)) n i

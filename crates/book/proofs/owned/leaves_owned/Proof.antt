@@ -1,3 +1,5 @@
+-- `leaves_owned` meets its contract: the loop keeps `Passing` over the nodes, of which the leaves are asked.
+-- Assumes nothing.
 use Prim.Native.Nat.{_-_}
 use mathlib.Core.Path.{_∙_}
 use native.Mathlib.Omega.{arith}
@@ -11,9 +13,6 @@ use Rattle.book.specs.OwnedLines.{ownedNode, leaves-owned-nodes, node-in
 use borrow.Author.Needs.{needs}
 use Rattle.book.proofs.owned.leaves_owned.Statement.{statement}
 use Rattle.book.proofs.owned.leaves_owned.Tie as tie
-use Rattle.book.proofs.owned.leaves_owned.Reads as reads
-use Rattle.book.proofs.owned.leaves_owned.Lts as lts
-use Rattle.book.proofs.owned.place_owned.Reads as place-owned-reads
 
 abbrev Inv-loop : tie.InvT-loop
 Inv-loop inherited synthesized rules definitions i limit p n j₀ j = Passing (LeavesThere inherited synthesized rules definitions i) (λ x k. ownedNode limit x (nodeAt (x .line .expression) k)) n j

@@ -1,3 +1,5 @@
+-- `owned` meets its contract: the parts make the whole.
+-- Assumes nothing.
 use mathlib.Core.Path.{ap₂, _∙_}
 use mathlib.Core.Bool.{_&&_}
 use Rattle.book.specs.LentLaws.{inherited-lines, synthesized-lines}
@@ -5,10 +7,6 @@ use Rattle.book.specs.OwnedLines.{owned-parts}
 use borrow.Author.Needs.{needs}
 use Rattle.book.proofs.owned.owned.Statement.{statement}
 use Rattle.book.proofs.owned.owned.Tie as tie
-use Rattle.book.proofs.owned.owned.Reads as reads
-use Rattle.book.proofs.owned.owned.Lts as lts
-use Rattle.book.proofs.owned.inherited_owned.Reads as inherited-owned-reads
-use Rattle.book.proofs.owned.synthesized_owned.Reads as synthesized-owned-reads
 
 cast-first : tie.Need-cast-first
 cast-first c = search needs

@@ -1,10 +1,10 @@
+-- `place_owned` meets its contract: by the kind of the node; what the node names is there.
+-- Assumes nothing.
 use native.Mathlib.Omega.{arith}
 use Rattle.book.specs.OwnedLaws.{owned-own, owned-at, owned-val, owned-none}
 use borrow.Author.Needs.{needs}
 use Rattle.book.proofs.owned.place_owned.Statement.{statement}
 use Rattle.book.proofs.owned.place_owned.Tie as tie
-use Rattle.book.proofs.owned.place_owned.Reads as reads
-use Rattle.book.proofs.owned.place_owned.Lts as lts
 
 mul-result : tie.Need-mul-result
 mul-result c = search needs

@@ -1,10 +1,9 @@
+-- `synthesized_line_owned` meets its contract: the left side, then all leaves.
+-- Assumes nothing.
 use Rattle.book.specs.OwnedLines.{synthesized-line-asked}
 use borrow.Author.Needs.{needs}
 use Rattle.book.proofs.owned.synthesized_line_owned.Statement.{statement}
 use Rattle.book.proofs.owned.synthesized_line_owned.Tie as tie
-use Rattle.book.proofs.owned.synthesized_line_owned.Reads as reads
-use Rattle.book.proofs.owned.synthesized_line_owned.Lts as lts
-use Rattle.book.proofs.owned.leaves_owned.Reads as leaves-owned-reads
 
 mul-p : tie.Need-mul-p
 mul-p c = search needs

@@ -1,3 +1,5 @@
+-- `synthesized_owned` meets its contract: the loop keeps `Passing`.
+-- Assumes nothing.
 use Prim.Native.Nat.{_-_}
 use native.Mathlib.Omega.{arith}
 use borrow.Author.Tests.{not-true, not-false}
@@ -11,9 +13,6 @@ use Rattle.book.specs.OwnedLines.{synthesized-there}
 use borrow.Author.Needs.{needs}
 use Rattle.book.proofs.owned.synthesized_owned.Statement.{statement}
 use Rattle.book.proofs.owned.synthesized_owned.Tie as tie
-use Rattle.book.proofs.owned.synthesized_owned.Reads as reads
-use Rattle.book.proofs.owned.synthesized_owned.Lts as lts
-use Rattle.book.proofs.owned.synthesized_line_owned.Reads as synthesized-line-owned-reads
 
 abbrev Inv-loop : tie.InvT-loop
 Inv-loop inherited synthesized rules definitions first n i₀ i = Passing (SynthesizedLines inherited synthesized rules definitions first n) (λ b k. ownedSynthesized b (synthesizedAt (b .synthesizedDefinitions) k)) n i

@@ -36,9 +36,15 @@ startCode rules = eqb (getD rules 0 0) 0 && eqb (getD rules 1 0) 1 && leb 32 (ge
 -- a node's words, in a rule with so many right symbols
 unfoldable pub placeCode : Book → ℕ → ℕ → ℕ → ℕ → Bool
 placeCode numbers size kind first second =
-    elim (eqb kind 1) [ true ↦ ltb first (numbers .inherited) | false ↦
-    elim (eqb kind 2) [ true ↦ oneTo size first && ltb second (numbers .synthesized) | false ↦
-    elim (eqb kind 3) [ true ↦ oneTo size first | false ↦ true ] ] ]
+    elim (eqb kind 1) [
+      | true ↦ ltb first (numbers .inherited)
+      | false ↦
+          elim (eqb kind 2) [
+            | true ↦ oneTo size first && ltb second (numbers .synthesized)
+            | false ↦
+                elim (eqb kind 3) [ true ↦ oneTo size first | false ↦ true ]
+          ]
+    ]
 
 -- rule P
 unfoldable pub rightDeclared : ℕ → Lines → Bool

@@ -299,10 +299,15 @@ held b inherited synthesized rules definitions kernels goes i s r d k g =
 pub kept-all : (b : Book) → HasRoom b → kept b ≡ b
 unfolding kept
 kept-all b h =
-    rw (take-all MAX-INHERITED (b .inheritedOwners) (h .inherited-room), take-all MAX-SYNTHESIZED (b .synthesizedOwners) (h .synthesized-room),
-    take-all MAX-RULES (b .rules) (h .rules-room), take-all MAX-DEFINITIONS (b .inheritedDefinitions) (omega (arith, h .definitions-room)),
-    take-all (MAX-DEFINITIONS - length (b .inheritedDefinitions)) (b .synthesizedDefinitions) (omega (arith, h .definitions-room)),
-    take-all MAX-KERNELS (b .kernels) (h .kernels-room), take-all MAX-GOES (b .goes) (h .goes-room))
+    rw (
+      take-all MAX-INHERITED (b .inheritedOwners) (h .inherited-room),
+      take-all MAX-SYNTHESIZED (b .synthesizedOwners) (h .synthesized-room),
+      take-all MAX-RULES (b .rules) (h .rules-room),
+      take-all MAX-DEFINITIONS (b .inheritedDefinitions) (omega (arith, h .definitions-room)),
+      take-all (MAX-DEFINITIONS - length (b .inheritedDefinitions)) (b .synthesizedDefinitions) (omega (arith, h .definitions-room)),
+      take-all MAX-KERNELS (b .kernels) (h .kernels-room),
+      take-all MAX-GOES (b .goes) (h .goes-room),
+    )
 
 pub within-room : {b : Book} → WithinLimits b → HasRoom b
 within-room w =

@@ -130,11 +130,11 @@ states-lines {kernels} {n} ks h =
 
 module _ (b : Lines) where
   numbers-decides : Decides (numbersWithin b) (
-    (OneTo MAX-TERMINALS (b .terminals) × OneTo MAX-NONTERMINALS (b .nonterminals) × OneTo MAX-STATES (b .states))
-    × ((length (b .inheritedOwners) ≤ MAX-INHERITED) × (length (b .synthesizedOwners) ≤ MAX-SYNTHESIZED))
-    × OneTo MAX-RULES (length (b .rules))
-    × ((length (b .inheritedDefinitions) + length (b .synthesizedDefinitions) ≤ MAX-DEFINITIONS) × (length (b .kernels) ≤ MAX-KERNELS)
-    × (length (b .goes) ≤ MAX-GOES)))
+      (OneTo MAX-TERMINALS (b .terminals) × OneTo MAX-NONTERMINALS (b .nonterminals) × OneTo MAX-STATES (b .states))
+      × ((length (b .inheritedOwners) ≤ MAX-INHERITED) × (length (b .synthesizedOwners) ≤ MAX-SYNTHESIZED))
+      × OneTo MAX-RULES (length (b .rules))
+      × ((length (b .inheritedDefinitions) + length (b .synthesizedDefinitions) ≤ MAX-DEFINITIONS) × (length (b .kernels) ≤ MAX-KERNELS)
+      × (length (b .goes) ≤ MAX-GOES)))
   unfolding numbersWithin
   numbers-decides =
       and4-decides
@@ -171,8 +171,12 @@ module _ (b : Lines) where
         goes-limit = g;
       })
       (λ w. (
-        ((w .terminals-limit, w .nonterminals-limit, w .states-limit), (w .inherited-limit, w .synthesized-limit), w .rules-limit,
-        (w .definitions-limit, w .kernels-limit, w .goes-limit)),
+        (
+          (w .terminals-limit, w .nonterminals-limit, w .states-limit),
+          (w .inherited-limit, w .synthesized-limit),
+          w .rules-limit,
+          (w .definitions-limit, w .kernels-limit, w .goes-limit),
+        ),
         ((w .inherited-each, w .synthesized-each), w .right-limit, (w .inherited-nodes, w .synthesized-nodes), w .kernels-each),
       ))
       (and-decides numbers-decides

@@ -106,8 +106,16 @@ module _ {inherited synthesized rules : List ℕ} {b : Lines} (h : DeclaredIn in
     node-there (load (own K)) d = omega (arith, room, ltb-true K (length (b .inheritedOwners)) d, h .inherited-in .long, h .inherited-in .fits)
     node-there (load (at J K)) d =
         let l : K < length (b .synthesizedOwners) = ltb-true K (length (b .synthesizedOwners)) (and-second (isPosition b P J) _ d) in
-        omega (arith, room, low J (and-first _ _ d), h .synthesized-in .long, h .synthesized-in .fits, h .synthesized-in .owner-is K l,
-        synthesized-owner (h .symbols-in) K l .high, h .symbols-in .within .nonterminals-limit .high)
+        omega (
+          arith,
+          room,
+          low J (and-first _ _ d),
+          h .synthesized-in .long,
+          h .synthesized-in .fits,
+          h .synthesized-in .owner-is K l,
+          synthesized-owner (h .symbols-in) K l .high,
+          h .symbols-in .within .nonterminals-limit .high,
+        )
     node-there (load (val J)) d = omega (arith, room, low J d)
     node-there (operate add) d = omega (arith, room)
     node-there (operate sub) d = omega (arith, room)

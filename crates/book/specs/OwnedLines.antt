@@ -144,8 +144,12 @@ module _ {inherited synthesized rules definitions : List ℕ} {b : Lines} (h : D
         attribute-there = attribute;
         position-there = position;
         few-right = right-length (symbols-in .within) (d .rule);
-        owner-low = omega (arith, h .inherited-in .owner-is (d .attribute) attribute, inherited-owner symbols-in (d .attribute) attribute .high,
-        symbols-in .within .nonterminals-limit .high);
+        owner-low = omega (
+          arith,
+          h .inherited-in .owner-is (d .attribute) attribute,
+          inherited-owner symbols-in (d .attribute) attribute .high,
+          symbols-in .within .nonterminals-limit .high,
+        );
       }
 
   pub synthesized-there : (i : ℕ) {n : ℕ} → n ≡ length (b .inheritedDefinitions) → i < length (b .synthesizedDefinitions)

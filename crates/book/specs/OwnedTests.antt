@@ -14,9 +14,15 @@ use Rattle.book.specs.Lent.{Entry}
 -- a node's words, in rule p and left of a position
 unfoldable pub ownedCode : List ℕ → List ℕ → List ℕ → ℕ → ℕ → ℕ → ℕ → ℕ → Bool
 ownedCode inherited synthesized rules p limit kind first second =
-    elim (eqb kind 1) [ true ↦ eqb (getD inherited first 0) (getD rules (10 * p) 0) | false ↦
-    elim (eqb kind 2) [ true ↦ eqb (getD rules (10 * p + 1 + first) 0) (32 + getD synthesized second 0) && ltb first limit | false ↦
-    elim (eqb kind 3) [ true ↦ ltb (getD rules (10 * p + 1 + first) 0) 32 && ltb first limit | false ↦ true ] ] ]
+    elim (eqb kind 1) [
+      | true ↦ eqb (getD inherited first 0) (getD rules (10 * p) 0)
+      | false ↦
+          elim (eqb kind 2) [
+            | true ↦ eqb (getD rules (10 * p + 1 + first) 0) (32 + getD synthesized second 0) && ltb first limit
+            | false ↦
+                elim (eqb kind 3) [ true ↦ ltb (getD rules (10 * p + 1 + first) 0) 32 && ltb first limit | false ↦ true ]
+          ]
+    ]
 
 unfoldable pub leavesOwned : ℕ → Entry → Bool
 leavesOwned limit x = allLeaves (ownedPlace (x .book) (x .line .rule)) (x .line .expression) && allLeaves (before limit) (x .line .expression)

@@ -6,7 +6,6 @@ ghost use Rattle.grammar.specs.ConditionTests.{declared};
 ghost use Rattle.book.specs.Answers.{Some, Answers};
 ghost use Rattle.book.specs.Lent.{RulesOf, RuleOf, LeavesOf, EntryOf, DefinitionsOf, KernelsOf, KernelOf, GoesOf, GrammarOf, Within};
 ghost use Rattle.book.specs.DeclaredTests.{rightCode, goCode, startCode, placeCode, rightDeclared, ruleDeclared, rulesDeclared, leavesDeclared, definitionDeclared, inheritedLineDeclared, inheritedDeclared, synthesizedDeclared, kernelDeclared, kernelsDeclared, goesDeclared, grammarDeclared};
-
 use super::Book;
 use super::limits::one_to;
 
@@ -119,7 +118,13 @@ fn leaves_declared(book: Book, definitions: &[u32], i: usize, size: u32) -> bool
     let mut j = 0;
     while j < n {
         let k = 49 * i + 4 + 3 * j;
-        if !place_declared(book, size, definitions[k], definitions[k + 1], definitions[k + 2]) {
+        if !place_declared(
+            book,
+            size,
+            definitions[k],
+            definitions[k + 1],
+            definitions[k + 2],
+        ) {
             return false;
         }
         j += 1;
@@ -128,7 +133,13 @@ fn leaves_declared(book: Book, definitions: &[u32], i: usize, size: u32) -> bool
 }
 
 // Whether the definition in line i names a rule, one of so many attributes, and leaves that are declared.
-fn definition_declared(book: Book, rules: &[u32], definitions: &[u32], i: usize, attributes: u32) -> bool
+fn definition_declared(
+    book: Book,
+    rules: &[u32],
+    definitions: &[u32],
+    i: usize,
+    attributes: u32,
+) -> bool
     requires { ⌜ Some (EntryOf book (now rules) (now definitions) i) ⌝ }
     ensures { λ r. ⌜ Answers (EntryOf book (now (rules .entry)) (now (definitions .entry)) i) (definitionDeclared attributes) r ⌝ }
 {
@@ -191,7 +202,9 @@ fn kernel_declared(book: Book, rules: &[u32], kernels: &[u32], i: usize) -> bool
     let p = kernels[5 * i + 1];
     if p < book.rules {
         let size = rules[10 * p as usize + 1];
-        return (kernels[5 * i] < book.states) & (kernels[5 * i + 2] <= size) & (kernels[5 * i + 3] <= book.terminals);
+        return (kernels[5 * i] < book.states)
+            & (kernels[5 * i + 2] <= size)
+            & (kernels[5 * i + 3] <= book.terminals);
     }
     false
 }
@@ -240,16 +253,23 @@ fn grammar_declared(book: Book, inherited: &[u32], synthesized: &[u32], rules: &
 }
 
 // Whether every name, rule, position and state that the book mentions is declared.
-pub fn declared(book: Book, inherited: &[u32], synthesized: &[u32], rules: &[u32], definitions: &[u32], kernels: &[u32], goes: &[u32]) -> bool
+pub fn declared(
+    book: Book,
+    inherited: &[u32],
+    synthesized: &[u32],
+    rules: &[u32],
+    definitions: &[u32],
+    kernels: &[u32],
+    goes: &[u32],
+) -> bool
     requires { ⌜ Some (Within book (now inherited) (now synthesized) (now rules) (now definitions) (now kernels) (now goes)) ⌝ }
-    ensures {
-        λ r. ⌜ Answers
-            (Within book (now (inherited .entry)) (now (synthesized .entry)) (now (rules .entry)) (now (definitions .entry)) (now (kernels .entry)) (now (goes .entry)))
-            declared r ⌝
-    }
+    ensures { λ r. ⌜ Answers
+        (Within book (now (inherited .entry)) (now (synthesized .entry)) (now (rules .entry)) (now (definitions .entry)) (now (kernels .entry)) (now (goes .entry)))
+        declared r ⌝ }
 {
     let grammar = grammar_declared(book, inherited, synthesized, rules);
-    let attributes = inherited_declared(book, rules, definitions) & synthesized_declared(book, rules, definitions);
+    let attributes = inherited_declared(book, rules, definitions)
+        & synthesized_declared(book, rules, definitions);
     let states = kernels_declared(book, rules, kernels) & goes_declared(book, goes);
     grammar & attributes & states
 }

@@ -7,7 +7,6 @@ ghost use Rattle.grammar.specs.ConditionTests.{defined};
 ghost use Rattle.book.specs.Answers.{Some, Answers};
 ghost use Rattle.book.specs.Lent.{DeclaredBook, InheritedSide, InheritedRule, InheritedPlace, InheritedAttribute, SynthesizedSide, SynthesizedRule, SynthesizedAttribute};
 ghost use Rattle.book.specs.DefinedTests.{definesCode, inheritedAttributeDefined, positionDefined, inheritedRuleDefined, inheritedDefined, synthesizedAttributeDefined, synthesizedRuleDefined, synthesizedDefined};
-
 use super::Book;
 
 // Whether one of n lines from the first on defines attribute k at position j of rule p.
@@ -18,7 +17,10 @@ fn defines(definitions: &[u32], first: usize, n: usize, p: usize, j: usize, k: u
     let mut i = 0;
     while i < n {
         let w = 49 * (first + i);
-        if (definitions[w] as usize == p) & (definitions[w + 1] as usize == j) & (definitions[w + 2] as usize == k) {
+        if (definitions[w] as usize == p)
+            & (definitions[w + 1] as usize == j)
+            & (definitions[w + 2] as usize == k)
+        {
             return true;
         }
         i += 1;
@@ -27,12 +29,18 @@ fn defines(definitions: &[u32], first: usize, n: usize, p: usize, j: usize, k: u
 }
 
 // Whether inherited attribute k has a definition, if it is one of right symbol j of rule p.
-fn inherited_attribute_defined(inherited: &[u32], rules: &[u32], definitions: &[u32], n: usize, p: usize, j: usize, k: usize) -> bool
+fn inherited_attribute_defined(
+    inherited: &[u32],
+    rules: &[u32],
+    definitions: &[u32],
+    n: usize,
+    p: usize,
+    j: usize,
+    k: usize,
+) -> bool
     requires { ⌜ Some (InheritedAttribute (now inherited) (now rules) (now definitions) n p j k) ⌝ }
-    ensures {
-        λ r. ⌜ Answers (InheritedAttribute (now (inherited .entry)) (now (rules .entry)) (now (definitions .entry)) n p j k)
-            (inheritedAttributeDefined p j k) r ⌝
-    }
+    ensures { λ r. ⌜ Answers (InheritedAttribute (now (inherited .entry)) (now (rules .entry)) (now (definitions .entry)) n p j k)
+        (inheritedAttributeDefined p j k) r ⌝ }
 {
     if rules[10 * p + 1 + j] == 32 + inherited[k] {
         return defines(definitions, 0, n, p, j, k);
@@ -41,12 +49,18 @@ fn inherited_attribute_defined(inherited: &[u32], rules: &[u32], definitions: &[
 }
 
 // Whether all inherited attributes of right symbol j of rule p have a definition.
-fn position_defined(inherited: &[u32], rules: &[u32], definitions: &[u32], attributes: usize, n: usize, p: usize, j: usize) -> bool
+fn position_defined(
+    inherited: &[u32],
+    rules: &[u32],
+    definitions: &[u32],
+    attributes: usize,
+    n: usize,
+    p: usize,
+    j: usize,
+) -> bool
     requires { ⌜ Some (InheritedPlace (now inherited) (now rules) (now definitions) attributes n p j) ⌝ }
-    ensures {
-        λ r. ⌜ Answers (InheritedPlace (now (inherited .entry)) (now (rules .entry)) (now (definitions .entry)) attributes n p j)
-            (positionDefined p j) r ⌝
-    }
+    ensures { λ r. ⌜ Answers (InheritedPlace (now (inherited .entry)) (now (rules .entry)) (now (definitions .entry)) attributes n p j)
+        (positionDefined p j) r ⌝ }
 {
     let mut k = 0;
     while k < attributes {
@@ -58,12 +72,17 @@ fn position_defined(inherited: &[u32], rules: &[u32], definitions: &[u32], attri
     true
 }
 
-fn inherited_rule_defined(inherited: &[u32], rules: &[u32], definitions: &[u32], attributes: usize, n: usize, p: usize) -> bool
+fn inherited_rule_defined(
+    inherited: &[u32],
+    rules: &[u32],
+    definitions: &[u32],
+    attributes: usize,
+    n: usize,
+    p: usize,
+) -> bool
     requires { ⌜ Some (InheritedRule (now inherited) (now rules) (now definitions) attributes n p) ⌝ }
-    ensures {
-        λ r. ⌜ Answers (InheritedRule (now (inherited .entry)) (now (rules .entry)) (now (definitions .entry)) attributes n p)
-            (inheritedRuleDefined p) r ⌝
-    }
+    ensures { λ r. ⌜ Answers (InheritedRule (now (inherited .entry)) (now (rules .entry)) (now (definitions .entry)) attributes n p)
+        (inheritedRuleDefined p) r ⌝ }
 {
     let size = rules[10 * p + 1] as usize;
     let mut d = 0;
@@ -76,11 +95,16 @@ fn inherited_rule_defined(inherited: &[u32], rules: &[u32], definitions: &[u32],
     true
 }
 
-fn inherited_defined(inherited: &[u32], rules: &[u32], definitions: &[u32], attributes: usize, n: usize, count: usize) -> bool
+fn inherited_defined(
+    inherited: &[u32],
+    rules: &[u32],
+    definitions: &[u32],
+    attributes: usize,
+    n: usize,
+    count: usize,
+) -> bool
     requires { ⌜ Some (InheritedSide (now inherited) (now rules) (now definitions) attributes n count) ⌝ }
-    ensures {
-        λ r. ⌜ Answers (InheritedSide (now (inherited .entry)) (now (rules .entry)) (now (definitions .entry)) attributes n count) inheritedDefined r ⌝
-    }
+    ensures { λ r. ⌜ Answers (InheritedSide (now (inherited .entry)) (now (rules .entry)) (now (definitions .entry)) attributes n count) inheritedDefined r ⌝ }
 {
     let mut p = 0;
     while p < count {
@@ -93,12 +117,18 @@ fn inherited_defined(inherited: &[u32], rules: &[u32], definitions: &[u32], attr
 }
 
 // Whether synthesized attribute k has a definition, if it is one of the left side of rule p.
-fn synthesized_attribute_defined(synthesized: &[u32], rules: &[u32], definitions: &[u32], first: usize, n: usize, p: usize, k: usize) -> bool
+fn synthesized_attribute_defined(
+    synthesized: &[u32],
+    rules: &[u32],
+    definitions: &[u32],
+    first: usize,
+    n: usize,
+    p: usize,
+    k: usize,
+) -> bool
     requires { ⌜ Some (SynthesizedAttribute (now synthesized) (now rules) (now definitions) first n p k) ⌝ }
-    ensures {
-        λ r. ⌜ Answers (SynthesizedAttribute (now (synthesized .entry)) (now (rules .entry)) (now (definitions .entry)) first n p k)
-            (synthesizedAttributeDefined p k) r ⌝
-    }
+    ensures { λ r. ⌜ Answers (SynthesizedAttribute (now (synthesized .entry)) (now (rules .entry)) (now (definitions .entry)) first n p k)
+        (synthesizedAttributeDefined p k) r ⌝ }
 {
     if synthesized[k] == rules[10 * p] {
         return defines(definitions, first, n, p, 0, k);
@@ -106,12 +136,18 @@ fn synthesized_attribute_defined(synthesized: &[u32], rules: &[u32], definitions
     true
 }
 
-fn synthesized_rule_defined(synthesized: &[u32], rules: &[u32], definitions: &[u32], attributes: usize, first: usize, n: usize, p: usize) -> bool
+fn synthesized_rule_defined(
+    synthesized: &[u32],
+    rules: &[u32],
+    definitions: &[u32],
+    attributes: usize,
+    first: usize,
+    n: usize,
+    p: usize,
+) -> bool
     requires { ⌜ Some (SynthesizedRule (now synthesized) (now rules) (now definitions) attributes first n p) ⌝ }
-    ensures {
-        λ r. ⌜ Answers (SynthesizedRule (now (synthesized .entry)) (now (rules .entry)) (now (definitions .entry)) attributes first n p)
-            (synthesizedRuleDefined p) r ⌝
-    }
+    ensures { λ r. ⌜ Answers (SynthesizedRule (now (synthesized .entry)) (now (rules .entry)) (now (definitions .entry)) attributes first n p)
+        (synthesizedRuleDefined p) r ⌝ }
 {
     let mut k = 0;
     while k < attributes {
@@ -123,12 +159,18 @@ fn synthesized_rule_defined(synthesized: &[u32], rules: &[u32], definitions: &[u
     true
 }
 
-fn synthesized_defined(synthesized: &[u32], rules: &[u32], definitions: &[u32], attributes: usize, first: usize, n: usize, count: usize) -> bool
+fn synthesized_defined(
+    synthesized: &[u32],
+    rules: &[u32],
+    definitions: &[u32],
+    attributes: usize,
+    first: usize,
+    n: usize,
+    count: usize,
+) -> bool
     requires { ⌜ Some (SynthesizedSide (now synthesized) (now rules) (now definitions) attributes first n count) ⌝ }
-    ensures {
-        λ r. ⌜ Answers (SynthesizedSide (now (synthesized .entry)) (now (rules .entry)) (now (definitions .entry)) attributes first n count)
-            synthesizedDefined r ⌝
-    }
+    ensures { λ r. ⌜ Answers (SynthesizedSide (now (synthesized .entry)) (now (rules .entry)) (now (definitions .entry)) attributes first n count)
+        synthesizedDefined r ⌝ }
 {
     let mut p = 0;
     while p < count {
@@ -141,17 +183,36 @@ fn synthesized_defined(synthesized: &[u32], rules: &[u32], definitions: &[u32], 
 }
 
 // Whether no definition is missing.
-pub fn defined(book: Book, inherited: &[u32], synthesized: &[u32], rules: &[u32], definitions: &[u32]) -> bool
+pub fn defined(
+    book: Book,
+    inherited: &[u32],
+    synthesized: &[u32],
+    rules: &[u32],
+    definitions: &[u32],
+) -> bool
     requires { ⌜ Some (DeclaredBook book (now inherited) (now synthesized) (now rules) (now definitions)) ⌝ }
-    ensures {
-        λ r. ⌜ Answers (DeclaredBook book (now (inherited .entry)) (now (synthesized .entry)) (now (rules .entry)) (now (definitions .entry)))
-            defined r ⌝
-    }
+    ensures { λ r. ⌜ Answers (DeclaredBook book (now (inherited .entry)) (now (synthesized .entry)) (now (rules .entry)) (now (definitions .entry)))
+        defined r ⌝ }
 {
     let first = book.inherited_definitions as usize;
     let n = book.synthesized_definitions as usize;
     let count = book.rules as usize;
-    let right = inherited_defined(inherited, rules, definitions, book.inherited as usize, first, count);
-    let left = synthesized_defined(synthesized, rules, definitions, book.synthesized as usize, first, n, count);
+    let right = inherited_defined(
+        inherited,
+        rules,
+        definitions,
+        book.inherited as usize,
+        first,
+        count,
+    );
+    let left = synthesized_defined(
+        synthesized,
+        rules,
+        definitions,
+        book.synthesized as usize,
+        first,
+        n,
+        count,
+    );
     right & left
 }

@@ -7,7 +7,6 @@ ghost use Rattle.grammar.specs.ConditionTests.{withinLimits};
 ghost use Rattle.book.specs.Answers.{Some, Answers};
 ghost use Rattle.book.specs.Lent.{Counted, RuleLines, DefinitionLines, KernelLines, Kept, Lent};
 ghost use Rattle.book.specs.LimitTests.{numbersWithin, rightsWithin, nodesWithin, statesWithin, linesWithin};
-
 use super::Book;
 
 // Whether k is 1 to n.
@@ -21,10 +20,15 @@ pub fn one_to(n: u32, k: u32) -> bool
 fn numbers_within(book: Book) -> bool
     ensures { λ r. ⌜ Answers (Counted book) numbersWithin r ⌝ }
 {
-    let first = one_to(Book::MAX_TERMINALS, book.terminals) & one_to(Book::MAX_NONTERMINALS, book.nonterminals) & one_to(Book::MAX_STATES, book.states);
-    let owners = (book.inherited <= Book::MAX_INHERITED) & (book.synthesized <= Book::MAX_SYNTHESIZED);
+    let first = one_to(Book::MAX_TERMINALS, book.terminals)
+        & one_to(Book::MAX_NONTERMINALS, book.nonterminals)
+        & one_to(Book::MAX_STATES, book.states);
+    let owners = (book.inherited <= Book::MAX_INHERITED)
+        & (book.synthesized <= Book::MAX_SYNTHESIZED);
     let definitions = book.inherited_definitions as u64 + book.synthesized_definitions as u64;
-    let lines = (definitions <= Book::MAX_DEFINITIONS as u64) & (book.kernels <= Book::MAX_KERNELS) & (book.goes <= Book::MAX_GOES);
+    let lines = (definitions <= Book::MAX_DEFINITIONS as u64)
+        & (book.kernels <= Book::MAX_KERNELS)
+        & (book.goes <= Book::MAX_GOES);
     first & owners & one_to(Book::MAX_RULES, book.rules) & lines
 }
 
@@ -104,29 +108,42 @@ fn states_within(kernels: &[u32], n: usize) -> bool
 }
 
 // Whether the lines are within the limits, where each has room.
-fn lines_within(book: Book, inherited: &[u32], synthesized: &[u32], rules: &[u32], definitions: &[u32], kernels: &[u32]) -> bool
+fn lines_within(
+    book: Book,
+    inherited: &[u32],
+    synthesized: &[u32],
+    rules: &[u32],
+    definitions: &[u32],
+    kernels: &[u32],
+) -> bool
     requires { ⌜ Some (Lent book (now inherited) (now synthesized) (now rules) (now definitions) (now kernels)) ⌝ }
-    ensures {
-        λ r. ⌜ Answers
-            (Lent book (now (inherited .entry)) (now (synthesized .entry)) (now (rules .entry)) (now (definitions .entry)) (now (kernels .entry)))
-            linesWithin r ⌝
-    }
+    ensures { λ r. ⌜ Answers
+        (Lent book (now (inherited .entry)) (now (synthesized .entry)) (now (rules .entry)) (now (definitions .entry)) (now (kernels .entry)))
+        linesWithin r ⌝ }
 {
     let i = book.inherited as usize;
     let s = book.synthesized as usize;
     let owners = few(&inherited[..i], 4) & few(&synthesized[..s], 4);
     let n = book.inherited_definitions as usize + book.synthesized_definitions as usize;
-    owners & rights_within(rules, book.rules as usize) & nodes_within(definitions, n) & states_within(kernels, book.kernels as usize)
+    owners
+        & rights_within(rules, book.rules as usize)
+        & nodes_within(definitions, n)
+        & states_within(kernels, book.kernels as usize)
 }
 
 // Whether the book is within its limits. Of lines past an array's room only the number is known, and that is too large.
-pub fn within_limits(book: Book, inherited: &[u32], synthesized: &[u32], rules: &[u32], definitions: &[u32], kernels: &[u32]) -> bool
+pub fn within_limits(
+    book: Book,
+    inherited: &[u32],
+    synthesized: &[u32],
+    rules: &[u32],
+    definitions: &[u32],
+    kernels: &[u32],
+) -> bool
     requires { ⌜ Some (Kept book (now inherited) (now synthesized) (now rules) (now definitions) (now kernels)) ⌝ }
-    ensures {
-        λ r. ⌜ Answers
-            (Kept book (now (inherited .entry)) (now (synthesized .entry)) (now (rules .entry)) (now (definitions .entry)) (now (kernels .entry)))
-            withinLimits r ⌝
-    }
+    ensures { λ r. ⌜ Answers
+        (Kept book (now (inherited .entry)) (now (synthesized .entry)) (now (rules .entry)) (now (definitions .entry)) (now (kernels .entry)))
+        withinLimits r ⌝ }
 {
     if numbers_within(book) {
         return lines_within(book, inherited, synthesized, rules, definitions, kernels);

@@ -23,11 +23,13 @@ goes-declared-requires : tie.Need-goes-declared-requires
 goes-declared-requires c κs = let h = c .before .before .before .before .before .before .before .before .before .before .pre in (h .0, goes-of (h .1))
 
 returns : tie.Need-returns
-returns c = record { for-all = λ b h.
-    ap₂ _&&_ (ap₂ _&&_ (c .before .before .before .before .grammar-declared .ensures .for-all b (grammar-of h))
-    (ap₂ _&&_ (c .before .before .before .inherited-declared .ensures .for-all b (definitions-of h)) (c .before .before .synthesized-declared .ensures .for-all b (definitions-of h))))
-    (ap₂ _&&_ (c .before .kernels-declared .ensures .for-all b (kernels-of h)) (c .goes-declared .ensures .for-all b (goes-of h)))
-    ∙ declared-parts b }
+returns c = record {
+  for-all = λ b h.
+      ap₂ _&&_ (ap₂ _&&_ (c .before .before .before .before .grammar-declared .ensures .for-all b (grammar-of h))
+      (ap₂ _&&_ (c .before .before .before .inherited-declared .ensures .for-all b (definitions-of h)) (c .before .before .synthesized-declared .ensures .for-all b (definitions-of h))))
+      (ap₂ _&&_ (c .before .kernels-declared .ensures .for-all b (kernels-of h)) (c .goes-declared .ensures .for-all b (goes-of h)))
+      ∙ declared-parts b;
+}
 
 pub declared-spec : {M : Type 1} → statement M
 declared-spec =

@@ -46,8 +46,10 @@ leaves-declared-requires c κs = let h = c .before .before .before .before .befo
     (h .0, leaves-of (h .1) (c .before .before .if1 .taken))
 
 returns : tie.Need-returns
-returns c = record { for-all = λ x h. let l = c .before .before .before .if1 .taken in
-    definition-asked h _ l (c .leaves-declared .ensures .for-all x (leaves-of h l)) }
+returns c = record {
+  for-all = λ x h. let l = c .before .before .before .if1 .taken in
+      definition-asked h _ l (c .leaves-declared .ensures .for-all x (leaves-of h l));
+}
 
 returns-2 : tie.Need-returns-2
 returns-2 c = record { for-all = λ x h. definition-refused h _ (c .if1 .left) }

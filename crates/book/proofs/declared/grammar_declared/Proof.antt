@@ -37,11 +37,13 @@ rules-declared-requires c κs = let h = c .before .before .before .before .befor
 
 returns : tie.Need-returns
 unfolding grammarDeclared
-returns c = record { for-all = λ b h. let k = h .rules-of .counted in
-    ap₂ _&&_ (ap₂ _&&_
-    (c .before .before .before .before .owners-declared .ensures ∙ ap₂ (λ (n : ℕ). all (oneTo n)) (k .nonterminals-are) (owners-are (h .inherited-in) (k .inherited-are)))
-    (c .before .before .owners-declared2 .ensures ∙ ap₂ (λ (n : ℕ). all (oneTo n)) (k .nonterminals-are) (owners-are (h .synthesized-in) (k .synthesized-are))))
-    (ap₂ _&&_ (c .before .start-declared .ensures) (c .rules-declared .ensures .for-all b (h .rules-of)) ∙ start-rules (h .rules-of .within) (h .rules-of .rules-in)) }
+returns c = record {
+  for-all = λ b h. let k = h .rules-of .counted in
+      ap₂ _&&_ (ap₂ _&&_
+      (c .before .before .before .before .owners-declared .ensures ∙ ap₂ (λ (n : ℕ). all (oneTo n)) (k .nonterminals-are) (owners-are (h .inherited-in) (k .inherited-are)))
+      (c .before .before .owners-declared2 .ensures ∙ ap₂ (λ (n : ℕ). all (oneTo n)) (k .nonterminals-are) (owners-are (h .synthesized-in) (k .synthesized-are))))
+      (ap₂ _&&_ (c .before .start-declared .ensures) (c .rules-declared .ensures .for-all b (h .rules-of)) ∙ start-rules (h .rules-of .within) (h .rules-of .rules-in));
+}
 
 pub grammar-declared-spec : {M : Type 1} → statement M
 grammar-declared-spec =

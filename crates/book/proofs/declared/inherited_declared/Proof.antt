@@ -34,8 +34,10 @@ unfolding inheritedDeclared inheritedLineDeclared
 returns c = let a = c .before in
     let k = a .before .before in
     all-stop _ (λ b. b .inheritedDefinitions) declaredInherited (λ b h. h .rules-of .counted .inherited-definitions-are) (k .loop .inv) (omega arith)
-    (record { for-all = λ b h. a .inherited-line-declared .ensures .for-all (inheritedEntry b (k .loop .i))
-    (inherited-entry h (k .loop .i) (omega (arith, h .rules-of .counted .inherited-definitions-are))) })
+    (record {
+      for-all = λ b h. a .inherited-line-declared .ensures .for-all (inheritedEntry b (k .loop .i))
+          (inherited-entry h (k .loop .i) (omega (arith, h .rules-of .counted .inherited-definitions-are)));
+    })
     (not-true _ (c .if1 .taken))
 
 add-i : tie.Need-add-i Inv-loop μ-loop
@@ -49,8 +51,10 @@ unfolding inheritedLineDeclared
 loop-again c = let a = c .before in
     let k = a .before .before in
     passing-turn (k .loop .inv) (omega arith)
-    (record { for-all = λ b h. a .inherited-line-declared .ensures .for-all (inheritedEntry b (k .loop .i))
-    (inherited-entry h (k .loop .i) (omega (arith, h .rules-of .counted .inherited-definitions-are))) })
+    (record {
+      for-all = λ b h. a .inherited-line-declared .ensures .for-all (inheritedEntry b (k .loop .i))
+          (inherited-entry h (k .loop .i) (omega (arith, h .rules-of .counted .inherited-definitions-are)));
+    })
     (not-false _ (c .if1 .left))
 
 returns-2 : tie.Need-returns-2 Inv-loop μ-loop

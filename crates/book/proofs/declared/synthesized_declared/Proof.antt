@@ -44,9 +44,11 @@ unfolding synthesizedDeclared
 returns c = let a = c .before in
     let k = a .before .before in
     all-stop _ (λ b. b .synthesizedDefinitions) declaredSynthesized (λ b h. h .rules-of .counted .synthesized-definitions-are) (k .loop .inv) (omega arith)
-    (record { for-all = λ b h. let n = h .rules-of .counted in
-    a .definition-declared .ensures .for-all (synthesizedEntry b (k .loop .i))
-    (synthesized-entry h (k .loop .i) (n .inherited-definitions-are) (omega (arith, n .synthesized-definitions-are))) ∙ synthesized-parts (k .loop .i) n })
+    (record {
+      for-all = λ b h. let n = h .rules-of .counted in
+          a .definition-declared .ensures .for-all (synthesizedEntry b (k .loop .i))
+          (synthesized-entry h (k .loop .i) (n .inherited-definitions-are) (omega (arith, n .synthesized-definitions-are))) ∙ synthesized-parts (k .loop .i) n;
+    })
     (not-true _ (c .if1 .taken))
 
 add-i : tie.Need-add-i Inv-loop μ-loop
@@ -59,9 +61,11 @@ loop-again : tie.Need-loop-again Inv-loop μ-loop
 loop-again c = let a = c .before in
     let k = a .before .before in
     passing-turn (k .loop .inv) (omega arith)
-    (record { for-all = λ b h. let n = h .rules-of .counted in
-    a .definition-declared .ensures .for-all (synthesizedEntry b (k .loop .i))
-    (synthesized-entry h (k .loop .i) (n .inherited-definitions-are) (omega (arith, n .synthesized-definitions-are))) ∙ synthesized-parts (k .loop .i) n })
+    (record {
+      for-all = λ b h. let n = h .rules-of .counted in
+          a .definition-declared .ensures .for-all (synthesizedEntry b (k .loop .i))
+          (synthesized-entry h (k .loop .i) (n .inherited-definitions-are) (omega (arith, n .synthesized-definitions-are))) ∙ synthesized-parts (k .loop .i) n;
+    })
     (not-false _ (c .if1 .left))
 
 returns-2 : tie.Need-returns-2 Inv-loop μ-loop

@@ -29,8 +29,10 @@ synthesized-defined-requires : tie.Need-synthesized-defined-requires
 synthesized-defined-requires c κs = let h = c .before .before .before .before .before .before .before .before .before .before .pre in (h .0, synthesized-side (h .1))
 
 returns : tie.Need-returns
-returns c = record { for-all = λ b h. ap₂ _&&_ (c .before .before .inherited-defined .ensures .for-all b (inherited-side h))
-    (c .synthesized-defined .ensures .for-all b (synthesized-side h)) ∙ defined-parts b }
+returns c = record {
+  for-all = λ b h. ap₂ _&&_ (c .before .before .inherited-defined .ensures .for-all b (inherited-side h))
+      (c .synthesized-defined .ensures .for-all b (synthesized-side h)) ∙ defined-parts b;
+}
 
 pub defined-spec : {M : Type 1} → statement M
 defined-spec =

@@ -53,12 +53,14 @@ states-within-requires c κs = let h = c .before .before .before .before .before
 
 returns : tie.Need-returns
 unfolding linesWithin
-returns c = record { for-all = λ b h. ap₂ _&&_ (ap₂ _&&_ (ap₂ _&&_ (ap₂ _&&_
-    (c .before .before .before .before .before .before .before .before .before .few .ensures ∙ ap (few 4) (owners-are (h .inherited-in) (h .counted .inherited-are)))
-    (c .before .before .before .before .before .before .before .few2 .ensures ∙ ap (few 4) (owners-are (h .synthesized-in) (h .counted .synthesized-are))))
-    (c .before .before .before .rights-within .ensures .for-all (b .rules) (rule-lines h)))
-    (c .before .before .nodes-within .ensures .for-all b (definition-lines h)))
-    (c .states-within .ensures .for-all (b .kernels) (kernel-lines h)) }
+returns c = record {
+  for-all = λ b h. ap₂ _&&_ (ap₂ _&&_ (ap₂ _&&_ (ap₂ _&&_
+      (c .before .before .before .before .before .before .before .before .before .few .ensures ∙ ap (few 4) (owners-are (h .inherited-in) (h .counted .inherited-are)))
+      (c .before .before .before .before .before .before .before .few2 .ensures ∙ ap (few 4) (owners-are (h .synthesized-in) (h .counted .synthesized-are))))
+      (c .before .before .before .rights-within .ensures .for-all (b .rules) (rule-lines h)))
+      (c .before .before .nodes-within .ensures .for-all b (definition-lines h)))
+      (c .states-within .ensures .for-all (b .kernels) (kernel-lines h));
+}
 
 pub lines-within-spec : {M : Type 1} → statement M
 lines-within-spec =

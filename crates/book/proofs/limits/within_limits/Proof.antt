@@ -18,14 +18,18 @@ lines-within-requires c κs = let h = c .before .before .before .before .before 
 
 returns : tie.Need-returns
 returns c = let n = c .before .before in
-    record { for-all = λ b h.
-    let numbers = sym (n .numbers-within .ensures .for-all b (h .counted)) ∙ c .before .if1 .taken in
-    c .lines-within .ensures .for-all b (lent-kept h (numbers-room b numbers))
-    ∙ (ap (λ (t : Bool). t && linesWithin b) (sym numbers) ∙ limits-parts b) }
+    record {
+      for-all = λ b h.
+          let numbers = sym (n .numbers-within .ensures .for-all b (h .counted)) ∙ c .before .if1 .taken in
+          c .lines-within .ensures .for-all b (lent-kept h (numbers-room b numbers))
+          ∙ (ap (λ (t : Bool). t && linesWithin b) (sym numbers) ∙ limits-parts b);
+    }
 
 returns-2 : tie.Need-returns-2
-returns-2 c = record { for-all = λ b h.
-    ap (λ (t : Bool). t && linesWithin b) (sym (c .if1 .left) ∙ c .before .numbers-within .ensures .for-all b (h .counted)) ∙ limits-parts b }
+returns-2 c = record {
+  for-all = λ b h.
+      ap (λ (t : Bool). t && linesWithin b) (sym (c .if1 .left) ∙ c .before .numbers-within .ensures .for-all b (h .counted)) ∙ limits-parts b;
+}
 
 pub within-limits-spec : {M : Type 1} → statement M
 within-limits-spec =

@@ -21,8 +21,10 @@ synthesized-owned-requires : tie.Need-synthesized-owned-requires
 synthesized-owned-requires c κs = let h = c .before .before .before .before .before .before .before .pre in (h .0, synthesized-lines (h .1))
 
 returns : tie.Need-returns
-returns c = record { for-all = λ b h. ap₂ _&&_ (c .before .inherited-owned .ensures .for-all b (inherited-lines h))
-    (c .synthesized-owned .ensures .for-all b (synthesized-lines h)) ∙ owned-parts b }
+returns c = record {
+  for-all = λ b h. ap₂ _&&_ (c .before .inherited-owned .ensures .for-all b (inherited-lines h))
+      (c .synthesized-owned .ensures .for-all b (synthesized-lines h)) ∙ owned-parts b;
+}
 
 pub owned-spec : {M : Type 1} → statement M
 owned-spec =

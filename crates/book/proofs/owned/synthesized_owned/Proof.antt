@@ -35,8 +35,10 @@ unfolding synthesizedOwned synthesizedLineOwned ownedSynthesized
 returns c = let a = c .before in
     let k = a .before .before in
     all-stop _ (λ b. b .synthesizedDefinitions) ownedSynthesized (λ b h. h .count) (k .loop .inv) (omega arith)
-    (record { for-all = λ b h.
-    a .synthesized-line-owned .ensures .for-all (synthesizedEntry b (k .loop .i)) (synthesized-there (h .lines) (k .loop .i) (h .start) (omega (arith, h .count))) })
+    (record {
+      for-all = λ b h.
+          a .synthesized-line-owned .ensures .for-all (synthesizedEntry b (k .loop .i)) (synthesized-there (h .lines) (k .loop .i) (h .start) (omega (arith, h .count)));
+    })
     (not-true _ (c .if1 .taken))
 
 add-i : tie.Need-add-i Inv-loop μ-loop
@@ -50,8 +52,10 @@ unfolding synthesizedLineOwned ownedSynthesized
 loop-again c = let a = c .before in
     let k = a .before .before in
     passing-turn (k .loop .inv) (omega arith)
-    (record { for-all = λ b h.
-    a .synthesized-line-owned .ensures .for-all (synthesizedEntry b (k .loop .i)) (synthesized-there (h .lines) (k .loop .i) (h .start) (omega (arith, h .count))) })
+    (record {
+      for-all = λ b h.
+          a .synthesized-line-owned .ensures .for-all (synthesizedEntry b (k .loop .i)) (synthesized-there (h .lines) (k .loop .i) (h .start) (omega (arith, h .count)));
+    })
     (not-false _ (c .if1 .left))
 
 returns-2 : tie.Need-returns-2 Inv-loop μ-loop

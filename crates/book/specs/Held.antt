@@ -14,7 +14,7 @@ use Rattle.grammar.specs.Limits.{
   MAX-KERNELS,
   MAX-GOES,
 }
-use Rattle.grammar.specs.Data.Symbol.{Symbol, terminal, Rule, leftOf, rightOf}
+use Rattle.grammar.specs.Data.Symbol.{terminal, Rule, leftOf, rightOf}
 use Rattle.grammar.specs.Data.Term.{number, nodes, add, sub, min, max}
 use Rattle.grammar.specs.Data.Postfix.{Step, push, load, operate, select, postfix}
 use Rattle.grammar.specs.Data.Book.{Place, own, at, val, Expr, InheritedDefinition, SynthesizedDefinition, Kernel, Go, Book, ownerAt}
@@ -23,17 +23,29 @@ use Rattle.book.specs.Layout.{symbolCode, lastOf, definitionWords}
 
 -- The line of a number in each list; past the last, one that nothing reads
 
+abbrev pub noInherited : InheritedDefinition
+noInherited = record { rule = 0; position = 0; attribute = 0; expression = number 0 }
+
+abbrev pub noSynthesized : SynthesizedDefinition
+noSynthesized = record { rule = 0; attribute = 0; expression = number 0 }
+
+abbrev pub noKernel : Kernel
+noKernel = record { state = 0; rule = 0; dot = 0; lookaheads = [] }
+
+abbrev pub noGo : Go
+noGo = record { state = 0; symbol = terminal 0; target = 0 }
+
 abbrev pub inheritedAt : List InheritedDefinition → ℕ → InheritedDefinition
-inheritedAt ds i = getD ds i (record { rule = 0; position = 0; attribute = 0; expression = number 0 })
+inheritedAt ds i = getD ds i noInherited
 
 abbrev pub synthesizedAt : List SynthesizedDefinition → ℕ → SynthesizedDefinition
-synthesizedAt ds i = getD ds i (record { rule = 0; attribute = 0; expression = number 0 })
+synthesizedAt ds i = getD ds i noSynthesized
 
 abbrev pub kernelAt : List Kernel → ℕ → Kernel
-kernelAt ks i = getD ks i (record { state = 0; rule = 0; dot = 0; lookaheads = [] })
+kernelAt ks i = getD ks i noKernel
 
 abbrev pub goAt : List Go → ℕ → Go
-goAt gs i = getD gs i (record { state = 0; symbol = terminal 0; target = 0 })
+goAt gs i = getD gs i noGo
 
 -- the node of a number in an expression
 abbrev pub nodeAt : Expr → ℕ → Step Place

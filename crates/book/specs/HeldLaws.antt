@@ -1,11 +1,11 @@
 -- From lines that are stored one after another to what the arrays hold (`Held`).
 -- Assumes nothing.
 use Prim.Native.Nat.{ℕ, zero, suc, _+_, _*_, _-_, _≤_, _<_, min}
-use mathlib.Core.Path.{_≡_, refl, sym, ap, _∙_}
+use mathlib.Core.Path.{_≡_, refl, ap, _∙_}
 use mathlib.Core.Bool.{Bool, true, false}
 use mathlib.Core.List.{List, [], _∷_}
 use native.Mathlib.Omega.{arith}
-use native.Mathlib.Nat.{mul-le-mul-right, mul-le-mul-left, add-mul, mul-add, mul-comm, mul-suc}
+use native.Mathlib.Nat.{mul-comm, mul-suc}
 use lib.Dec.{ltb}
 use lib.ListN.{length, set, getD, take, length-set, length-take}
 use lib.Seq.{getD-set-same, getD-set-other, getD-take, take-all}
@@ -18,7 +18,7 @@ use Rattle.grammar.specs.Limits.{
   MAX-KERNELS,
   MAX-GOES,
 }
-use Rattle.grammar.specs.Data.Symbol.{Symbol, terminal, Rule, ruleAt, leftOf, rightOf}
+use Rattle.grammar.specs.Data.Symbol.{Symbol, terminal, Rule, ruleAt, rightOf}
 use Rattle.grammar.specs.Data.Term.{add, sub, min as least, max as greatest}
 use Rattle.grammar.specs.Data.Postfix.{Step, push, load, operate, select, postfix, length-postfix}
 use Rattle.grammar.specs.Data.Book.{Place, own, at, val, Expr, InheritedDefinition, SynthesizedDefinition, Kernel, Go, Book}
@@ -37,29 +37,8 @@ use Rattle.book.specs.Layout.{
   nodesWords,
   definitionWords,
 }
-use Rattle.book.specs.Held.{
-  kernelAt,
-  goAt,
-  inheritedAt,
-  synthesizedAt,
-  nodeAt,
-  nodeKind,
-  nodeFirst,
-  nodeSecond,
-  inheritedWords,
-  synthesizedWords,
-  OwnersIn,
-  RulesIn,
-  NodeIn,
-  DefinitionIn,
-  DefinitionsIn,
-  KernelsIn,
-  GoesIn,
-  Held,
-  HasRoom,
-  kept,
-}
-use Rattle.book.specs.LayoutLaws.{length-write, length-put, length-store, put-in, put-out, room-for}
+use Rattle.book.specs.Held.{noKernel, noGo, inheritedAt, synthesizedAt, nodeKind, nodeFirst, nodeSecond, inheritedWords, synthesizedWords, OwnersIn, RulesIn, NodeIn, DefinitionIn, DefinitionsIn, KernelsIn, GoesIn, Held, HasRoom, kept}
+use Rattle.book.specs.LayoutLaws.{length-put, length-store, put-in, put-out, room-for}
 
 -- a word before the place is kept
 write-before : (place : ℕ) (ws out : List ℕ) (w : ℕ) → w < place → getD (writeAt place ws out) w 0 ≡ getD out w 0
@@ -163,15 +142,13 @@ rules-in G out h =
       fits = few MAX-RULES G;
       left-is = λ P l. word P 0 (10 * P) l (omega arith) (omega arith);
       size-is = λ P l. word P 1 (10 * P + 1) l (omega arith) (omega arith);
-      symbol-is = λ P D l m n.
-          word P (2 + D) (10 * P + 2 + D) l (omega arith) (omega arith)
-          ∙ (right-word (ruleAt (take MAX-RULES G) P) D n ∙ code-at (rightOf (take MAX-RULES G) P) D m);
+      symbol-is = λ P D l m n. word P (2 + D) (10 * P + 2 + D) l (omega arith) (omega arith) ∙ (right-word (ruleAt (take MAX-RULES G) P) D n ∙ code-at (rightOf (take MAX-RULES G) P) D m);
     }
 
 pub kernels-in : (ks : List Kernel) (out : List ℕ) → length out ≡ 5 * MAX-KERNELS → KernelsIn (take MAX-KERNELS ks) (storeLines kernelWords MAX-KERNELS 0 ks out)
 unfolding kernelWords
 kernels-in ks out h =
-    let word = store-line kernelWords 5 MAX-KERNELS (λ k. refl) (record { state = 0; rule = 0; dot = 0; lookaheads = [] }) ks out h in
+    let word = store-line kernelWords 5 MAX-KERNELS (λ k. refl) noKernel ks out h in
     record {
       long = length-store kernelWords MAX-KERNELS 0 ks out ∙ h;
       fits = few MAX-KERNELS ks;
@@ -185,7 +162,7 @@ kernels-in ks out h =
 pub goes-in : (gs : List Go) (out : List ℕ) → length out ≡ 3 * MAX-GOES → GoesIn (take MAX-GOES gs) (storeLines goWords MAX-GOES 0 gs out)
 unfolding goWords
 goes-in gs out h =
-    let word = store-line goWords 3 MAX-GOES (λ g. refl) (record { state = 0; symbol = terminal 0; target = 0 }) gs out h in
+    let word = store-line goWords 3 MAX-GOES (λ g. refl) noGo gs out h in
     record {
       long = length-store goWords MAX-GOES 0 gs out ∙ h;
       fits = few MAX-GOES gs;

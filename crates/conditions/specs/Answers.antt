@@ -10,7 +10,7 @@ use mathlib.Core.List.{List, [], _∷_}
 use lib.Dec.{eqb}
 use lib.ListN.{length, getD}
 use borrow.Author.Tests.{eqb-true, eqb-false}
-use Rattle.grammar.specs.Conditions.Decides.{Decides, all, any, allBelow, allBelow-decides}
+use Rattle.grammar.specs.Conditions.Decides.{Decides, all, allBelow, allBelow-decides}
 
 -- something is held
 abbrev pub Some : {A : Type 0} → (A → Type 0) → Type 0

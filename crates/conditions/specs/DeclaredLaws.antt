@@ -7,26 +7,58 @@ use mathlib.Core.List.{List, [], _∷_}
 use native.Mathlib.Omega.{arith}
 use lib.Dec.{eqb, ltb, leb}
 use lib.ListN.{length, getD}
-use borrow.Author.Tests.{ltb-true, ltb-false, lt-ltb, le-ltb, le-leb, lt-leb, leb-true, ne-eqb, eq-eqb}
+use borrow.Author.Tests.{ltb-true, ltb-false, lt-ltb, le-ltb, le-leb, lt-leb, leb-true, ne-eqb}
 use Rattle.grammar.specs.Conditions.Decides.{OneTo, oneTo, oneTo-decides, all, allBelow}
 use Rattle.grammar.specs.Limits.{MAX-RULES}
-use Rattle.grammar.specs.Data.Symbol.{Symbol, terminal, nonterminal, Rule, ruleAt, leftOf, rightOf}
+use Rattle.grammar.specs.Data.Symbol.{Symbol, terminal, nonterminal, ruleAt, leftOf, rightOf}
 use Rattle.grammar.specs.Data.Postfix.{Step, push, load, operate, select, postfix, length-postfix}
 use Rattle.grammar.specs.Data.Term.{add, sub, min, max, nodes}
 use Rattle.grammar.specs.Data.Book.{Place, own, at, val, InheritedDefinition, SynthesizedDefinition, Book as Lines}
 use Rattle.grammar.specs.Conditions.Meaning.{WithinLimits, IsTerminal, IsNonterminal}
-use Rattle.grammar.specs.Conditions.Tests.{allLeaves, oneNonterminal, rightSymbol, goSymbol, isPosition, declaredPlace, declaredInherited, declaredSynthesized, declaredKernel, declaredGo, declared, ownersDeclared as allOwnersDeclared, rulesDeclared as allRulesDeclared}
-use Rattle.grammar.specs.Format.Ordered.{Ascends, ascends-[], ascends-∷, lookaheadKey, Lookaheads, Every, every-[], every-∷}
+use Rattle.grammar.specs.Conditions.Tests.{
+  allLeaves,
+  oneNonterminal,
+  rightSymbol,
+  goSymbol,
+  isPosition,
+  declaredPlace,
+  declaredInherited,
+  declaredSynthesized,
+  declaredKernel,
+  declaredGo,
+  declared,
+  ownersDeclared as allOwnersDeclared,
+  rulesDeclared as allRulesDeclared,
+}
+use Rattle.grammar.specs.Format.Ordered.{Ascends, ascends-[], ascends-∷, lookaheadKey, Lookaheads, Every, every-∷}
 use Rattle.grammar.specs.Conditions.MeaningLaws.{right-length}
 use Rattle.book.specs.declared.Book.{Book}
 use Rattle.book.specs.Layout.{codeOf, symbolCode, lastOf}
 use Rattle.book.specs.Held.{synthesizedAt, nodeAt, kernelAt, goAt, nodeKind, nodeFirst, nodeSecond, RulesIn}
-use Rattle.conditions.specs.Lent.{Counted, RulesOf, RuleOf, Entry, LineIs, EntryOf, LeavesOf, KernelOf, GoesOf}
+use Rattle.conditions.specs.Lent.{Counted, RuleOf, Entry, LineIs, EntryOf, LeavesOf, KernelOf, GoesOf}
 use Rattle.conditions.specs.LentLaws.{synthesizedEntry}
 use Rattle.conditions.specs.Runs.{lead, before-lead}
 use Rattle.conditions.specs.Answers.{then-and, and-assoc, and-true, and-false, and-first, all-below, below-and, below-at}
 use Rattle.conditions.specs.Leaves.{ofLeaf}
-use Rattle.conditions.specs.DeclaredTests.{rightCode, goCode, startCode, placeCode, rightDeclared, leftDeclared, ruleDeclared, leavesDeclared, definitionDeclared, inheritedLineDeclared, kernelDeclared, rulesDeclared, grammarDeclared, inheritedDeclared, synthesizedDeclared, kernelsDeclared, goesDeclared}
+use Rattle.conditions.specs.DeclaredTests.{
+  rightCode,
+  goCode,
+  startCode,
+  placeCode,
+  rightDeclared,
+  leftDeclared,
+  ruleDeclared,
+  leavesDeclared,
+  definitionDeclared,
+  inheritedLineDeclared,
+  kernelDeclared,
+  rulesDeclared,
+  grammarDeclared,
+  inheritedDeclared,
+  synthesizedDeclared,
+  kernelsDeclared,
+  goesDeclared,
+}
 
 one-past : (n k : ℕ) → n < k → oneTo n k ≡ false
 unfolding oneTo

@@ -190,3 +190,47 @@ pub record SynthesizedLines (inherited synthesized rules definitions : List ℕ)
 pub record DeclaredBook (numbers : Book) (inherited synthesized rules definitions : List ℕ) (b : Lines) : Type 0 where
   pub counted : Counted numbers b
   pub lines : DeclaredLines inherited synthesized rules definitions b
+
+-- What is asked of the definitions of inherited attributes: a book, a rule p, a position j, an attribute k
+
+pub record InheritedSide (inherited rules definitions : List ℕ) (attributes n count : ℕ) (b : Lines) : Type 0 where
+  pub symbols-in : SymbolsIn rules b
+  pub inherited-in : OwnersIn MAX-INHERITED (b .inheritedOwners) inherited
+  pub definitions-in : DefinitionsIn (b .inheritedDefinitions) (b .synthesizedDefinitions) definitions
+  pub attributes-are : attributes ≡ length (b .inheritedOwners)
+  pub definitions-are : n ≡ length (b .inheritedDefinitions)
+  pub rules-are : count ≡ length (b .rules)
+
+pub record InheritedRule (inherited rules definitions : List ℕ) (attributes n p : ℕ) (b : Lines) : Type 0 where
+  pub side : InheritedSide inherited rules definitions attributes n (length (b .rules)) b
+  pub rule-there : p < length (b .rules)
+  pub size-is : getD rules (10 * p + 1) 0 ≡ length (rightOf (b .rules) p)
+  pub few-right : length (rightOf (b .rules) p) ≤ MAX-RIGHT
+
+pub record InheritedPlace (inherited rules definitions : List ℕ) (attributes n p j : ℕ) (b : Lines) : Type 0 where
+  pub rule : InheritedRule inherited rules definitions attributes n p b
+  pub position-there : OneTo (length (rightOf (b .rules) p)) j
+
+pub record InheritedAttribute (inherited rules definitions : List ℕ) (n p j k : ℕ) (b : Lines) : Type 0 where
+  pub place : InheritedPlace inherited rules definitions (length (b .inheritedOwners)) n p j b
+  pub attribute-there : k < length (b .inheritedOwners)
+  pub owner-low : getD inherited k 0 < 32
+
+-- The same of synthesized attributes
+
+pub record SynthesizedSide (synthesized rules definitions : List ℕ) (attributes first n count : ℕ) (b : Lines) : Type 0 where
+  pub rules-in : RulesIn (b .rules) rules
+  pub synthesized-in : OwnersIn MAX-SYNTHESIZED (b .synthesizedOwners) synthesized
+  pub definitions-in : DefinitionsIn (b .inheritedDefinitions) (b .synthesizedDefinitions) definitions
+  pub attributes-are : attributes ≡ length (b .synthesizedOwners)
+  pub start : first ≡ length (b .inheritedDefinitions)
+  pub definitions-are : n ≡ length (b .synthesizedDefinitions)
+  pub rules-are : count ≡ length (b .rules)
+
+pub record SynthesizedRule (synthesized rules definitions : List ℕ) (attributes first n p : ℕ) (b : Lines) : Type 0 where
+  pub side : SynthesizedSide synthesized rules definitions attributes first n (length (b .rules)) b
+  pub rule-there : p < length (b .rules)
+
+pub record SynthesizedAttribute (synthesized rules definitions : List ℕ) (first n p k : ℕ) (b : Lines) : Type 0 where
+  pub rule : SynthesizedRule synthesized rules definitions (length (b .synthesizedOwners)) first n p b
+  pub attribute-there : k < length (b .synthesizedOwners)

@@ -2,18 +2,42 @@
 -- Assumes nothing.
 use Prim.Native.Nat.{ℕ, zero, suc, _+_, _<_}
 use mathlib.Core.Path.{_≡_, refl, sym, ap, ap₂, _∙_}
+use mathlib.Core.Bool.{true}
 use mathlib.Core.List.{List, [], _∷_, List·Memᴰ as Mem, List·Memᴰ·head as in-head, List·Memᴰ·tail as in-tail}
 use native.Mathlib.Omega.{arith}
 use lib.ListN.{length, getD, take, length-take}
 use lib.Seq.{getD-take, ext-getD}
 use Rattle.grammar.specs.Data.Book.{SynthesizedDefinition, Book as Lines}
 use Rattle.grammar.specs.Conditions.Meaning.{WithinLimits}
+use Rattle.grammar.specs.Format.Ordered.{Ordered}
+use Rattle.grammar.specs.Conditions.Tests.{withinLimits, declared}
 use Rattle.grammar.specs.Conditions.TestsLaws.{withinLimits-decides}
 use Rattle.grammar.specs.Conditions.MeaningLaws.{right-length}
 use Rattle.book.specs.declared.Book.{Book}
-use Rattle.book.specs.Held.{inheritedAt, synthesizedAt, OwnersIn, DefinitionsIn, HasRoom, kept}
-use Rattle.book.specs.HeldLaws.{kept-all}
-use Rattle.conditions.specs.Lent.{Counted, RuleLines, DefinitionLines, KernelLines, Kept, Lent, RulesOf, RuleOf, DefinitionsOf, Entry, LineIs, EntryOf, KernelsOf, GoesOf, GrammarOf, Within, InheritedLines, SynthesizedLines, DeclaredBook}
+use Rattle.book.specs.Held.{inheritedAt, synthesizedAt, OwnersIn, DefinitionsIn, Held, HasRoom, kept}
+use Rattle.book.specs.HeldLaws.{kept-all, within-room}
+use Rattle.book.specs.Counts.{countsOf}
+use Rattle.conditions.specs.Lent.{
+  Counted,
+  RuleLines,
+  DefinitionLines,
+  KernelLines,
+  Kept,
+  Lent,
+  RulesOf,
+  RuleOf,
+  DefinitionsOf,
+  Entry,
+  LineIs,
+  EntryOf,
+  KernelsOf,
+  GoesOf,
+  GrammarOf,
+  Within,
+  InheritedLines,
+  SynthesizedLines,
+  DeclaredBook,
+}
 
 -- where there is room, what is kept is all
 pub lent-kept : {numbers : Book} {inherited synthesized rules definitions kernels : List ℕ} {b : Lines}
@@ -135,3 +159,65 @@ module _ {numbers : Book} {inherited synthesized rules definitions : List ℕ} {
   pub synthesized-lines : SynthesizedLines inherited synthesized rules definitions (numbers .«inherited_definitions») (numbers .«synthesized_definitions») b
   synthesized-lines =
       record { lines = h .lines; start = h .counted .inherited-definitions-are; count = h .counted .synthesized-definitions-are }
+
+-- From arrays in which a book is stored to what each condition is asked of
+
+pub counted : {numbers : Book} (b : Lines) → numbers ≡ countsOf b → Counted numbers b
+unfolding countsOf
+counted b e =
+    rw e (record {
+      terminals-are = refl;
+      nonterminals-are = refl;
+      states-are = refl;
+      inherited-are = refl;
+      synthesized-are = refl;
+      rules-are = refl;
+      inherited-definitions-are = refl;
+      synthesized-definitions-are = refl;
+      kernels-are = refl;
+      goes-are = refl;
+    })
+
+pub held-all : {inherited synthesized rules definitions kernels goes : List ℕ} {b : Lines} → withinLimits b ≡ true
+    → Held (kept b) inherited synthesized rules definitions kernels goes → Held b inherited synthesized rules definitions kernels goes
+held-all {b = b} w h = rw (kept-all b (within-room (withinLimits-decides b .sound w))) at h
+
+module _ {numbers : Book} {inherited synthesized rules definitions kernels goes : List ℕ} {b : Lines} where
+  pub kept-book : numbers ≡ countsOf b → Ordered b → Held (kept b) inherited synthesized rules definitions kernels goes
+      → Kept numbers inherited synthesized rules definitions kernels b
+  kept-book e o h =
+      record {
+        counted = counted b e;
+        ordered = o;
+        inherited-in = h .inherited-in;
+        synthesized-in = h .synthesized-in;
+        rules-in = h .rules-in;
+        definitions-in = h .definitions-in;
+        kernels-in = h .kernels-in;
+      }
+
+  -- after condition 3
+  pub within-book : numbers ≡ countsOf b → Ordered b → Held (kept b) inherited synthesized rules definitions kernels goes → withinLimits b ≡ true
+      → Within numbers inherited synthesized rules definitions kernels goes b
+  within-book e o h w =
+      record {
+        lent = lent-kept (kept-book e o h) (within-room (withinLimits-decides b .sound w));
+        goes-in = held-all w h .goes-in;
+        within = w;
+      }
+
+  -- after condition 4
+  pub declared-book : Within numbers inherited synthesized rules definitions kernels goes b → declared b ≡ true
+      → DeclaredBook numbers inherited synthesized rules definitions b
+  declared-book h d =
+      record {
+        counted = h .lent .counted;
+        lines = record {
+          inherited-in = h .lent .inherited-in;
+          synthesized-in = h .lent .synthesized-in;
+          rules-in = h .lent .rules-in;
+          definitions-in = h .lent .definitions-in;
+          within = h .within;
+          declared = d;
+        };
+      }

@@ -1,6 +1,8 @@
 pub mod Answers
 pub mod DeclaredLaws
 pub mod DeclaredTests
+pub mod DefinedLaws
+pub mod DefinedTests
 pub mod Leaves
 pub mod Lent
 pub mod LentLaws

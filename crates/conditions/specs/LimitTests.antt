@@ -1,6 +1,6 @@
 -- Condition 3 in the parts that code asks one by one: the numbers, then the lines of each kind.
 -- Assumes nothing.
-use Prim.Native.Nat.{ℕ, _+_}
+use Prim.Native.Nat.{_+_}
 use mathlib.Core.Bool.{Bool, _&&_}
 use mathlib.Core.List.{List, map}
 use lib.Dec.{leb}

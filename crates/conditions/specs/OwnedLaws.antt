@@ -1,43 +1,30 @@
 -- Condition 5: what the words of symbols and nodes say where all is declared, and that the parts make the whole.
 -- Assumes nothing.
-use Prim.Native.Nat.{ℕ, zero, suc, _+_, _*_, _-_, _≤_, _<_, zero-le}
+use Prim.Native.Nat.{ℕ, _+_, _*_, _-_, _≤_, _<_}
 use mathlib.Core.Path.{_≡_, refl, sym, ap, ap₂, _∙_}
-use mathlib.Core.Bool.{Bool, true, false, _&&_}
-use mathlib.Core.List.{List, [], _∷_}
+use mathlib.Core.Bool.{Bool, true, _&&_}
+use mathlib.Core.List.{List}
 use native.Mathlib.Omega.{arith}
-use lib.Dec.{eqb, ltb, leb}
+use lib.Dec.{eqb, ltb}
 use lib.ListN.{length, getD}
-use borrow.Author.Tests.{ltb-true, lt-ltb, le-ltb, ne-eqb, eq-eqb}
+use borrow.Author.Tests.{ltb-true, lt-ltb, le-ltb, ne-eqb}
 use Rattle.grammar.specs.Limits.{MAX-RIGHT}
-use Rattle.grammar.specs.Conditions.Decides.{Decides, equivalent, eq-decides, OneTo, oneTo, oneTo-decides, all}
-use Rattle.grammar.specs.Data.Symbol.{Symbol, terminal, nonterminal, leftOf, rightOf, symbolAt}
-use Rattle.grammar.specs.Data.Postfix.{Step, push, load, operate, select, postfix}
-use Rattle.grammar.specs.Data.Term.{add, sub, min, max, nodes}
-use Rattle.grammar.specs.Data.Book.{Place, own, at, val, InheritedDefinition, SynthesizedDefinition, Book as Lines, inheritedOwner, synthesizedOwner, ownerAt}
-use Rattle.grammar.specs.Conditions.Meaning.{WithinLimits, Declared, IsPosition, RightSymbol, IsNonterminal}
-use Rattle.grammar.specs.Conditions.Tests.{
-  allLeaves,
-  isNonterminal,
-  isTerminal,
-  before,
-  isPosition,
-  declaredPlace,
-  nonterminalAt,
-  ownedPlace,
-  ownedInherited,
-  ownedSynthesized,
-  owned,
-}
+use Rattle.grammar.specs.Conditions.Decides.{equivalent, eq-decides, oneTo-decides}
+use Rattle.grammar.specs.Data.Symbol.{Symbol, terminal, nonterminal, rightOf, symbolAt}
+use Rattle.grammar.specs.Data.Postfix.{Step, push, load, operate, select}
+use Rattle.grammar.specs.Data.Term.{add, sub, min, max}
+use Rattle.grammar.specs.Data.Book.{Place, own, at, val, Book as Lines, inheritedOwner, synthesizedOwner}
+use Rattle.grammar.specs.Conditions.Meaning.{IsPosition, RightSymbol, IsNonterminal}
+use Rattle.grammar.specs.Conditions.Tests.{isNonterminal, isTerminal, before, isPosition, declaredPlace, nonterminalAt, ownedPlace}
 use Rattle.grammar.specs.Conditions.MeaningLaws.{symbols-declared, right-length}
-use Rattle.book.specs.declared.Book.{Book}
 use Rattle.conditions.specs.Answers.{same-test, and-true, and-first, and-second}
 use Rattle.book.specs.Layout.{symbolCode}
-use Rattle.book.specs.Held.{nodeAt, nodeKind, nodeFirst, nodeSecond, OwnersIn}
-use Rattle.conditions.specs.Lent.{Entry, SymbolsIn, DeclaredIn, NodeThere, LeavesThere, InheritedThere, SynthesizedThere, DeclaredLines}
+use Rattle.book.specs.Held.{nodeKind, nodeFirst, nodeSecond}
+use Rattle.conditions.specs.Lent.{SymbolsIn, DeclaredIn, NodeThere}
 use Rattle.conditions.specs.LentLaws.{member-at}
 use Rattle.conditions.specs.Leaves.{ofLeaf}
 use Rattle.conditions.specs.DeclaredLaws.{terminal-code, nonterminal-code}
-use Rattle.conditions.specs.OwnedTests.{ownedCode, leavesOwned, inheritedLineOwned, synthesizedLineOwned, inheritedOwned, synthesizedOwned}
+use Rattle.conditions.specs.OwnedTests.{ownedCode}
 
 -- by the kind of the node
 module _ (inherited synthesized rules : List ℕ) (p limit kind first second : ℕ) where

@@ -1,18 +1,17 @@
 -- Condition 5, the lines: from declared definitions to what the code reads of them, and from their nodes to their leaves.
 -- Assumes nothing.
-use Prim.Native.Nat.{ℕ, zero, suc, _+_, _*_, _-_, _≤_, _<_}
+use Prim.Native.Nat.{ℕ, _+_, _*_, _<_}
 use mathlib.Core.Path.{_≡_, refl, sym, ap, ap₂, _∙_}
-use mathlib.Core.Bool.{Bool, true, false, _&&_}
-use mathlib.Core.List.{List, [], _∷_}
+use mathlib.Core.Bool.{Bool, true, _&&_}
+use mathlib.Core.List.{List}
 use native.Mathlib.Omega.{arith}
-use lib.Dec.{eqb, ltb}
+use lib.Dec.{eqb}
 use lib.ListN.{length, getD}
-use Rattle.grammar.specs.Limits.{MAX-RIGHT}
 use Rattle.grammar.specs.Conditions.Decides.{lt-decides, and3-decides, and4-decides, oneTo-decides, all}
-use Rattle.grammar.specs.Data.Symbol.{leftOf, rightOf}
-use Rattle.grammar.specs.Data.Postfix.{Step, push, load, operate, select, postfix, length-postfix}
+use Rattle.grammar.specs.Data.Symbol.{rightOf}
+use Rattle.grammar.specs.Data.Postfix.{Step, select, postfix, length-postfix}
 use Rattle.grammar.specs.Data.Term.{nodes}
-use Rattle.grammar.specs.Data.Book.{Place, own, at, val, InheritedDefinition, SynthesizedDefinition, Book as Lines, inheritedOwner, synthesizedOwner}
+use Rattle.grammar.specs.Data.Book.{Place, InheritedDefinition, SynthesizedDefinition, Book as Lines, inheritedOwner}
 use Rattle.grammar.specs.Conditions.Tests.{
   allLeaves,
   before,
@@ -24,13 +23,12 @@ use Rattle.grammar.specs.Conditions.Tests.{
   nonterminalAt,
   ownedPlace,
   ownedInherited,
-  ownedSynthesized,
   owned,
 }
 use Rattle.grammar.specs.Conditions.TestsLaws.{withinLimits-decides, declared-decides}
 use Rattle.grammar.specs.Conditions.MeaningLaws.{right-length}
 use Rattle.conditions.specs.Answers.{holds, and-assoc, and-true, and-first, and-second, all-below, below-at, below-all, below-and}
-use Rattle.book.specs.Held.{inheritedAt, synthesizedAt, nodeAt, nodeKind, nodeFirst, nodeSecond}
+use Rattle.book.specs.Held.{inheritedAt, synthesizedAt, nodeAt}
 use Rattle.conditions.specs.Lent.{Entry, SymbolsIn, DeclaredIn, NodeThere, LeavesThere, InheritedThere, SynthesizedThere, DeclaredLines}
 use Rattle.conditions.specs.LentLaws.{inheritedEntry, synthesizedEntry, inherited-line, synthesized-line}
 use Rattle.conditions.specs.Leaves.{ofLeaf, leaves-nodes}

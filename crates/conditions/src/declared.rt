@@ -5,7 +5,9 @@ ghost use Rattle.grammar.specs.Conditions.Decides.{oneTo, all};
 ghost use Rattle.grammar.specs.Conditions.Tests.{declared};
 ghost use Rattle.conditions.specs.Answers.{Some, Answers};
 ghost use Rattle.conditions.specs.Lent.{RulesOf, RuleOf, LeavesOf, EntryOf, DefinitionsOf, KernelsOf, KernelOf, GoesOf, GrammarOf, Within};
-ghost use Rattle.conditions.specs.DeclaredTests.{rightCode, goCode, startCode, placeCode, rightDeclared, ruleDeclared, rulesDeclared, leavesDeclared, definitionDeclared, inheritedLineDeclared, inheritedDeclared, synthesizedDeclared, kernelDeclared, kernelsDeclared, goesDeclared, grammarDeclared};
+ghost use Rattle.conditions.specs.DeclaredTests.{rightCode, goCode, startCode, placeCode, rightDeclared, ruleDeclared, rulesDeclared};
+ghost use Rattle.conditions.specs.DeclaredTests.{leavesDeclared, definitionDeclared, inheritedLineDeclared, inheritedDeclared};
+ghost use Rattle.conditions.specs.DeclaredTests.{synthesizedDeclared, kernelDeclared, kernelsDeclared, goesDeclared, grammarDeclared};
 use super::limits::one_to;
 use book::Book;
 

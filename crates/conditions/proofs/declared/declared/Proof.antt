@@ -1,3 +1,5 @@
+-- `declared` meets its contract: the parts make the whole.
+-- Assumes nothing.
 use mathlib.Core.Path.{ap₂, _∙_}
 use mathlib.Core.Bool.{_&&_}
 use Rattle.conditions.specs.LentLaws.{grammar-of, definitions-of, kernels-of, goes-of}

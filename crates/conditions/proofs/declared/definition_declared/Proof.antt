@@ -1,3 +1,5 @@
+-- `definition_declared` meets its contract: the rule first, since its length is read then.
+-- Assumes nothing.
 use Rattle.conditions.specs.DeclaredLaws.{leaves-of, definition-asked, definition-refused}
 use borrow.Author.Needs.{needs}
 use Rattle.conditions.proofs.declared.definition_declared.Statement.{statement}

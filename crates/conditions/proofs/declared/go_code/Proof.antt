@@ -1,3 +1,5 @@
+-- `go_code` meets its contract: by the two kinds of symbols.
+-- Assumes nothing.
 use mathlib.Core.Path.{sym, _∙_}
 use Rattle.conditions.specs.DeclaredLaws.{go-low, go-high}
 use borrow.Author.Needs.{needs}

@@ -1,3 +1,5 @@
+-- `grammar_declared` meets its contract: owners, rule 0 and all rules, one after another.
+-- Assumes nothing.
 use Prim.Native.Nat.{ℕ}
 use mathlib.Core.Path.{ap₂, _∙_}
 use mathlib.Core.Bool.{_&&_}

@@ -1,3 +1,5 @@
+-- `inherited_line_declared` meets its contract: the position last, since it is asked of a rule that is there.
+-- Assumes nothing.
 use Prim.Native.Nat.{_*_, _<_}
 use mathlib.Core.Path.{sym, _∙_}
 use native.Mathlib.Omega.{arith}

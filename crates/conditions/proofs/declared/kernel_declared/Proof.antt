@@ -1,3 +1,5 @@
+-- `kernel_declared` meets its contract: the rule first; the last lookahead is the largest.
+-- Assumes nothing.
 use Rattle.conditions.specs.DeclaredLaws.{kernel-asked, kernel-refused}
 use borrow.Author.Needs.{needs}
 use Rattle.conditions.proofs.declared.kernel_declared.Statement.{statement}

@@ -1,3 +1,5 @@
+-- `leaves_declared` meets its contract: the loop keeps `Passing` over the nodes, of which the leaves are asked.
+-- Assumes nothing.
 use Prim.Native.Nat.{_-_}
 use mathlib.Core.Path.{sym, _∙_}
 use native.Mathlib.Omega.{arith}

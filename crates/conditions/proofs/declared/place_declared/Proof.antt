@@ -1,3 +1,5 @@
+-- `place_declared` meets its contract: by the kind of the node.
+-- Assumes nothing.
 use mathlib.Core.Path.{ap, _∙_}
 use mathlib.Core.Bool.{Bool, _&&_}
 use lib.Dec.{ltb}

@@ -1,3 +1,5 @@
+-- `right_code` meets its contract: by the two kinds of symbols.
+-- Assumes nothing.
 use mathlib.Core.Path.{sym, _∙_}
 use Rattle.conditions.specs.DeclaredLaws.{right-low, right-high}
 use borrow.Author.Needs.{needs}

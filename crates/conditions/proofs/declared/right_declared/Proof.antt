@@ -1,3 +1,5 @@
+-- `right_declared` meets its contract: the loop keeps `Passing`, and each word is the code of a right symbol.
+-- Assumes nothing.
 use Prim.Native.Nat.{_-_}
 use mathlib.Core.Path.{_∙_}
 use native.Mathlib.Omega.{arith}

@@ -1,3 +1,5 @@
+-- `rule_declared` meets its contract: rule 0 apart.
+-- Assumes nothing.
 use Rattle.conditions.specs.DeclaredLaws.{rule-asked, rule-first}
 use borrow.Author.Needs.{needs}
 use Rattle.conditions.proofs.declared.rule_declared.Statement.{statement}

@@ -1,3 +1,5 @@
+-- `rules_declared` meets its contract: the loop keeps `Passing`.
+-- Assumes nothing.
 use Prim.Native.Nat.{ℕ, _-_}
 use mathlib.Core.Path.{ap}
 use native.Mathlib.Omega.{arith}

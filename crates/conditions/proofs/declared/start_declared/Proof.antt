@@ -1,3 +1,5 @@
+-- `start_declared` meets its contract: it does what the definition says.
+-- Assumes nothing.
 use mathlib.Core.Path.{refl}
 use Rattle.conditions.specs.DeclaredTests.{startCode}
 use borrow.Author.Needs.{needs}

@@ -1,6 +1,8 @@
+-- `few` meets its contract: the loop keeps `Fewer`.
+-- Assumes nothing.
 use Prim.Native.Nat.{_-_}
-use lib.ListN.{length}
 use native.Mathlib.Omega.{arith}
+use lib.ListN.{length}
 use Rattle.conditions.specs.LimitLaws.{Fewer, fewer-start, fewer-turn, fewer-stop, fewer-end}
 use borrow.Author.Needs.{needs}
 use Rattle.conditions.proofs.limits.few.Statement.{statement}

@@ -1,3 +1,5 @@
+-- `lines_within` meets its contract: the lines of each kind, one after another.
+-- Assumes nothing.
 use mathlib.Core.Path.{ap, ap₂, _∙_}
 use mathlib.Core.Bool.{_&&_}
 use Rattle.grammar.specs.Conditions.Decides.{few}

@@ -1,8 +1,10 @@
+-- `nodes_within` meets its contract: the loop keeps `Passing` over the lines of both kinds.
+-- Assumes nothing.
 use Prim.Native.Nat.{_+_, _*_, _-_}
 use mathlib.Core.Path.{refl, sym}
+use native.Mathlib.Omega.{arith}
 use lib.Dec.{leb}
 use lib.ListN.{getD}
-use native.Mathlib.Omega.{arith}
 use borrow.Author.Tests.{le-leb, lt-leb}
 use Rattle.conditions.specs.Lent.{DefinitionLines}
 use Rattle.conditions.specs.Answers.{Passing, passing-start, passing-turn, passing-stop, passing-end, answers-same}

@@ -1,3 +1,5 @@
+-- `numbers_within` meets its contract: the numbers are those of the book.
+-- Assumes nothing.
 use Rattle.conditions.specs.LimitTests.{numbersWithin}
 use borrow.Author.Needs.{needs}
 use Rattle.conditions.proofs.limits.numbers_within.Statement.{statement}

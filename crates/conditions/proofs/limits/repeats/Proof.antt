@@ -1,8 +1,10 @@
+-- `repeats` meets its contract: the loop keeps `Counting`.
+-- Assumes nothing.
 use Prim.Native.Nat.{_-_}
 use mathlib.Core.Logic.{⊎-elim}
+use native.Mathlib.Omega.{arith}
 use lib.ListN.{length}
 use Rattle.conditions.specs.LimitLaws.{Counting, counting-start, counting-met, counting-on, counting-end}
-use native.Mathlib.Omega.{arith}
 use borrow.Author.Needs.{needs}
 use Rattle.conditions.proofs.limits.repeats.Statement.{statement}
 use Rattle.conditions.proofs.limits.repeats.Tie as tie

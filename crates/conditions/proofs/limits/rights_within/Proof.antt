@@ -1,8 +1,10 @@
+-- `rights_within` meets its contract: the loop keeps `Passing`, and each word is the length of a right side.
+-- Assumes nothing.
 use Prim.Native.Nat.{_-_}
-use lib.ListN.{length}
-use lib.Dec.{leb}
 use mathlib.Core.Path.{refl, sym}
 use native.Mathlib.Omega.{arith}
+use lib.ListN.{length}
+use lib.Dec.{leb}
 use borrow.Author.Tests.{le-leb, lt-leb}
 use Rattle.grammar.specs.Data.Symbol.{ruleAt, rightOf}
 use Rattle.conditions.specs.LimitTests.{rightsWithin}

@@ -1,9 +1,11 @@
+-- `states_within` meets its contract: the loop keeps `Passing`; since the states ascend, lines 16 places apart tell.
+-- Assumes nothing.
 use Prim.Native.Nat.{_+_, _*_, _-_}
 use mathlib.Core.Path.{refl, sym, ap}
 use mathlib.Core.Bool.{not}
+use native.Mathlib.Omega.{arith}
 use lib.Dec.{eqb}
 use lib.ListN.{getD}
-use native.Mathlib.Omega.{arith}
 use borrow.Author.Tests.{eq-eqb, ne-eqb}
 use Rattle.conditions.specs.Lent.{KernelLines}
 use Rattle.conditions.specs.Answers.{Passing, passing-start, passing-turn, passing-stop, passing-end, answers-same}

@@ -1,3 +1,5 @@
+-- `within_limits` meets its contract: where the numbers are within the limits, what is kept is all.
+-- Assumes nothing.
 use mathlib.Core.Path.{sym, ap, _∙_}
 use mathlib.Core.Bool.{Bool, _&&_}
 use Rattle.conditions.specs.LimitTests.{linesWithin}

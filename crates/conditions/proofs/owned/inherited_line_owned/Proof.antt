@@ -1,3 +1,5 @@
+-- `inherited_line_owned` meets its contract: the target, then the leaves left of it.
+-- Assumes nothing.
 use native.Mathlib.Omega.{arith}
 use Rattle.conditions.specs.OwnedLines.{inherited-line-asked, owner-word}
 use borrow.Author.Needs.{needs}

@@ -1,3 +1,5 @@
+-- `leaves_owned` meets its contract: the loop keeps `Passing` over the nodes, of which the leaves are asked.
+-- Assumes nothing.
 use Prim.Native.Nat.{_-_}
 use mathlib.Core.Path.{_∙_}
 use native.Mathlib.Omega.{arith}

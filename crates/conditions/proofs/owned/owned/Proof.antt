@@ -1,3 +1,5 @@
+-- `owned` meets its contract: the parts make the whole.
+-- Assumes nothing.
 use mathlib.Core.Path.{ap₂, _∙_}
 use mathlib.Core.Bool.{_&&_}
 use Rattle.conditions.specs.LentLaws.{inherited-lines, synthesized-lines}

@@ -1,3 +1,5 @@
+-- `place_owned` meets its contract: by the kind of the node; what the node names is there.
+-- Assumes nothing.
 use native.Mathlib.Omega.{arith}
 use Rattle.conditions.specs.OwnedLaws.{owned-own, owned-at, owned-val, owned-none}
 use borrow.Author.Needs.{needs}

@@ -1,3 +1,5 @@
+-- `synthesized_line_owned` meets its contract: the left side, then all leaves.
+-- Assumes nothing.
 use Rattle.conditions.specs.OwnedLines.{synthesized-line-asked}
 use borrow.Author.Needs.{needs}
 use Rattle.conditions.proofs.owned.synthesized_line_owned.Statement.{statement}

@@ -15,7 +15,19 @@ use Rattle.grammar.specs.Postfix.{Step, push, load, operate, select, postfix, l
 use Rattle.grammar.specs.Term.{add, sub, min, max, nodes}
 use Rattle.grammar.specs.Book.{Place, own, at, val, InheritedDefinition, SynthesizedDefinition, Book as Lines}
 use Rattle.grammar.specs.Conditions.{WithinLimits, IsTerminal, IsNonterminal}
-use Rattle.grammar.specs.ConditionTests.{allLeaves, oneNonterminal, rightSymbol, goSymbol, isPosition, declaredPlace, declaredInherited, declaredSynthesized, declaredKernel, declaredGo, declared}
+use Rattle.grammar.specs.ConditionTests.{
+  allLeaves,
+  oneNonterminal,
+  rightSymbol,
+  goSymbol,
+  isPosition,
+  declaredPlace,
+  declaredInherited,
+  declaredSynthesized,
+  declaredKernel,
+  declaredGo,
+  declared,
+}
 use Rattle.grammar.specs.Ordered.{Ascends, ascends-[], ascends-∷, lookaheadKey, Lookaheads, Every, every-∷}
 use Rattle.grammar.specs.ConditionsLaws.{right-length}
 use Rattle.book.specs.declared.Book.{Book}
@@ -26,7 +38,25 @@ use Rattle.book.specs.LentLaws.{synthesizedEntry}
 use Rattle.book.specs.Runs.{lead, before-lead}
 use Rattle.book.specs.Answers.{then-and, and-assoc, and-true, and-false, and-first, all-below, below-and, below-at}
 use Rattle.book.specs.Leaves.{ofLeaf}
-use Rattle.book.specs.DeclaredTests.{rightCode, goCode, startCode, placeCode, rightDeclared, leftDeclared, ruleDeclared, leavesDeclared, definitionDeclared, inheritedLineDeclared, kernelDeclared, rulesDeclared, grammarDeclared, inheritedDeclared, synthesizedDeclared, kernelsDeclared, goesDeclared}
+use Rattle.book.specs.DeclaredTests.{
+  rightCode,
+  goCode,
+  startCode,
+  placeCode,
+  rightDeclared,
+  leftDeclared,
+  ruleDeclared,
+  leavesDeclared,
+  definitionDeclared,
+  inheritedLineDeclared,
+  kernelDeclared,
+  rulesDeclared,
+  grammarDeclared,
+  inheritedDeclared,
+  synthesizedDeclared,
+  kernelsDeclared,
+  goesDeclared,
+}
 
 one-past : (n k : ℕ) → n < k → oneTo n k ≡ false
 unfolding oneTo
@@ -225,15 +255,18 @@ go-asked {numbers} {goes} {b} i h there e =
     (ap₂ ltb (h .goes-in .target-is i there) (h .counted .states-are))
 
 -- node j of the definition in line i
-pub node-asked : {numbers : Book} {definitions : List ℕ} {i size : ℕ} {x : Entry} → LeavesOf numbers definitions i size x → (j : ℕ) → j < nodes (x .line .expression)
-    → placeCode numbers size (getD definitions (49 * i + 4 + 3 * j) 0) (getD definitions (49 * i + 4 + 3 * j + 1) 0) (getD definitions (49 * i + 4 + 3 * j + 2) 0)
+pub node-asked : {numbers : Book} {definitions : List ℕ} {i size : ℕ} {x : Entry} → LeavesOf numbers definitions i size x → (j : ℕ)
+    → j < nodes (x .line .expression)
+    → placeCode numbers size (getD definitions (49 * i + 4 + 3 * j) 0) (getD definitions (49 * i + 4 + 3 * j + 1) 0)
+    (getD definitions (49 * i + 4 + 3 * j + 2) 0)
     ≡ ofLeaf (declaredPlace (x .book) (x .line .rule)) (nodeAt (x .line .expression) j)
 node-asked {numbers} {definitions} {i} {size} {x} h j l =
     let n = h .line-is .line-in .node-is j l (omega (arith, h .line-is .few-nodes)) in
     rw (n .kind-is, n .first-is, n .second-is) (place-code (h .counted) (x .line .rule) size (h .size-is) (nodeAt (x .line .expression) j))
 
 -- the number of nodes in line i
-pub node-count : {definitions : List ℕ} {i : ℕ} {d : InheritedDefinition} → LineIs definitions i d → getD definitions (49 * i + 3) 0 ≡ length (postfix (d .expression))
+pub node-count : {definitions : List ℕ} {i : ℕ} {d : InheritedDefinition} → LineIs definitions i d → getD definitions (49 * i + 3) 0
+    ≡ length (postfix (d .expression))
 node-count {d = d} h = h .line-in .nodes-is ∙ sym (length-postfix (d .expression))
 
 -- the definition in line i
@@ -273,7 +306,8 @@ module _ {numbers : Book} {rules definitions : List ℕ} {i : ℕ} {x : Entry} (
       ≡ definitionDeclared (numbers .inherited) x && isPosition (x .book) (x .line .rule) (x .line .position)
   unfolding inheritedLineDeclared declaredInherited definitionDeclared leavesDeclared
   inherited-parts =
-      rw (h .rules-of .counted .inherited-are) (moved (ltb (x .line .rule) (length (x .book .rules))) (isPosition (x .book) (x .line .rule) (x .line .position)) _ _)
+      rw (h .rules-of .counted .inherited-are) (moved (ltb (x .line .rule) (length (x .book .rules)))
+      (isPosition (x .book) (x .line .rule) (x .line .position)) _ _)
     where
       moved : (p q r s : Bool) → p && q && r && s ≡ p && (r && s) && q
       moved true true r s = sym (and-true (r && s))
@@ -294,7 +328,8 @@ unfolding definitionDeclared declaredSynthesized leavesDeclared
 synthesized-parts {b = b} i c =
     let d : SynthesizedDefinition = synthesizedAt (b .synthesizedDefinitions) i in
     rw (c .synthesized-are)
-    (sym (and-assoc (ltb (d .rule) (length (b .rules))) (ltb (d .attribute) (length (b .synthesizedOwners))) (allLeaves (declaredPlace b (d .rule)) (d .expression))))
+    (sym (and-assoc (ltb (d .rule) (length (b .rules))) (ltb (d .attribute) (length (b .synthesizedOwners)))
+    (allLeaves (declaredPlace b (d .rule)) (d .expression))))
 
 -- rule P
 left-other : (P : ℕ) (b : Lines) → 0 < P → leftDeclared P b ≡ oneTo (b .nonterminals) (leftOf (b .rules) P)
@@ -359,7 +394,8 @@ start-rules {rules} {b} w h =
     let rights : all (λ r. all (rightSymbol b) (r .right)) (b .rules) ≡ allBelow (length (b .rules)) (λ P. rightDeclared P b) =
     all-below (λ r. all (rightSymbol b) (r .right)) _ (b .rules) in
     ap (λ (t : Bool). startCode rules && t)
-    (below-and (λ P. leftDeclared P b) (λ P. rightDeclared P b) (length (b .rules)) ∙ ap (λ (t : Bool). allBelow (length (b .rules)) (λ P. leftDeclared P b) && t) (sym rights))
+    (below-and (λ P. leftDeclared P b) (λ P. rightDeclared P b) (length (b .rules))
+    ∙ ap (λ (t : Bool). allBelow (length (b .rules)) (λ P. leftDeclared P b) && t) (sym rights))
     ∙ and-when (allBelow (length (b .rules)) (λ P. leftDeclared P b)) (all (λ r. all (rightSymbol b) (r .right)) (b .rules))
     (λ e. start-code w h (below-at (λ P. rightDeclared P b) (length (b .rules)) 0 (sym rights ∙ e) (w .rules-limit .low)))
 

@@ -94,6 +94,7 @@ goesDeclared b = all (declaredGo b) (b .goes)
 
 -- opens every definition of this module
 unfoldable pub opens : Unit {0}
-unfolding rightCode goCode startCode placeCode rightDeclared leftDeclared ruleDeclared rulesDeclared grammarDeclared leavesDeclared definitionDeclared inheritedLineDeclared inheritedDeclared
+unfolding rightCode goCode startCode placeCode rightDeclared leftDeclared ruleDeclared rulesDeclared grammarDeclared leavesDeclared definitionDeclared
+    inheritedLineDeclared inheritedDeclared
     synthesizedDeclared kernelDeclared kernelsDeclared goesDeclared
 opens = tt

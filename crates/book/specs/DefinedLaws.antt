@@ -200,7 +200,8 @@ module _ {synthesized rules definitions : List ℕ} {first n P K : ℕ} {b : Lin
 
 -- The two sides of a book
 
-module _ {numbers : Book} {inherited synthesized rules definitions : List ℕ} {b : Lines} (h : DeclaredBook numbers inherited synthesized rules definitions b) where
+module _ {numbers : Book} {inherited synthesized rules definitions : List ℕ} {b : Lines}
+    (h : DeclaredBook numbers inherited synthesized rules definitions b) where
   pub inherited-side : InheritedSide inherited rules definitions (numbers .inherited) (numbers .«inherited_definitions») (numbers .rules) b
   inherited-side =
       record {
@@ -226,5 +227,6 @@ module _ {numbers : Book} {inherited synthesized rules definitions : List ℕ} {
       }
 
 pub defined-parts : (b : Lines) → inheritedDefined b && synthesizedDefined b ≡ defined b
-unfolding inheritedDefined inheritedRuleDefined positionDefined inheritedAttributeDefined synthesizedDefined synthesizedRuleDefined synthesizedAttributeDefined defined
+unfolding inheritedDefined inheritedRuleDefined positionDefined inheritedAttributeDefined synthesizedDefined synthesizedRuleDefined synthesizedAttributeDefined
+    defined
 defined-parts b = refl

@@ -37,7 +37,27 @@ use Rattle.book.specs.Layout.{
   nodesWords,
   definitionWords,
 }
-use Rattle.book.specs.Held.{noKernel, noGo, inheritedAt, synthesizedAt, nodeKind, nodeFirst, nodeSecond, inheritedWords, synthesizedWords, OwnersIn, RulesIn, NodeIn, DefinitionIn, DefinitionsIn, KernelsIn, GoesIn, Held, HasRoom, kept}
+use Rattle.book.specs.Held.{
+  noKernel,
+  noGo,
+  inheritedAt,
+  synthesizedAt,
+  nodeKind,
+  nodeFirst,
+  nodeSecond,
+  inheritedWords,
+  synthesizedWords,
+  OwnersIn,
+  RulesIn,
+  NodeIn,
+  DefinitionIn,
+  DefinitionsIn,
+  KernelsIn,
+  GoesIn,
+  Held,
+  HasRoom,
+  kept,
+}
 use Rattle.book.specs.LayoutLaws.{length-put, length-store, put-in, put-out, room-for}
 
 -- a word before the place is kept
@@ -142,10 +162,12 @@ rules-in G out h =
       fits = few MAX-RULES G;
       left-is = λ P l. word P 0 (10 * P) l (omega arith) (omega arith);
       size-is = λ P l. word P 1 (10 * P + 1) l (omega arith) (omega arith);
-      symbol-is = λ P D l m n. word P (2 + D) (10 * P + 2 + D) l (omega arith) (omega arith) ∙ (right-word (ruleAt (take MAX-RULES G) P) D n ∙ code-at (rightOf (take MAX-RULES G) P) D m);
+      symbol-is = λ P D l m n. word P (2 + D) (10 * P + 2 + D) l (omega arith) (omega arith)
+          ∙ (right-word (ruleAt (take MAX-RULES G) P) D n ∙ code-at (rightOf (take MAX-RULES G) P) D m);
     }
 
-pub kernels-in : (ks : List Kernel) (out : List ℕ) → length out ≡ 5 * MAX-KERNELS → KernelsIn (take MAX-KERNELS ks) (storeLines kernelWords MAX-KERNELS 0 ks out)
+pub kernels-in : (ks : List Kernel) (out : List ℕ) → length out ≡ 5 * MAX-KERNELS
+    → KernelsIn (take MAX-KERNELS ks) (storeLines kernelWords MAX-KERNELS 0 ks out)
 unfolding kernelWords
 kernels-in ks out h =
     let word = store-line kernelWords 5 MAX-KERNELS (λ k. refl) noKernel ks out h in
@@ -201,7 +223,8 @@ node-word (suc room) (s ∷ steps) zero h l = rw (node-words s (nodesWords room 
 node-word (suc room) (s ∷ steps) (suc n) h l =
     rw (node-words s (nodesWords room steps)) (node-same further (node-word room steps n (omega arith) (omega arith)))
   where
-    further : (j : ℕ) → j < 3 → getD (nodeKind s ∷ nodeFirst s ∷ nodeSecond s ∷ nodesWords room steps) (3 * suc n + j) 0 ≡ getD (nodesWords room steps) (3 * n + j) 0
+    further : (j : ℕ) → j < 3 → getD (nodeKind s ∷ nodeFirst s ∷ nodeSecond s ∷ nodesWords room steps) (3 * suc n + j) 0
+        ≡ getD (nodesWords room steps) (3 * n + j) 0
     further j m = let e : 3 * suc n + j ≡ suc (suc (suc (3 * n + j))) = omega arith in rw e
 
 length-nodes : (room : ℕ) (steps : List (Step Place)) → length (nodesWords room steps) ≡ 3 * room
@@ -262,7 +285,8 @@ module _ (inherited : List InheritedDefinition) (synthesized : List SynthesizedD
       let before : length (take MAX-DEFINITIONS inherited) ≡ length inherited = length-take MAX-DEFINITIONS inherited ∙ omega arith in
       rw (getD-take (MAX-DEFINITIONS - length inherited) synthesized i _ (omega arith)) (definition-in λ j w m e.
       let q : w ≡ 49 * (length inherited + i) + j = omega arith in
-      rw q (store-at synthesizedWords 49 MAX-DEFINITIONS (λ d. length-definition _ _ _ _) _ (length inherited) synthesized inheritedLines i j (omega (arith, long))
+      rw q (store-at synthesizedWords 49 MAX-DEFINITIONS (λ d. length-definition _ _ _ _) _ (length inherited) synthesized inheritedLines i j
+      (omega (arith, long))
       (omega arith) (omega arith) m))
 
   pub definitions-in : DefinitionsIn (take MAX-DEFINITIONS inherited) (take (MAX-DEFINITIONS - length inherited) synthesized)

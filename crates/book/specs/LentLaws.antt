@@ -17,7 +17,27 @@ use Rattle.book.specs.declared.Book.{Book}
 use Rattle.book.specs.Held.{inheritedAt, synthesizedAt, OwnersIn, DefinitionsIn, Held, HasRoom, kept}
 use Rattle.book.specs.HeldLaws.{kept-all, within-room}
 use Rattle.book.specs.Counts.{countsOf}
-use Rattle.book.specs.Lent.{Counted, RuleLines, DefinitionLines, KernelLines, Kept, Lent, RulesOf, RuleOf, DefinitionsOf, Entry, LineIs, EntryOf, KernelsOf, GoesOf, GrammarOf, Within, InheritedLines, SynthesizedLines, DeclaredBook}
+use Rattle.book.specs.Lent.{
+  Counted,
+  RuleLines,
+  DefinitionLines,
+  KernelLines,
+  Kept,
+  Lent,
+  RulesOf,
+  RuleOf,
+  DefinitionsOf,
+  Entry,
+  LineIs,
+  EntryOf,
+  KernelsOf,
+  GoesOf,
+  GrammarOf,
+  Within,
+  InheritedLines,
+  SynthesizedLines,
+  DeclaredBook,
+}
 
 -- where there is room, what is kept is all
 pub lent-kept : {numbers : Book} {inherited synthesized rules definitions kernels : List ℕ} {b : Lines}
@@ -132,7 +152,8 @@ module _ {numbers : Book} {inherited synthesized rules definitions kernels goes 
 
 -- The lines of each kind of a declared book
 
-module _ {numbers : Book} {inherited synthesized rules definitions : List ℕ} {b : Lines} (h : DeclaredBook numbers inherited synthesized rules definitions b) where
+module _ {numbers : Book} {inherited synthesized rules definitions : List ℕ} {b : Lines}
+    (h : DeclaredBook numbers inherited synthesized rules definitions b) where
   pub inherited-lines : InheritedLines inherited synthesized rules definitions (numbers .«inherited_definitions») b
   inherited-lines = record { lines = h .lines; count = h .counted .inherited-definitions-are }
 

@@ -10,7 +10,21 @@ use lib.Dec.{eqb, ltb, leb}
 use lib.ListN.{length, getD, drop, drop-of-length-le, length-map, List·getD-map}
 use lib.Seq.{drop-cons}
 use borrow.Author.Tests.{lt-ltb, le-ltb}
-use Rattle.grammar.specs.Decides.{Decides, equivalent, le-decides, and-decides, and3-decides, and4-decides, OneTo, oneTo-decides, all-decides, few-decides, count, few, allBelow}
+use Rattle.grammar.specs.Decides.{
+  Decides,
+  equivalent,
+  le-decides,
+  and-decides,
+  and3-decides,
+  and4-decides,
+  OneTo,
+  oneTo-decides,
+  all-decides,
+  few-decides,
+  count,
+  few,
+  allBelow,
+}
 use Rattle.grammar.specs.ConditionTests.{withinLimits}
 use Rattle.grammar.specs.ConditionTestsLaws.{withinLimits-decides}
 use Rattle.grammar.specs.Limits.{
@@ -95,8 +109,10 @@ nodes-lines {definitions} {n} b h =
     ap (λ k. allBelow k (λ i. leb (getD definitions (49 * i + 3) 0) MAX-NODES)) (h .count)
     ∙ (below-join (λ i. leb (getD definitions (49 * i + 3) 0) MAX-NODES) (length inherited) (length synthesized)
     ∙ ap₂ _&&_
-    (below-same (length inherited) (λ i l. ap (λ k. leb k MAX-NODES) (h .lines .inherited-is i l .nodes-is)) ∙ sym (all-below (λ d. leb (nodes (d .expression)) MAX-NODES) _ inherited))
-    (below-same (length synthesized) (λ i l. ap (λ k. leb k MAX-NODES) (h .lines .synthesized-is i l .nodes-is)) ∙ sym (all-below (λ d. leb (nodes (d .expression)) MAX-NODES) _ synthesized)))
+    (below-same (length inherited) (λ i l. ap (λ k. leb k MAX-NODES) (h .lines .inherited-is i l .nodes-is))
+    ∙ sym (all-below (λ d. leb (nodes (d .expression)) MAX-NODES) _ inherited))
+    (below-same (length synthesized) (λ i l. ap (λ k. leb k MAX-NODES) (h .lines .synthesized-is i l .nodes-is))
+    ∙ sym (all-below (λ d. leb (nodes (d .expression)) MAX-NODES) _ synthesized)))
 
 -- The states of kernel lines ascend
 

@@ -5,7 +5,8 @@ ghost use Rattle.grammar.specs.Decides.{oneTo, all};
 ghost use Rattle.grammar.specs.ConditionTests.{declared};
 ghost use Rattle.book.specs.Answers.{Some, Answers};
 ghost use Rattle.book.specs.Lent.{RulesOf, RuleOf, LeavesOf, EntryOf, DefinitionsOf, KernelsOf, KernelOf, GoesOf, GrammarOf, Within};
-ghost use Rattle.book.specs.DeclaredTests.{rightCode, goCode, startCode, placeCode, rightDeclared, ruleDeclared, rulesDeclared, leavesDeclared, definitionDeclared, inheritedLineDeclared, inheritedDeclared, synthesizedDeclared, kernelDeclared, kernelsDeclared, goesDeclared, grammarDeclared};
+ghost use Rattle.book.specs.DeclaredTests.{rightCode, goCode, startCode, placeCode, rightDeclared, ruleDeclared, rulesDeclared, leavesDeclared, definitionDeclared};
+ghost use Rattle.book.specs.DeclaredTests.{inheritedLineDeclared, inheritedDeclared, synthesizedDeclared, kernelDeclared, kernelsDeclared, goesDeclared, grammarDeclared};
 use super::Book;
 use super::limits::one_to;
 
@@ -264,7 +265,8 @@ pub fn declared(
 ) -> bool
     requires { ⌜ Some (Within book (now inherited) (now synthesized) (now rules) (now definitions) (now kernels) (now goes)) ⌝ }
     ensures { λ r. ⌜ Answers
-        (Within book (now (inherited .entry)) (now (synthesized .entry)) (now (rules .entry)) (now (definitions .entry)) (now (kernels .entry)) (now (goes .entry)))
+        (Within book (now (inherited .entry)) (now (synthesized .entry)) (now (rules .entry)) (now (definitions .entry)) (now (kernels .entry))
+        (now (goes .entry)))
         declared r ⌝ }
 {
     let grammar = grammar_declared(book, inherited, synthesized, rules);

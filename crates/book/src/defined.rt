@@ -5,8 +5,10 @@ ghost use Prim.Native.Nat.{_+_, _*_, _≤_};
 ghost use lib.ListN.{length};
 ghost use Rattle.grammar.specs.ConditionTests.{defined};
 ghost use Rattle.book.specs.Answers.{Some, Answers};
-ghost use Rattle.book.specs.Lent.{DeclaredBook, InheritedSide, InheritedRule, InheritedPlace, InheritedAttribute, SynthesizedSide, SynthesizedRule, SynthesizedAttribute};
-ghost use Rattle.book.specs.DefinedTests.{definesCode, inheritedAttributeDefined, positionDefined, inheritedRuleDefined, inheritedDefined, synthesizedAttributeDefined, synthesizedRuleDefined, synthesizedDefined};
+ghost use Rattle.book.specs.Lent.{DeclaredBook, InheritedSide, InheritedRule, InheritedPlace, InheritedAttribute};
+ghost use Rattle.book.specs.Lent.{SynthesizedSide, SynthesizedRule, SynthesizedAttribute};
+ghost use Rattle.book.specs.DefinedTests.{definesCode, inheritedAttributeDefined, positionDefined, inheritedRuleDefined, inheritedDefined};
+ghost use Rattle.book.specs.DefinedTests.{synthesizedAttributeDefined, synthesizedRuleDefined, synthesizedDefined};
 use super::Book;
 
 // Whether one of n lines from the first on defines attribute k at position j of rule p.

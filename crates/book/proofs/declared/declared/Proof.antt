@@ -26,7 +26,8 @@ returns : tie.Need-returns
 returns c = record {
   for-all = λ b h.
       ap₂ _&&_ (ap₂ _&&_ (c .before .before .before .before .grammar-declared .ensures .for-all b (grammar-of h))
-      (ap₂ _&&_ (c .before .before .before .inherited-declared .ensures .for-all b (definitions-of h)) (c .before .before .synthesized-declared .ensures .for-all b (definitions-of h))))
+      (ap₂ _&&_ (c .before .before .before .inherited-declared .ensures .for-all b (definitions-of h))
+      (c .before .before .synthesized-declared .ensures .for-all b (definitions-of h))))
       (ap₂ _&&_ (c .before .kernels-declared .ensures .for-all b (kernels-of h)) (c .goes-declared .ensures .for-all b (goes-of h)))
       ∙ declared-parts b;
 }

@@ -50,7 +50,8 @@ loop-again c = let a = c .before in
 
 returns-2 : tie.Need-returns-2 Inv-loop μ-loop
 unfolding rulesDeclared
-returns-2 c = answers-same (λ b h. ap (λ (m : ℕ). allBelow m (λ P. ruleDeclared P b)) (h .counted .rules-are)) (passing-end (c .before .loop .inv) (c .loop-test .left))
+returns-2 c = answers-same (λ b h. ap (λ (m : ℕ). allBelow m (λ P. ruleDeclared P b)) (h .counted .rules-are))
+    (passing-end (c .before .loop .inv) (c .loop-test .left))
 
 pub rules-declared-spec : {M : Type 1} → statement M
 rules-declared-spec =

@@ -14,7 +14,8 @@ use Rattle.book.proofs.defined.inherited_defined.Statement.{statement}
 use Rattle.book.proofs.defined.inherited_defined.Tie as tie
 
 abbrev Inv-loop : tie.InvT-loop
-Inv-loop inherited rules definitions attributes n count p₀ p = Passing (InheritedSide inherited rules definitions attributes n count) (λ b m. inheritedRuleDefined m b) count p
+Inv-loop inherited rules definitions attributes n count p₀ p = Passing (InheritedSide inherited rules definitions attributes n count)
+    (λ b m. inheritedRuleDefined m b) count p
 
 abbrev μ-loop : tie.MeasureT-loop
 μ-loop inherited rules definitions attributes n count p₀ p = count - p

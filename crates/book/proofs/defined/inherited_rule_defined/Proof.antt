@@ -15,7 +15,8 @@ use Rattle.book.proofs.defined.inherited_rule_defined.Statement.{statem
 use Rattle.book.proofs.defined.inherited_rule_defined.Tie as tie
 
 abbrev Inv-loop : tie.InvT-loop
-Inv-loop inherited rules definitions attributes n p size d₀ d = Passing (InheritedRule inherited rules definitions attributes n p) (λ b m. positionDefined p (suc m) b) size d
+Inv-loop inherited rules definitions attributes n p size d₀ d = Passing (InheritedRule inherited rules definitions attributes n p)
+    (λ b m. positionDefined p (suc m) b) size d
 
 abbrev μ-loop : tie.MeasureT-loop
 μ-loop inherited rules definitions attributes n p size d₀ d = size - d

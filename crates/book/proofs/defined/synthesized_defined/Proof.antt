@@ -14,7 +14,8 @@ use Rattle.book.proofs.defined.synthesized_defined.Statement.{statement
 use Rattle.book.proofs.defined.synthesized_defined.Tie as tie
 
 abbrev Inv-loop : tie.InvT-loop
-Inv-loop synthesized rules definitions attributes first n count p₀ p = Passing (SynthesizedSide synthesized rules definitions attributes first n count) (λ b m. synthesizedRuleDefined m b) count p
+Inv-loop synthesized rules definitions attributes first n count p₀ p = Passing (SynthesizedSide synthesized rules definitions attributes first n count)
+    (λ b m. synthesizedRuleDefined m b) count p
 
 abbrev μ-loop : tie.MeasureT-loop
 μ-loop synthesized rules definitions attributes first n count p₀ p = count - p

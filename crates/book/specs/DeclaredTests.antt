@@ -20,7 +20,7 @@ use Rattle.grammar.specs.ConditionTests.{
 }
 use Rattle.book.specs.declared.Book.{Book}
 use Rattle.book.specs.Held.{kernelAt}
-use Rattle.book.specs.Lent.{Entry}
+use Rattle.book.specs.Asked.{Entry}
 
 -- a symbol's word: a right symbol, a go line's symbol
 unfoldable pub rightCode : Book → ℕ → Bool

@@ -16,7 +16,7 @@ use Rattle.grammar.specs.ConditionsLaws.{right-length}
 use Rattle.book.specs.declared.Book.{Book}
 use Rattle.book.specs.Answers.{and-true, all-below, below-same}
 use Rattle.book.specs.Held.{noInherited, noSynthesized, DefinitionsIn}
-use Rattle.book.specs.Lent.{
+use Rattle.book.specs.Asked.{
   DeclaredBook,
   InheritedSide,
   InheritedRule,

@@ -3,7 +3,7 @@
 use Prim.Native.Nat.{ℕ, zero, suc, _+_, _*_, _-_, _≤_, _<_, min}
 use mathlib.Core.Path.{_≡_, refl, ap, _∙_}
 use mathlib.Core.Bool.{Bool, true, false}
-use mathlib.Core.List.{List, [], _∷_}
+use mathlib.Core.List.{List, [], _∷_, map, List·Memᴰ as Mem, List·Memᴰ·head as in-head, List·Memᴰ·tail as in-tail}
 use native.Mathlib.Omega.{arith}
 use native.Mathlib.Nat.{mul-comm, mul-suc}
 use lib.Dec.{ltb}
@@ -121,6 +121,15 @@ module _ {A : Type 0} (words : A → List ℕ) (stride room : ℕ) (each : (x : 
       let within : i < min room (length xs) = rw (length-take room xs) at l in
       let first : w ≡ stride * (0 + i) + j = e ∙ ap (λ (k : ℕ). stride * k + j) (omega arith) in
       rw (getD-take room xs i d (omega arith), first) (store-at d 0 xs out i j (omega arith) (omega arith) (omega arith) n)
+
+-- lines are stored alike if their words are the same
+pub store-map : {A B : Type 0} (words : A → List ℕ) (words′ : B → List ℕ) (f : A → B) (room k : ℕ) (xs : List A) (out : List ℕ)
+    → ((x : A) → Mem x xs → words′ (f x) ≡ words x) → storeLines words′ room k (map f xs) out ≡ storeLines words room k xs out
+unfolding storeLines
+store-map words words′ f room k [] out h = refl
+store-map words words′ f room k (x ∷ xs) out h =
+    ap (λ (line : List ℕ). storeLines words′ room (suc k) (map f xs) (putLine room k line out)) (h x (in-head refl))
+    ∙ store-map words words′ f room (suc k) xs (putLine room k (words x) out) (λ y m. h y (in-tail m))
 
 few : {A : Type 0} (room : ℕ) (xs : List A) → length (take room xs) ≤ room
 few room xs = rw (length-take room xs) (omega arith)

@@ -1,4 +1,6 @@
 pub mod Answers
+pub mod Asked
+pub mod AskedLaws
 pub mod Counts
 pub mod DeclaredLaws
 pub mod DeclaredTests
@@ -10,8 +12,6 @@ pub mod HeldLaws
 pub mod Layout
 pub mod LayoutLaws
 pub mod Leaves
-pub mod Lent
-pub mod LentLaws
 pub mod LimitLaws
 pub mod LimitTests
 pub mod Lines
@@ -20,3 +20,4 @@ pub mod OwnedLines
 pub mod OwnedTests
 pub mod Runs
 pub mod Sections
+pub mod SymbolWords

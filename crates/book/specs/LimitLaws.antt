@@ -47,7 +47,7 @@ use Rattle.grammar.specs.Book.{InheritedDefinition, SynthesizedDefinition, Kern
 use Rattle.grammar.specs.Ordered.{Ascends, ascends-[], ascends-∷, kernelKey}
 use Rattle.book.specs.Runs.{lead, before-lead, count-same, count-other, few-front, Sorted, sorted-[], sorted-∷, apart, few-sorted}
 use Rattle.book.specs.Answers.{below-same, below-join, all-below, same-test}
-use Rattle.book.specs.Lent.{DefinitionLines, KernelLines}
+use Rattle.book.specs.Asked.{DefinitionLines, KernelLines}
 use Rattle.book.specs.Held.{HasRoom}
 use Rattle.book.specs.LimitTests.{numbersWithin, rightsWithin, nodesWithin, statesWithin, linesWithin}
 

@@ -20,10 +20,10 @@ use Rattle.grammar.specs.ConditionsLaws.{symbols-declared, right-length}
 use Rattle.book.specs.Answers.{same-test, and-true, and-first, and-second}
 use Rattle.book.specs.Layout.{symbolCode}
 use Rattle.book.specs.Held.{nodeKind, nodeFirst, nodeSecond}
-use Rattle.book.specs.Lent.{SymbolsIn, DeclaredIn, NodeThere}
-use Rattle.book.specs.LentLaws.{member-at}
+use Rattle.book.specs.Asked.{SymbolsIn, DeclaredIn, NodeThere}
+use Rattle.book.specs.AskedLaws.{member-at}
 use Rattle.book.specs.Leaves.{ofLeaf}
-use Rattle.book.specs.DeclaredLaws.{terminal-code, nonterminal-code}
+use Rattle.book.specs.SymbolWords.{terminal-code, nonterminal-code}
 use Rattle.book.specs.OwnedTests.{ownedCode}
 
 -- by the kind of the node

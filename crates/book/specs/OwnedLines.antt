@@ -29,8 +29,8 @@ use Rattle.grammar.specs.ConditionTestsLaws.{withinLimits-decides, declared-dec
 use Rattle.grammar.specs.ConditionsLaws.{right-length}
 use Rattle.book.specs.Answers.{holds, and-assoc, and-true, and-first, and-second, all-below, below-at, below-all, below-and}
 use Rattle.book.specs.Held.{inheritedAt, synthesizedAt, nodeAt}
-use Rattle.book.specs.Lent.{Entry, SymbolsIn, DeclaredIn, NodeThere, LeavesThere, InheritedThere, SynthesizedThere, DeclaredLines}
-use Rattle.book.specs.LentLaws.{inheritedEntry, synthesizedEntry, inherited-line, synthesized-line}
+use Rattle.book.specs.Asked.{Entry, SymbolsIn, DeclaredIn, NodeThere, LeavesThere, InheritedThere, SynthesizedThere, DeclaredLines}
+use Rattle.book.specs.AskedLaws.{inheritedEntry, synthesizedEntry, inherited-line, synthesized-line}
 use Rattle.book.specs.Leaves.{ofLeaf, leaves-nodes}
 use Rattle.book.specs.DeclaredTests.{grammarDeclared, inheritedDeclared, synthesizedDeclared, kernelsDeclared, goesDeclared}
 use Rattle.book.specs.DeclaredLaws.{declared-parts}

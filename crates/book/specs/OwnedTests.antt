@@ -9,7 +9,7 @@ use Rattle.grammar.specs.Decides.{all}
 use Rattle.grammar.specs.Symbol.{leftOf}
 use Rattle.grammar.specs.Book.{Book as Lines, synthesizedOwner}
 use Rattle.grammar.specs.ConditionTests.{allLeaves, before, ownedPlace, ownedInherited, ownedSynthesized}
-use Rattle.book.specs.Lent.{Entry}
+use Rattle.book.specs.Asked.{Entry}
 
 -- a node's words, in rule p and left of a position
 unfoldable pub ownedCode : List ℕ → List ℕ → List ℕ → ℕ → ℕ → ℕ → ℕ → ℕ → Bool

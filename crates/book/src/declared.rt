@@ -4,7 +4,7 @@ ghost use Prim.Native.Nat.{_<_};
 ghost use Rattle.grammar.specs.Decides.{oneTo, all};
 ghost use Rattle.grammar.specs.ConditionTests.{declared};
 ghost use Rattle.book.specs.Answers.{Some, Answers};
-ghost use Rattle.book.specs.Lent.{RulesOf, RuleOf, LeavesOf, EntryOf, DefinitionsOf, KernelsOf, KernelOf, GoesOf, GrammarOf, Within};
+ghost use Rattle.book.specs.Asked.{RulesOf, RuleOf, LeavesOf, EntryOf, DefinitionsOf, KernelsOf, KernelOf, GoesOf, GrammarOf, Within};
 ghost use Rattle.book.specs.DeclaredTests.{rightCode, goCode, startCode, placeCode, rightDeclared, ruleDeclared, rulesDeclared, leavesDeclared, definitionDeclared};
 ghost use Rattle.book.specs.DeclaredTests.{inheritedLineDeclared, inheritedDeclared, synthesizedDeclared, kernelDeclared, kernelsDeclared, goesDeclared, grammarDeclared};
 use super::Book;

@@ -3,7 +3,7 @@
 ghost use mathlib.Core.Path.{_≡_};
 ghost use Rattle.grammar.specs.ConditionTests.{owned};
 ghost use Rattle.book.specs.Answers.{Some, Answers};
-ghost use Rattle.book.specs.Lent.{NodeThere, LeavesThere, InheritedThere, SynthesizedThere, InheritedLines, SynthesizedLines, DeclaredBook};
+ghost use Rattle.book.specs.Asked.{NodeThere, LeavesThere, InheritedThere, SynthesizedThere, InheritedLines, SynthesizedLines, DeclaredBook};
 ghost use Rattle.book.specs.OwnedTests.{ownedCode, leavesOwned, inheritedLineOwned, synthesizedLineOwned, inheritedOwned, synthesizedOwned};
 use super::Book;
 

@@ -2,7 +2,7 @@
 -- Assumes nothing.
 use mathlib.Core.Path.{ap₂, _∙_}
 use mathlib.Core.Bool.{_&&_}
-use Rattle.book.specs.LentLaws.{grammar-of, definitions-of, kernels-of, goes-of}
+use Rattle.book.specs.AskedLaws.{grammar-of, definitions-of, kernels-of, goes-of}
 use Rattle.book.specs.DeclaredLaws.{declared-parts}
 use Rattle.book.proofs.declared.declared.Statement.{statement}
 use Rattle.book.proofs.declared.declared.Tie as tie

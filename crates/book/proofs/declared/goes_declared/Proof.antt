@@ -5,7 +5,7 @@ use native.Mathlib.Omega.{arith}
 use borrow.Author.Tests.{not-true, not-false}
 use Rattle.grammar.specs.ConditionTests.{declaredGo}
 use Rattle.book.specs.Held.{goAt}
-use Rattle.book.specs.Lent.{GoesOf}
+use Rattle.book.specs.Asked.{GoesOf}
 use Rattle.book.specs.Answers.{Passing, passing-start, passing-turn, all-stop, all-end}
 use Rattle.book.specs.DeclaredTests.{goesDeclared}
 use Rattle.book.specs.DeclaredLaws.{go-asked}

@@ -4,7 +4,7 @@ use Prim.Native.Nat.{ℕ}
 use mathlib.Core.Path.{ap₂, _∙_}
 use mathlib.Core.Bool.{_&&_}
 use Rattle.grammar.specs.Decides.{oneTo, all}
-use Rattle.book.specs.LentLaws.{owners-are, owners-part}
+use Rattle.book.specs.AskedLaws.{owners-are, owners-part}
 use Rattle.book.specs.DeclaredTests.{grammarDeclared}
 use Rattle.book.specs.DeclaredLaws.{start-rules}
 use borrow.Author.Needs.{needs}

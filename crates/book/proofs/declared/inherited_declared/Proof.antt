@@ -5,8 +5,8 @@ use native.Mathlib.Omega.{arith}
 use borrow.Author.Tests.{not-true, not-false}
 use Rattle.grammar.specs.ConditionTests.{declaredInherited}
 use Rattle.book.specs.Held.{inheritedAt}
-use Rattle.book.specs.Lent.{DefinitionsOf}
-use Rattle.book.specs.LentLaws.{inheritedEntry, inherited-entry}
+use Rattle.book.specs.Asked.{DefinitionsOf}
+use Rattle.book.specs.AskedLaws.{inheritedEntry, inherited-entry}
 use Rattle.book.specs.Answers.{Passing, passing-start, passing-turn, all-stop, all-end}
 use Rattle.book.specs.DeclaredTests.{inheritedLineDeclared, inheritedDeclared}
 use borrow.Author.Needs.{needs}

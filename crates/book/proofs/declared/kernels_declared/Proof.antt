@@ -5,7 +5,7 @@ use native.Mathlib.Omega.{arith}
 use borrow.Author.Tests.{not-true, not-false}
 use Rattle.grammar.specs.ConditionTests.{declaredKernel}
 use Rattle.book.specs.Held.{kernelAt}
-use Rattle.book.specs.Lent.{KernelsOf}
+use Rattle.book.specs.Asked.{KernelsOf}
 use Rattle.book.specs.Answers.{answers-where, Passing, passing-start, passing-turn, all-stop, all-end}
 use Rattle.book.specs.DeclaredTests.{kernelDeclared, kernelsDeclared}
 use borrow.Author.Needs.{needs}

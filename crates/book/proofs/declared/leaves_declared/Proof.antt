@@ -7,7 +7,7 @@ use borrow.Author.Tests.{not-true, not-false}
 use Rattle.grammar.specs.Postfix.{select, postfix}
 use Rattle.grammar.specs.ConditionTests.{declaredPlace}
 use Rattle.book.specs.Held.{nodeAt}
-use Rattle.book.specs.Lent.{LeavesOf}
+use Rattle.book.specs.Asked.{LeavesOf}
 use Rattle.book.specs.Answers.{answers-same, Passing, passing-start, passing-turn, all-stop, all-end}
 use Rattle.book.specs.Leaves.{ofLeaf, leaves-nodes}
 use Rattle.book.specs.DeclaredTests.{leavesDeclared}

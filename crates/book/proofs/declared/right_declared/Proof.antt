@@ -7,7 +7,7 @@ use lib.ListN.{getD}
 use borrow.Author.Tests.{not-true, not-false}
 use Rattle.grammar.specs.Symbol.{terminal, rightOf}
 use Rattle.grammar.specs.ConditionTests.{rightSymbol}
-use Rattle.book.specs.Lent.{RuleOf}
+use Rattle.book.specs.Asked.{RuleOf}
 use Rattle.book.specs.Answers.{Passing, passing-start, passing-turn, all-stop, all-end}
 use Rattle.book.specs.DeclaredTests.{rightDeclared}
 use Rattle.book.specs.DeclaredLaws.{right-symbol}

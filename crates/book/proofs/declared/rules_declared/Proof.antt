@@ -5,8 +5,8 @@ use mathlib.Core.Path.{ap}
 use native.Mathlib.Omega.{arith}
 use borrow.Author.Tests.{not-true, not-false}
 use Rattle.grammar.specs.Decides.{allBelow}
-use Rattle.book.specs.Lent.{RulesOf}
-use Rattle.book.specs.LentLaws.{rule-of}
+use Rattle.book.specs.Asked.{RulesOf}
+use Rattle.book.specs.AskedLaws.{rule-of}
 use Rattle.book.specs.Answers.{answers-where, answers-same, Passing, passing-start, passing-turn, passing-stop, passing-end}
 use Rattle.book.specs.DeclaredTests.{ruleDeclared, rulesDeclared}
 use borrow.Author.Needs.{needs}

@@ -6,8 +6,8 @@ use native.Mathlib.Omega.{arith}
 use borrow.Author.Tests.{not-true, not-false}
 use Rattle.grammar.specs.ConditionTests.{declaredSynthesized}
 use Rattle.book.specs.Held.{synthesizedAt}
-use Rattle.book.specs.Lent.{DefinitionsOf}
-use Rattle.book.specs.LentLaws.{synthesizedEntry, synthesized-entry}
+use Rattle.book.specs.Asked.{DefinitionsOf}
+use Rattle.book.specs.AskedLaws.{synthesizedEntry, synthesized-entry}
 use Rattle.book.specs.Answers.{Passing, passing-start, passing-turn, all-stop, all-end}
 use Rattle.book.specs.DeclaredTests.{synthesizedDeclared}
 use Rattle.book.specs.DeclaredLaws.{synthesized-parts}

@@ -6,7 +6,7 @@ use native.Mathlib.Omega.{arith}
 use native.Mathlib.Numerals.{add-one}
 use borrow.Author.Tests.{not-true, not-false}
 use Rattle.grammar.specs.Decides.{allBelow, allOneTo}
-use Rattle.book.specs.Lent.{InheritedRule}
+use Rattle.book.specs.Asked.{InheritedRule}
 use Rattle.book.specs.Answers.{answers-where, answers-same, Passing, passing-start, passing-turn, passing-stop, passing-end}
 use Rattle.book.specs.DefinedTests.{positionDefined, inheritedRuleDefined}
 use Rattle.book.specs.DefinedLaws.{inherited-place}

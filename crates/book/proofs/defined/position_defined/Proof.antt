@@ -5,7 +5,7 @@ use mathlib.Core.Path.{ap}
 use native.Mathlib.Omega.{arith}
 use borrow.Author.Tests.{not-true, not-false}
 use Rattle.grammar.specs.Decides.{allBelow}
-use Rattle.book.specs.Lent.{InheritedPlace}
+use Rattle.book.specs.Asked.{InheritedPlace}
 use Rattle.book.specs.Answers.{answers-where, answers-same, Passing, passing-start, passing-turn, passing-stop, passing-end}
 use Rattle.book.specs.DefinedTests.{inheritedAttributeDefined, positionDefined}
 use Rattle.book.specs.DefinedLaws.{inherited-attribute}

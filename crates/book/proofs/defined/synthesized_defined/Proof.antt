@@ -5,7 +5,7 @@ use mathlib.Core.Path.{ap}
 use native.Mathlib.Omega.{arith}
 use borrow.Author.Tests.{not-true, not-false}
 use Rattle.grammar.specs.Decides.{allBelow}
-use Rattle.book.specs.Lent.{SynthesizedSide}
+use Rattle.book.specs.Asked.{SynthesizedSide}
 use Rattle.book.specs.Answers.{answers-where, answers-same, Passing, passing-start, passing-turn, passing-stop, passing-end}
 use Rattle.book.specs.DefinedTests.{synthesizedRuleDefined, synthesizedDefined}
 use Rattle.book.specs.DefinedLaws.{synthesized-rule}

@@ -4,7 +4,7 @@ use mathlib.Core.Path.{ap, ap₂, _∙_}
 use mathlib.Core.Bool.{_&&_}
 use Rattle.grammar.specs.Decides.{few}
 use Rattle.book.specs.LimitTests.{linesWithin}
-use Rattle.book.specs.LentLaws.{rule-lines, definition-lines, kernel-lines, owners-are, owners-part}
+use Rattle.book.specs.AskedLaws.{rule-lines, definition-lines, kernel-lines, owners-are, owners-part}
 use borrow.Author.Needs.{needs}
 use Rattle.book.proofs.limits.lines_within.Statement.{statement}
 use Rattle.book.proofs.limits.lines_within.Tie as tie

@@ -8,7 +8,7 @@ use lib.Dec.{leb}
 use borrow.Author.Tests.{le-leb, lt-leb}
 use Rattle.grammar.specs.Symbol.{ruleAt, rightOf}
 use Rattle.book.specs.LimitTests.{rightsWithin}
-use Rattle.book.specs.Lent.{RuleLines}
+use Rattle.book.specs.Asked.{RuleLines}
 use Rattle.book.specs.Answers.{Passing, passing-start, passing-turn, all-stop, all-end}
 use borrow.Author.Needs.{needs}
 use Rattle.book.proofs.limits.rights_within.Statement.{statement}

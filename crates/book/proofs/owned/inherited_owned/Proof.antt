@@ -5,8 +5,8 @@ use native.Mathlib.Omega.{arith}
 use borrow.Author.Tests.{not-true, not-false}
 use Rattle.grammar.specs.ConditionTests.{ownedInherited}
 use Rattle.book.specs.Held.{inheritedAt}
-use Rattle.book.specs.Lent.{InheritedLines}
-use Rattle.book.specs.LentLaws.{inheritedEntry}
+use Rattle.book.specs.Asked.{InheritedLines}
+use Rattle.book.specs.AskedLaws.{inheritedEntry}
 use Rattle.book.specs.Answers.{Passing, passing-start, passing-turn, all-stop, all-end}
 use Rattle.book.specs.OwnedTests.{inheritedLineOwned, inheritedOwned}
 use Rattle.book.specs.OwnedLines.{inherited-there}

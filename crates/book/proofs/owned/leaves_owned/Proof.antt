@@ -6,7 +6,7 @@ use native.Mathlib.Omega.{arith}
 use borrow.Author.Tests.{not-true, not-false}
 use Rattle.grammar.specs.Postfix.{select, postfix}
 use Rattle.book.specs.Held.{nodeAt}
-use Rattle.book.specs.Lent.{LeavesThere}
+use Rattle.book.specs.Asked.{LeavesThere}
 use Rattle.book.specs.Answers.{answers-same, Passing, passing-start, passing-turn, all-stop, all-end}
 use Rattle.book.specs.DeclaredLaws.{node-count}
 use Rattle.book.specs.OwnedLines.{ownedNode, leaves-owned-nodes, node-in-reach, node-owned}

@@ -2,7 +2,7 @@
 -- Assumes nothing.
 use mathlib.Core.Path.{ap₂, _∙_}
 use mathlib.Core.Bool.{_&&_}
-use Rattle.book.specs.LentLaws.{inherited-lines, synthesized-lines}
+use Rattle.book.specs.AskedLaws.{inherited-lines, synthesized-lines}
 use Rattle.book.specs.OwnedLines.{owned-parts}
 use borrow.Author.Needs.{needs}
 use Rattle.book.proofs.owned.owned.Statement.{statement}

@@ -5,8 +5,8 @@ use native.Mathlib.Omega.{arith}
 use borrow.Author.Tests.{not-true, not-false}
 use Rattle.grammar.specs.ConditionTests.{ownedSynthesized}
 use Rattle.book.specs.Held.{synthesizedAt}
-use Rattle.book.specs.Lent.{SynthesizedLines}
-use Rattle.book.specs.LentLaws.{synthesizedEntry}
+use Rattle.book.specs.Asked.{SynthesizedLines}
+use Rattle.book.specs.AskedLaws.{synthesizedEntry}
 use Rattle.book.specs.Answers.{Passing, passing-start, passing-turn, all-stop, all-end}
 use Rattle.book.specs.OwnedTests.{synthesizedLineOwned, synthesizedOwned}
 use Rattle.book.specs.OwnedLines.{synthesized-there}

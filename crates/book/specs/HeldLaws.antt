@@ -3,7 +3,7 @@
 use Prim.Native.Nat.{ℕ, zero, suc, _+_, _*_, _-_, _≤_, _<_, min}
 use mathlib.Core.Path.{_≡_, refl, ap, _∙_}
 use mathlib.Core.Bool.{Bool, true, false}
-use mathlib.Core.List.{List, [], _∷_}
+use mathlib.Core.List.{List, [], _∷_, map, List·Memᴰ as Mem, List·Memᴰ·head as in-head, List·Memᴰ·tail as in-tail}
 use native.Mathlib.Omega.{arith}
 use native.Mathlib.Nat.{mul-comm, mul-suc}
 use lib.Dec.{ltb}
@@ -37,7 +37,27 @@ use Rattle.book.specs.Layout.{
   nodesWords,
   definitionWords,
 }
-use Rattle.book.specs.Held.{noKernel, noGo, inheritedAt, synthesizedAt, nodeKind, nodeFirst, nodeSecond, inheritedWords, synthesizedWords, OwnersIn, RulesIn, NodeIn, DefinitionIn, DefinitionsIn, KernelsIn, GoesIn, Held, HasRoom, kept}
+use Rattle.book.specs.Held.{
+  noKernel,
+  noGo,
+  inheritedAt,
+  synthesizedAt,
+  nodeKind,
+  nodeFirst,
+  nodeSecond,
+  inheritedWords,
+  synthesizedWords,
+  OwnersIn,
+  RulesIn,
+  NodeIn,
+  DefinitionIn,
+  DefinitionsIn,
+  KernelsIn,
+  GoesIn,
+  Held,
+  HasRoom,
+  kept,
+}
 use Rattle.book.specs.LayoutLaws.{length-put, length-store, put-in, put-out, room-for}
 
 -- a word before the place is kept
@@ -102,6 +122,15 @@ module _ {A : Type 0} (words : A → List ℕ) (stride room : ℕ) (each : (x : 
       let first : w ≡ stride * (0 + i) + j = e ∙ ap (λ (k : ℕ). stride * k + j) (omega arith) in
       rw (getD-take room xs i d (omega arith), first) (store-at d 0 xs out i j (omega arith) (omega arith) (omega arith) n)
 
+-- lines are stored alike if their words are the same
+pub store-map : {A B : Type 0} (words : A → List ℕ) (words′ : B → List ℕ) (f : A → B) (room k : ℕ) (xs : List A) (out : List ℕ)
+    → ((x : A) → Mem x xs → words′ (f x) ≡ words x) → storeLines words′ room k (map f xs) out ≡ storeLines words room k xs out
+unfolding storeLines
+store-map words words′ f room k [] out h = refl
+store-map words words′ f room k (x ∷ xs) out h =
+    ap (λ (line : List ℕ). storeLines words′ room (suc k) (map f xs) (putLine room k line out)) (h x (in-head refl))
+    ∙ store-map words words′ f room (suc k) xs (putLine room k (words x) out) (λ y m. h y (in-tail m))
+
 few : {A : Type 0} (room : ℕ) (xs : List A) → length (take room xs) ≤ room
 few room xs = rw (length-take room xs) (omega arith)
 
@@ -142,10 +171,12 @@ rules-in G out h =
       fits = few MAX-RULES G;
       left-is = λ P l. word P 0 (10 * P) l (omega arith) (omega arith);
       size-is = λ P l. word P 1 (10 * P + 1) l (omega arith) (omega arith);
-      symbol-is = λ P D l m n. word P (2 + D) (10 * P + 2 + D) l (omega arith) (omega arith) ∙ (right-word (ruleAt (take MAX-RULES G) P) D n ∙ code-at (rightOf (take MAX-RULES G) P) D m);
+      symbol-is = λ P D l m n. word P (2 + D) (10 * P + 2 + D) l (omega arith) (omega arith)
+          ∙ (right-word (ruleAt (take MAX-RULES G) P) D n ∙ code-at (rightOf (take MAX-RULES G) P) D m);
     }
 
-pub kernels-in : (ks : List Kernel) (out : List ℕ) → length out ≡ 5 * MAX-KERNELS → KernelsIn (take MAX-KERNELS ks) (storeLines kernelWords MAX-KERNELS 0 ks out)
+pub kernels-in : (ks : List Kernel) (out : List ℕ) → length out ≡ 5 * MAX-KERNELS
+    → KernelsIn (take MAX-KERNELS ks) (storeLines kernelWords MAX-KERNELS 0 ks out)
 unfolding kernelWords
 kernels-in ks out h =
     let word = store-line kernelWords 5 MAX-KERNELS (λ k. refl) noKernel ks out h in
@@ -201,7 +232,8 @@ node-word (suc room) (s ∷ steps) zero h l = rw (node-words s (nodesWords room 
 node-word (suc room) (s ∷ steps) (suc n) h l =
     rw (node-words s (nodesWords room steps)) (node-same further (node-word room steps n (omega arith) (omega arith)))
   where
-    further : (j : ℕ) → j < 3 → getD (nodeKind s ∷ nodeFirst s ∷ nodeSecond s ∷ nodesWords room steps) (3 * suc n + j) 0 ≡ getD (nodesWords room steps) (3 * n + j) 0
+    further : (j : ℕ) → j < 3 → getD (nodeKind s ∷ nodeFirst s ∷ nodeSecond s ∷ nodesWords room steps) (3 * suc n + j) 0
+        ≡ getD (nodesWords room steps) (3 * n + j) 0
     further j m = let e : 3 * suc n + j ≡ suc (suc (suc (3 * n + j))) = omega arith in rw e
 
 length-nodes : (room : ℕ) (steps : List (Step Place)) → length (nodesWords room steps) ≡ 3 * room
@@ -262,7 +294,8 @@ module _ (inherited : List InheritedDefinition) (synthesized : List SynthesizedD
       let before : length (take MAX-DEFINITIONS inherited) ≡ length inherited = length-take MAX-DEFINITIONS inherited ∙ omega arith in
       rw (getD-take (MAX-DEFINITIONS - length inherited) synthesized i _ (omega arith)) (definition-in λ j w m e.
       let q : w ≡ 49 * (length inherited + i) + j = omega arith in
-      rw q (store-at synthesizedWords 49 MAX-DEFINITIONS (λ d. length-definition _ _ _ _) _ (length inherited) synthesized inheritedLines i j (omega (arith, long))
+      rw q (store-at synthesizedWords 49 MAX-DEFINITIONS (λ d. length-definition _ _ _ _) _ (length inherited) synthesized inheritedLines i j
+      (omega (arith, long))
       (omega arith) (omega arith) m))
 
   pub definitions-in : DefinitionsIn (take MAX-DEFINITIONS inherited) (take (MAX-DEFINITIONS - length inherited) synthesized)

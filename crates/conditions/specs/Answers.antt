@@ -85,7 +85,8 @@ below-front f (suc n) =
 pub all-below : {B : Type 0} (f : B → Bool) (d : B) (xs : List B) → all f xs ≡ allBelow (length xs) (λ i. f (getD xs i d))
 unfolding all allBelow
 all-below f d [] = refl
-all-below f d (x ∷ xs) = then-and (f x) (all f xs) ∙ (ap (λ (t : Bool). f x && t) (all-below f d xs) ∙ sym (below-front (λ i. f (getD (x ∷ xs) i d)) (length xs)))
+all-below f d (x ∷ xs) = then-and (f x) (all f xs) ∙ (ap (λ (t : Bool). f x && t) (all-below f d xs)
+    ∙ sym (below-front (λ i. f (getD (x ∷ xs) i d)) (length xs)))
 
 -- the numbers below m, and n more
 pub below-join : (f : ℕ → Bool) (m n : ℕ) → allBelow (m + n) f ≡ allBelow m f && allBelow n (λ i. f (m + i))

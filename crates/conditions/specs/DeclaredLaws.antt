@@ -1,25 +1,24 @@
--- Condition 4: what the words of symbols, nodes and lookaheads say, and that the parts make the whole.
+-- Condition 4: what the words of nodes, lookaheads and lines say, and that the parts make the whole.
 -- Assumes nothing.
-use Prim.Native.Nat.{ℕ, zero, suc, _+_, _*_, _-_, _≤_, _<_, zero-le}
+use Prim.Native.Nat.{ℕ, zero, suc, _+_, _*_, _≤_, _<_, zero-le}
 use mathlib.Core.Path.{_≡_, refl, sym, ap, ap₂, _∙_}
 use mathlib.Core.Bool.{Bool, true, false, _&&_}
 use mathlib.Core.List.{List, [], _∷_}
 use native.Mathlib.Omega.{arith}
 use lib.Dec.{eqb, ltb, leb}
 use lib.ListN.{length, getD}
-use borrow.Author.Tests.{ltb-true, ltb-false, lt-ltb, le-ltb, le-leb, lt-leb, leb-true, ne-eqb}
+use borrow.Author.Tests.{ltb-true, lt-ltb, le-ltb, le-leb, lt-leb, leb-true, ne-eqb}
 use Rattle.grammar.specs.Conditions.Decides.{OneTo, oneTo, oneTo-decides, all, allBelow}
 use Rattle.grammar.specs.Limits.{MAX-RULES}
 use Rattle.grammar.specs.Data.Symbol.{Symbol, terminal, nonterminal, ruleAt, leftOf, rightOf}
 use Rattle.grammar.specs.Data.Postfix.{Step, push, load, operate, select, postfix, length-postfix}
 use Rattle.grammar.specs.Data.Term.{add, sub, min, max, nodes}
 use Rattle.grammar.specs.Data.Book.{Place, own, at, val, InheritedDefinition, SynthesizedDefinition, Book as Lines}
-use Rattle.grammar.specs.Conditions.Meaning.{WithinLimits, IsTerminal, IsNonterminal}
+use Rattle.grammar.specs.Conditions.Meaning.{WithinLimits}
 use Rattle.grammar.specs.Conditions.Tests.{
   allLeaves,
   oneNonterminal,
   rightSymbol,
-  goSymbol,
   isPosition,
   declaredPlace,
   declaredInherited,
@@ -33,13 +32,14 @@ use Rattle.grammar.specs.Conditions.Tests.{
 use Rattle.grammar.specs.Format.Ordered.{Ascends, ascends-[], ascends-∷, lookaheadKey, Lookaheads, Every, every-∷}
 use Rattle.grammar.specs.Conditions.MeaningLaws.{right-length}
 use Rattle.book.specs.declared.Book.{Book}
-use Rattle.book.specs.Layout.{codeOf, symbolCode, lastOf}
+use Rattle.book.specs.Layout.{symbolCode, lastOf}
 use Rattle.book.specs.Held.{synthesizedAt, nodeAt, kernelAt, goAt, nodeKind, nodeFirst, nodeSecond, RulesIn}
-use Rattle.conditions.specs.Lent.{Counted, RuleOf, Entry, LineIs, EntryOf, LeavesOf, KernelOf, GoesOf}
-use Rattle.conditions.specs.LentLaws.{synthesizedEntry}
+use Rattle.conditions.specs.Asked.{Counted, RuleOf, Entry, LineIs, EntryOf, LeavesOf, KernelOf, GoesOf}
+use Rattle.conditions.specs.AskedLaws.{synthesizedEntry}
 use Rattle.conditions.specs.Runs.{lead, before-lead}
 use Rattle.conditions.specs.Answers.{then-and, and-assoc, and-true, and-false, and-first, all-below, below-and, below-at}
 use Rattle.conditions.specs.Leaves.{ofLeaf}
+use Rattle.conditions.specs.SymbolWords.{terminal-code, nonterminal-code, right-code, go-code}
 use Rattle.conditions.specs.DeclaredTests.{
   rightCode,
   goCode,
@@ -59,89 +59,6 @@ use Rattle.conditions.specs.DeclaredTests.{
   kernelsDeclared,
   goesDeclared,
 }
-
-one-past : (n k : ℕ) → n < k → oneTo n k ≡ false
-unfolding oneTo
-one-past n k h = rw (lt-leb k n h) (and-false (leb 1 k))
-
--- Symbols
-
--- a property of a symbol's word, by cases
-by-code : (P : ℕ → Type 0) (base K : ℕ) → (K < 32 → P (base + K)) → (32 ≤ K → P 64) → P (codeOf base K)
-unfolding codeOf
-by-code P base K f g = go (ltb K 32) refl
-  where
-    go : (t : Bool) → ltb K 32 ≡ t → P (elim t [ true ↦ base + K | false ↦ 64 ])
-    go true e = f (ltb-true K 32 e)
-    go false e = g (ltb-false K 32 e)
-
-code-low : (base K : ℕ) → K < 32 → codeOf base K ≡ base + K
-unfolding codeOf
-code-low base K h = rw (lt-ltb K 32 h, codeOf)
-
--- the words of declared symbols
-module _ {b : Lines} (w : WithinLimits b) where
-  pub terminal-code : {t : ℕ} → IsTerminal b t → symbolCode (terminal t) ≡ t
-  unfolding symbolCode
-  terminal-code {t} d = code-low 0 t (omega (arith, w .terminals-limit .high)) ∙ omega arith
-
-  pub nonterminal-code : {A : ℕ} → IsNonterminal b A → symbolCode (nonterminal A) ≡ 32 + A
-  unfolding symbolCode
-  nonterminal-code {A} d = code-low 32 A (omega (arith, w .nonterminals-limit .high))
-
-module _ (numbers : Book) (code : ℕ) where
-  pub right-low : code < 32 → rightCode numbers code ≡ oneTo (numbers .terminals) code
-  unfolding rightCode
-  right-low h = rw (lt-ltb code 32 h, rightCode)
-
-  pub right-high : 32 ≤ code → rightCode numbers code ≡ oneTo (numbers .nonterminals) (code - 32)
-  unfolding rightCode
-  right-high h = rw (le-ltb code 32 h, rightCode)
-
-  pub go-low : code < 32 → goCode numbers code ≡ oneTo (numbers .terminals) code
-  unfolding goCode
-  go-low h = rw (lt-ltb code 32 h, goCode)
-
-  pub go-high : 32 ≤ code → goCode numbers code ≡ leb (code - 32) (numbers .nonterminals)
-  unfolding goCode
-  go-high h = rw (le-ltb code 32 h, goCode)
-
-module _ {numbers : Book} {b : Lines} (c : Counted numbers b) (w : WithinLimits b) where
-  low : (K code : ℕ) → code ≡ K → oneTo (numbers .terminals) code ≡ oneTo (b .terminals) K
-  low K code e = ap₂ oneTo (c .terminals-are) e
-
-  high : (K code : ℕ) → code ≡ K → oneTo (numbers .nonterminals) code ≡ oneTo (b .nonterminals) K
-  high K code e = ap₂ oneTo (c .nonterminals-are) e
-
-  -- a word of a symbol that no book declares
-  none : oneTo (numbers .nonterminals) 32 ≡ false
-  none = one-past (numbers .nonterminals) 32 (omega (arith, w .nonterminals-limit .high, c .nonterminals-are))
-
-  pub right-code : (X : Symbol) → rightCode numbers (symbolCode X) ≡ rightSymbol b X
-  unfolding symbolCode rightSymbol
-  right-code (terminal K) =
-      by-code (λ code. rightCode numbers code ≡ oneTo (b .terminals) K) 0 K
-      (λ h. right-low numbers (0 + K) (omega arith) ∙ low K (0 + K) (omega arith))
-      (λ h. right-high numbers 64 (omega arith) ∙ (none ∙ sym (one-past (b .terminals) K (omega (arith, w .terminals-limit .high)))))
-  right-code (nonterminal K) =
-      by-code (λ code. rightCode numbers code ≡ oneTo (b .nonterminals) K) 32 K
-      (λ h. right-high numbers (32 + K) (omega arith) ∙ high K (32 + K - 32) (omega arith))
-      (λ h. right-high numbers 64 (omega arith) ∙ (none ∙ sym (one-past (b .nonterminals) K (omega (arith, w .nonterminals-limit .high)))))
-
-  pub go-code : (X : Symbol) → goCode numbers (symbolCode X) ≡ goSymbol b X
-  unfolding symbolCode goSymbol
-  go-code (terminal K) =
-      by-code (λ code. goCode numbers code ≡ oneTo (b .terminals) K) 0 K
-      (λ h. go-low numbers (0 + K) (omega arith) ∙ low K (0 + K) (omega arith))
-      (λ h. go-high numbers 64 (omega arith) ∙ (past 32 (omega arith) ∙ sym (one-past (b .terminals) K (omega (arith, w .terminals-limit .high)))))
-    where
-      past : (k : ℕ) → 32 ≤ k → leb k (numbers .nonterminals) ≡ false
-      past k l = lt-leb k (numbers .nonterminals) (omega (arith, w .nonterminals-limit .high, c .nonterminals-are))
-  go-code (nonterminal K) =
-      by-code (λ code. goCode numbers code ≡ leb K (b .nonterminals)) 32 K
-      (λ h. go-high numbers (32 + K) (omega arith) ∙ ap₂ leb (let e : 32 + K - 32 ≡ K = omega arith in e) (c .nonterminals-are))
-      (λ h. go-high numbers 64 (omega arith) ∙ (lt-leb 32 (numbers .nonterminals) (omega (arith, w .nonterminals-limit .high, c .nonterminals-are))
-      ∙ sym (lt-leb K (b .nonterminals) (omega (arith, w .nonterminals-limit .high)))))
 
 -- Nodes
 
@@ -257,15 +174,18 @@ go-asked {numbers} {goes} {b} i h there e =
     (ap₂ ltb (h .goes-in .target-is i there) (h .counted .states-are))
 
 -- node j of the definition in line i
-pub node-asked : {numbers : Book} {definitions : List ℕ} {i size : ℕ} {x : Entry} → LeavesOf numbers definitions i size x → (j : ℕ) → j < nodes (x .line .expression)
-    → placeCode numbers size (getD definitions (49 * i + 4 + 3 * j) 0) (getD definitions (49 * i + 4 + 3 * j + 1) 0) (getD definitions (49 * i + 4 + 3 * j + 2) 0)
+pub node-asked : {numbers : Book} {definitions : List ℕ} {i size : ℕ} {x : Entry} → LeavesOf numbers definitions i size x → (j : ℕ)
+    → j < nodes (x .line .expression)
+    → placeCode numbers size (getD definitions (49 * i + 4 + 3 * j) 0) (getD definitions (49 * i + 4 + 3 * j + 1) 0)
+    (getD definitions (49 * i + 4 + 3 * j + 2) 0)
     ≡ ofLeaf (declaredPlace (x .book) (x .line .rule)) (nodeAt (x .line .expression) j)
 node-asked {numbers} {definitions} {i} {size} {x} h j l =
     let n = h .line-is .line-in .node-is j l (omega (arith, h .line-is .few-nodes)) in
     rw (n .kind-is, n .first-is, n .second-is) (place-code (h .counted) (x .line .rule) size (h .size-is) (nodeAt (x .line .expression) j))
 
 -- the number of nodes in line i
-pub node-count : {definitions : List ℕ} {i : ℕ} {d : InheritedDefinition} → LineIs definitions i d → getD definitions (49 * i + 3) 0 ≡ length (postfix (d .expression))
+pub node-count : {definitions : List ℕ} {i : ℕ} {d : InheritedDefinition} → LineIs definitions i d → getD definitions (49 * i + 3) 0
+    ≡ length (postfix (d .expression))
 node-count {d = d} h = h .line-in .nodes-is ∙ sym (length-postfix (d .expression))
 
 -- the definition in line i
@@ -305,7 +225,8 @@ module _ {numbers : Book} {rules definitions : List ℕ} {i : ℕ} {x : Entry} (
       ≡ definitionDeclared (numbers .inherited) x && isPosition (x .book) (x .line .rule) (x .line .position)
   unfolding inheritedLineDeclared declaredInherited definitionDeclared leavesDeclared
   inherited-parts =
-      rw (h .rules-of .counted .inherited-are) (moved (ltb (x .line .rule) (length (x .book .rules))) (isPosition (x .book) (x .line .rule) (x .line .position)) _ _)
+      rw (h .rules-of .counted .inherited-are) (moved (ltb (x .line .rule) (length (x .book .rules)))
+      (isPosition (x .book) (x .line .rule) (x .line .position)) _ _)
     where
       moved : (p q r s : Bool) → p && q && r && s ≡ p && (r && s) && q
       moved true true r s = sym (and-true (r && s))
@@ -326,7 +247,8 @@ unfolding definitionDeclared declaredSynthesized leavesDeclared
 synthesized-parts {b = b} i c =
     let d : SynthesizedDefinition = synthesizedAt (b .synthesizedDefinitions) i in
     rw (c .synthesized-are)
-    (sym (and-assoc (ltb (d .rule) (length (b .rules))) (ltb (d .attribute) (length (b .synthesizedOwners))) (allLeaves (declaredPlace b (d .rule)) (d .expression))))
+    (sym (and-assoc (ltb (d .rule) (length (b .rules))) (ltb (d .attribute) (length (b .synthesizedOwners)))
+    (allLeaves (declaredPlace b (d .rule)) (d .expression))))
 
 -- rule P
 left-other : (P : ℕ) (b : Lines) → 0 < P → leftDeclared P b ≡ oneTo (b .nonterminals) (leftOf (b .rules) P)
@@ -391,7 +313,8 @@ start-rules {rules} {b} w h =
     let rights : all (λ r. all (rightSymbol b) (r .right)) (b .rules) ≡ allBelow (length (b .rules)) (λ P. rightDeclared P b) =
     all-below (λ r. all (rightSymbol b) (r .right)) _ (b .rules) in
     ap (λ (t : Bool). startCode rules && t)
-    (below-and (λ P. leftDeclared P b) (λ P. rightDeclared P b) (length (b .rules)) ∙ ap (λ (t : Bool). allBelow (length (b .rules)) (λ P. leftDeclared P b) && t) (sym rights))
+    (below-and (λ P. leftDeclared P b) (λ P. rightDeclared P b) (length (b .rules))
+    ∙ ap (λ (t : Bool). allBelow (length (b .rules)) (λ P. leftDeclared P b) && t) (sym rights))
     ∙ and-when (allBelow (length (b .rules)) (λ P. leftDeclared P b)) (all (λ r. all (rightSymbol b) (r .right)) (b .rules))
     (λ e. start-code w h (below-at (λ P. rightDeclared P b) (length (b .rules)) 0 (sym rights ∙ e) (w .rules-limit .low)))
 

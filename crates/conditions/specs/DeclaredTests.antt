@@ -20,7 +20,7 @@ use Rattle.grammar.specs.Conditions.Tests.{
 }
 use Rattle.book.specs.declared.Book.{Book}
 use Rattle.book.specs.Held.{kernelAt}
-use Rattle.conditions.specs.Lent.{Entry}
+use Rattle.conditions.specs.Asked.{Entry}
 
 -- a symbol's word: a right symbol, a go line's symbol
 unfoldable pub rightCode : Book → ℕ → Bool
@@ -94,6 +94,7 @@ goesDeclared b = all (declaredGo b) (b .goes)
 
 -- opens every definition of this module
 unfoldable pub opens : Unit {0}
-unfolding rightCode goCode startCode placeCode rightDeclared leftDeclared ruleDeclared rulesDeclared grammarDeclared leavesDeclared definitionDeclared inheritedLineDeclared inheritedDeclared
+unfolding rightCode goCode startCode placeCode rightDeclared leftDeclared ruleDeclared rulesDeclared grammarDeclared leavesDeclared definitionDeclared
+    inheritedLineDeclared inheritedDeclared
     synthesizedDeclared kernelDeclared kernelsDeclared goesDeclared
 opens = tt

@@ -16,7 +16,7 @@ use Rattle.grammar.specs.Conditions.MeaningLaws.{right-length}
 use Rattle.book.specs.declared.Book.{Book}
 use Rattle.conditions.specs.Answers.{and-true, all-below, below-same, below-and}
 use Rattle.book.specs.Held.{noInherited, noSynthesized, DefinitionsIn}
-use Rattle.conditions.specs.Lent.{
+use Rattle.conditions.specs.Asked.{
   DeclaredBook,
   InheritedSide,
   InheritedRule,
@@ -200,7 +200,8 @@ module _ {synthesized rules definitions : List ℕ} {first n P K : ℕ} {b : Lin
 
 -- The two sides of a book
 
-module _ {numbers : Book} {inherited synthesized rules definitions : List ℕ} {b : Lines} (h : DeclaredBook numbers inherited synthesized rules definitions b) where
+module _ {numbers : Book} {inherited synthesized rules definitions : List ℕ} {b : Lines}
+    (h : DeclaredBook numbers inherited synthesized rules definitions b) where
   pub inherited-side : InheritedSide inherited rules definitions (numbers .inherited) (numbers .«inherited_definitions») (numbers .rules) b
   inherited-side =
       record {

@@ -1,11 +1,11 @@
 pub mod Answers
+pub mod Asked
+pub mod AskedLaws
 pub mod DeclaredLaws
 pub mod DeclaredTests
 pub mod DefinedLaws
 pub mod DefinedTests
 pub mod Leaves
-pub mod Lent
-pub mod LentLaws
 pub mod LimitLaws
 pub mod LimitTests
 pub mod OwnedLaws
@@ -13,3 +13,4 @@ pub mod OwnedLines
 pub mod OwnedTests
 pub mod Runs
 pub mod SpellingHeld
+pub mod SymbolWords

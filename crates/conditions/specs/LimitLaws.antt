@@ -47,7 +47,7 @@ use Rattle.grammar.specs.Data.Book.{InheritedDefinition, SynthesizedDefinition,
 use Rattle.grammar.specs.Format.Ordered.{Ascends, ascends-[], ascends-∷, kernelKey}
 use Rattle.conditions.specs.Runs.{lead, before-lead, count-same, count-other, few-front, Sorted, sorted-[], sorted-∷, apart, few-sorted}
 use Rattle.conditions.specs.Answers.{below-same, below-join, all-below, same-test}
-use Rattle.conditions.specs.Lent.{DefinitionLines, KernelLines}
+use Rattle.conditions.specs.Asked.{DefinitionLines, KernelLines}
 use Rattle.book.specs.Held.{HasRoom}
 use Rattle.conditions.specs.LimitTests.{numbersWithin, rightsWithin, nodesWithin, statesWithin, linesWithin}
 
@@ -109,8 +109,10 @@ nodes-lines {definitions} {n} b h =
     ap (λ k. allBelow k (λ i. leb (getD definitions (49 * i + 3) 0) MAX-NODES)) (h .count)
     ∙ (below-join (λ i. leb (getD definitions (49 * i + 3) 0) MAX-NODES) (length inherited) (length synthesized)
     ∙ ap₂ _&&_
-    (below-same (length inherited) (λ i l. ap (λ k. leb k MAX-NODES) (h .lines .inherited-is i l .nodes-is)) ∙ sym (all-below (λ d. leb (nodes (d .expression)) MAX-NODES) _ inherited))
-    (below-same (length synthesized) (λ i l. ap (λ k. leb k MAX-NODES) (h .lines .synthesized-is i l .nodes-is)) ∙ sym (all-below (λ d. leb (nodes (d .expression)) MAX-NODES) _ synthesized)))
+    (below-same (length inherited) (λ i l. ap (λ k. leb k MAX-NODES) (h .lines .inherited-is i l .nodes-is))
+    ∙ sym (all-below (λ d. leb (nodes (d .expression)) MAX-NODES) _ inherited))
+    (below-same (length synthesized) (λ i l. ap (λ k. leb k MAX-NODES) (h .lines .synthesized-is i l .nodes-is))
+    ∙ sym (all-below (λ d. leb (nodes (d .expression)) MAX-NODES) _ synthesized)))
 
 -- The states of kernel lines ascend
 

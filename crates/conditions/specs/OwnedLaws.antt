@@ -20,10 +20,10 @@ use Rattle.grammar.specs.Conditions.MeaningLaws.{symbols-declared, right-length
 use Rattle.conditions.specs.Answers.{same-test, and-true, and-first, and-second}
 use Rattle.book.specs.Layout.{symbolCode}
 use Rattle.book.specs.Held.{nodeKind, nodeFirst, nodeSecond}
-use Rattle.conditions.specs.Lent.{SymbolsIn, DeclaredIn, NodeThere}
-use Rattle.conditions.specs.LentLaws.{member-at}
+use Rattle.conditions.specs.Asked.{SymbolsIn, DeclaredIn, NodeThere}
+use Rattle.conditions.specs.AskedLaws.{member-at}
 use Rattle.conditions.specs.Leaves.{ofLeaf}
-use Rattle.conditions.specs.DeclaredLaws.{terminal-code, nonterminal-code}
+use Rattle.conditions.specs.SymbolWords.{terminal-code, nonterminal-code}
 use Rattle.conditions.specs.OwnedTests.{ownedCode}
 
 -- by the kind of the node
@@ -33,7 +33,8 @@ module _ (inherited synthesized rules : List ℕ) (p limit kind first second : �
   owned-own e = rw e
 
   pub owned-at : kind ≡ 2
-      → eqb (getD rules (10 * p + 1 + first) 0) (32 + getD synthesized second 0) && ltb first limit ≡ ownedCode inherited synthesized rules p limit kind first second
+      → eqb (getD rules (10 * p + 1 + first) 0) (32 + getD synthesized second 0) && ltb first limit
+      ≡ ownedCode inherited synthesized rules p limit kind first second
   unfolding ownedCode
   owned-at e = rw e
 
@@ -132,7 +133,8 @@ module _ {inherited synthesized rules : List ℕ} {b : Lines} (h : DeclaredIn in
     owned-code limit (load (at J K)) d =
         let l : K < length (b .synthesizedOwners) = ltb-true K (length (b .synthesizedOwners)) (and-second (isPosition b P J) _ d) in
         ap (λ (t : Bool). t && ltb J limit) (ap (λ (A : ℕ). eqb (getD rules (10 * P + 1 + J) 0) (32 + A)) (h .synthesized-in .owner-is K l)
-        ∙ nonterminal-word (h .symbols-in) P J there (position-is J (and-first _ _ d)) (synthesizedOwner b K) (omega (arith, synthesized-owner (h .symbols-in) K l .high, h .symbols-in .within .nonterminals-limit .high)))
+        ∙ nonterminal-word (h .symbols-in) P J there (position-is J (and-first _ _ d)) (synthesizedOwner b K)
+        (omega (arith, synthesized-owner (h .symbols-in) K l .high, h .symbols-in .within .nonterminals-limit .high)))
     owned-code limit (load (val J)) d = ap (λ (t : Bool). t && ltb J limit) (terminal-word (h .symbols-in) P J there (position-is J d))
     owned-code limit (operate add) d = refl
     owned-code limit (operate sub) d = refl

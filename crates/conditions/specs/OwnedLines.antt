@@ -29,8 +29,8 @@ use Rattle.grammar.specs.Conditions.TestsLaws.{withinLimits-decides, declared-d
 use Rattle.grammar.specs.Conditions.MeaningLaws.{right-length}
 use Rattle.conditions.specs.Answers.{holds, and-assoc, and-true, and-first, and-second, all-below, below-at, below-all, below-and}
 use Rattle.book.specs.Held.{inheritedAt, synthesizedAt, nodeAt}
-use Rattle.conditions.specs.Lent.{Entry, SymbolsIn, DeclaredIn, NodeThere, LeavesThere, InheritedThere, SynthesizedThere, DeclaredLines}
-use Rattle.conditions.specs.LentLaws.{inheritedEntry, synthesizedEntry, inherited-line, synthesized-line}
+use Rattle.conditions.specs.Asked.{Entry, SymbolsIn, DeclaredIn, NodeThere, LeavesThere, InheritedThere, SynthesizedThere, DeclaredLines}
+use Rattle.conditions.specs.AskedLaws.{inheritedEntry, synthesizedEntry, inherited-line, synthesized-line}
 use Rattle.conditions.specs.Leaves.{ofLeaf, leaves-nodes}
 use Rattle.conditions.specs.DeclaredTests.{grammarDeclared, inheritedDeclared, synthesizedDeclared, kernelsDeclared, goesDeclared}
 use Rattle.conditions.specs.DeclaredLaws.{declared-parts}
@@ -40,7 +40,8 @@ use Rattle.conditions.specs.OwnedLaws.{nonterminal-word, inherited-owner
 -- two tests of a list's elements at once
 all-and : {B : Type 0} (f g : B → Bool) (d : B) (xs : List B) → all (λ x. f x && g x) xs ≡ all f xs && all g xs
 all-and f g d xs =
-    all-below (λ x. f x && g x) d xs ∙ (below-and (λ i. f (getD xs i d)) (λ i. g (getD xs i d)) (length xs) ∙ sym (ap₂ _&&_ (all-below f d xs) (all-below g d xs)))
+    all-below (λ x. f x && g x) d xs ∙ (below-and (λ i. f (getD xs i d)) (λ i. g (getD xs i d)) (length xs)
+    ∙ sym (ap₂ _&&_ (all-below f d xs) (all-below g d xs)))
 
 all-at : {B : Type 0} (f : B → Bool) (d : B) (xs : List B) (i : ℕ) → all f xs ≡ true → i < length xs → f (getD xs i d) ≡ true
 all-at f d xs i e l = below-at (λ i. f (getD xs i d)) (length xs) i (sym (all-below f d xs) ∙ e) l
@@ -59,7 +60,8 @@ module _ {inherited synthesized rules definitions : List ℕ} {i : ℕ} {x : Ent
   node-declared : (j : ℕ) → j < nodes (x .line .expression) → ofLeaf (declaredPlace (x .book) (x .line .rule)) (nodeAt (x .line .expression) j) ≡ true
   node-declared j l =
       all-at (ofLeaf (declaredPlace (x .book) (x .line .rule))) select (postfix (x .line .expression)) j
-      (sym (leaves-nodes (declaredPlace (x .book) (x .line .rule)) (x .line .expression)) ∙ h .leaves-there) (omega (arith, length-postfix (x .line .expression)))
+      (sym (leaves-nodes (declaredPlace (x .book) (x .line .rule)) (x .line .expression)) ∙ h .leaves-there)
+      (omega (arith, length-postfix (x .line .expression)))
 
   -- node j of line i
   module _ (j : ℕ) (l : j < nodes (x .line .expression)) where
@@ -98,7 +100,8 @@ inherited-line-asked {inherited} {synthesized} {rules} {definitions} {i} {x} {r}
     rw (d .rule-is, d .position-is, d .attribute-is, e)
     (ap₂ (λ (s t : Bool). s && t)
     (ap (λ (A : ℕ). eqb (getD rules (10 * P + 1 + J) 0) (32 + A)) owner
-    ∙ nonterminal-word (g .declared-in .symbols-in) P J (g .rule-there) (h .position-there) (inheritedOwner (x .book) (x .line .attribute)) (rw (← owner) (h .owner-low)))
+    ∙ nonterminal-word (g .declared-in .symbols-in) P J (g .rule-there) (h .position-there) (inheritedOwner (x .book) (x .line .attribute))
+    (rw (← owner) (h .owner-low)))
     (ap (λ (k : ℕ). leavesOwned k x) (d .position-is))
     ∙ sym (and-assoc (nonterminalAt (x .book) P J (inheritedOwner (x .book) (x .line .attribute))) (allLeaves (ownedPlace (x .book) P) (x .line .expression))
     (allLeaves (before J) (x .line .expression))))
@@ -112,7 +115,8 @@ synthesized-line-asked {inherited} {synthesized} {rules} {definitions} {i} {x} {
     let g = h .leaves-of in
     let d = g .line-is .line-in in
     rw (d .rule-is, d .attribute-is)
-    (ap₂ _&&_ (ap₂ eqb (g .declared-in .synthesized-in .owner-is (x .line .attribute) (h .attribute-there)) (g .declared-in .symbols-in .rules-in .left-is (x .line .rule) (g .rule-there)))
+    (ap₂ _&&_ (ap₂ eqb (g .declared-in .synthesized-in .owner-is (x .line .attribute) (h .attribute-there))
+    (g .declared-in .symbols-in .rules-in .left-is (x .line .rule) (g .rule-there)))
     (e ∙ (ap (λ (t : Bool). allLeaves (ownedPlace (x .book) (x .line .rule)) (x .line .expression) && t) all-before ∙ and-true _)))
   where
     all-before : allLeaves (before 9) (x .line .expression) ≡ true

@@ -9,7 +9,7 @@ use Rattle.grammar.specs.Conditions.Decides.{all}
 use Rattle.grammar.specs.Data.Symbol.{leftOf}
 use Rattle.grammar.specs.Data.Book.{Book as Lines, synthesizedOwner}
 use Rattle.grammar.specs.Conditions.Tests.{allLeaves, before, ownedPlace, ownedInherited, ownedSynthesized}
-use Rattle.conditions.specs.Lent.{Entry}
+use Rattle.conditions.specs.Asked.{Entry}
 
 -- a node's words, in rule p and left of a position
 unfoldable pub ownedCode : List ℕ → List ℕ → List ℕ → ℕ → ℕ → ℕ → ℕ → ℕ → Bool

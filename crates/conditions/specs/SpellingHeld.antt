@@ -12,7 +12,7 @@ use Rattle.book.specs.declared.Book.{Book}
 use Rattle.book.specs.Counts.{countsOf}
 use Rattle.book.specs.Held.{Held, kept}
 use Rattle.book.specs.HeldLaws.{held}
-use Rattle.conditions.specs.Lent.{Counted, Kept}
+use Rattle.conditions.specs.Asked.{Counted, Kept}
 use Rattle.book.specs.Spelling.{Arrays, Roomy, storedIn, isBook, Spelling}
 
 module _ {text : List ℕ} {before stored : Arrays} {spelled : Bool} {numbers : Book} (s : Spelling text before spelled numbers stored) where

@@ -4,10 +4,11 @@ ghost use Prim.Native.Nat.{_<_};
 ghost use Rattle.grammar.specs.Conditions.Decides.{oneTo, all};
 ghost use Rattle.grammar.specs.Conditions.Tests.{declared};
 ghost use Rattle.conditions.specs.Answers.{Some, Answers};
-ghost use Rattle.conditions.specs.Lent.{RulesOf, RuleOf, LeavesOf, EntryOf, DefinitionsOf, KernelsOf, KernelOf, GoesOf, GrammarOf, Within};
+ghost use Rattle.conditions.specs.Asked.{RulesOf, RuleOf, LeavesOf, EntryOf, DefinitionsOf, KernelsOf, KernelOf, GoesOf, GrammarOf, Within};
 ghost use Rattle.conditions.specs.DeclaredTests.{rightCode, goCode, startCode, placeCode, rightDeclared, ruleDeclared, rulesDeclared};
-ghost use Rattle.conditions.specs.DeclaredTests.{leavesDeclared, definitionDeclared, inheritedLineDeclared, inheritedDeclared};
-ghost use Rattle.conditions.specs.DeclaredTests.{synthesizedDeclared, kernelDeclared, kernelsDeclared, goesDeclared, grammarDeclared};
+ghost use Rattle.conditions.specs.DeclaredTests.{leavesDeclared, definitionDeclared};
+ghost use Rattle.conditions.specs.DeclaredTests.{inheritedLineDeclared, inheritedDeclared, synthesizedDeclared, kernelDeclared};
+ghost use Rattle.conditions.specs.DeclaredTests.{kernelsDeclared, goesDeclared, grammarDeclared};
 use super::limits::one_to;
 use book::Book;
 
@@ -266,7 +267,8 @@ pub fn declared(
 ) -> bool
     requires { ⌜ Some (Within book (now inherited) (now synthesized) (now rules) (now definitions) (now kernels) (now goes)) ⌝ }
     ensures { λ r. ⌜ Answers
-        (Within book (now (inherited .entry)) (now (synthesized .entry)) (now (rules .entry)) (now (definitions .entry)) (now (kernels .entry)) (now (goes .entry)))
+        (Within book (now (inherited .entry)) (now (synthesized .entry)) (now (rules .entry)) (now (definitions .entry)) (now (kernels .entry))
+        (now (goes .entry)))
         declared r ⌝ }
 {
     let grammar = grammar_declared(book, inherited, synthesized, rules);

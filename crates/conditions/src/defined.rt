@@ -5,10 +5,10 @@ ghost use Prim.Native.Nat.{_+_, _*_, _≤_};
 ghost use lib.ListN.{length};
 ghost use Rattle.grammar.specs.Conditions.Tests.{defined};
 ghost use Rattle.conditions.specs.Answers.{Some, Answers};
-ghost use Rattle.conditions.specs.Lent.{DeclaredBook, InheritedSide, InheritedRule, InheritedPlace, InheritedAttribute, SynthesizedSide};
-ghost use Rattle.conditions.specs.Lent.{SynthesizedRule, SynthesizedAttribute};
-ghost use Rattle.conditions.specs.DefinedTests.{definesCode, inheritedAttributeDefined, positionDefined, inheritedRuleDefined};
-ghost use Rattle.conditions.specs.DefinedTests.{inheritedDefined, synthesizedAttributeDefined, synthesizedRuleDefined, synthesizedDefined};
+ghost use Rattle.conditions.specs.Asked.{DeclaredBook, InheritedSide, InheritedRule, InheritedPlace, InheritedAttribute};
+ghost use Rattle.conditions.specs.Asked.{SynthesizedSide, SynthesizedRule, SynthesizedAttribute};
+ghost use Rattle.conditions.specs.DefinedTests.{definesCode, inheritedAttributeDefined, positionDefined, inheritedRuleDefined, inheritedDefined};
+ghost use Rattle.conditions.specs.DefinedTests.{synthesizedAttributeDefined, synthesizedRuleDefined, synthesizedDefined};
 use book::Book;
 
 // Whether one of n lines from the first on defines attribute k at position j of rule p.

@@ -5,7 +5,7 @@ ghost use lib.ListN.{length, drop};
 ghost use Rattle.grammar.specs.Conditions.Decides.{oneTo, count, few};
 ghost use Rattle.grammar.specs.Conditions.Tests.{withinLimits};
 ghost use Rattle.conditions.specs.Answers.{Some, Answers};
-ghost use Rattle.conditions.specs.Lent.{Counted, RuleLines, DefinitionLines, KernelLines, Kept, Lent};
+ghost use Rattle.conditions.specs.Asked.{Counted, RuleLines, DefinitionLines, KernelLines, Kept, Stored};
 ghost use Rattle.conditions.specs.LimitTests.{numbersWithin, rightsWithin, nodesWithin, statesWithin, linesWithin};
 use book::Book;
 
@@ -116,9 +116,9 @@ fn lines_within(
     definitions: &[u32],
     kernels: &[u32],
 ) -> bool
-    requires { ⌜ Some (Lent book (now inherited) (now synthesized) (now rules) (now definitions) (now kernels)) ⌝ }
+    requires { ⌜ Some (Stored book (now inherited) (now synthesized) (now rules) (now definitions) (now kernels)) ⌝ }
     ensures { λ r. ⌜ Answers
-        (Lent book (now (inherited .entry)) (now (synthesized .entry)) (now (rules .entry)) (now (definitions .entry)) (now (kernels .entry)))
+        (Stored book (now (inherited .entry)) (now (synthesized .entry)) (now (rules .entry)) (now (definitions .entry)) (now (kernels .entry)))
         linesWithin r ⌝ }
 {
     let i = book.inherited as usize;

@@ -3,7 +3,7 @@
 ghost use mathlib.Core.Path.{_≡_};
 ghost use Rattle.grammar.specs.Conditions.Tests.{owned};
 ghost use Rattle.conditions.specs.Answers.{Some, Answers};
-ghost use Rattle.conditions.specs.Lent.{NodeThere, LeavesThere, InheritedThere, SynthesizedThere, InheritedLines, SynthesizedLines, DeclaredBook};
+ghost use Rattle.conditions.specs.Asked.{NodeThere, LeavesThere, InheritedThere, SynthesizedThere, InheritedLines, SynthesizedLines, DeclaredBook};
 ghost use Rattle.conditions.specs.OwnedTests.{ownedCode, leavesOwned, inheritedLineOwned, synthesizedLineOwned, inheritedOwned, synthesizedOwned};
 use book::Book;
 

@@ -1,7 +1,7 @@
 -- `go_code` meets its contract: by the two kinds of symbols.
 -- Assumes nothing.
 use mathlib.Core.Path.{sym, _∙_}
-use Rattle.conditions.specs.DeclaredLaws.{go-low, go-high}
+use Rattle.conditions.specs.SymbolWords.{go-low, go-high}
 use borrow.Author.Needs.{needs}
 use Rattle.conditions.proofs.declared.go_code.Statement.{statement}
 use Rattle.conditions.proofs.declared.go_code.Tie as tie

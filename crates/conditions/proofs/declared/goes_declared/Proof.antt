@@ -5,7 +5,7 @@ use native.Mathlib.Omega.{arith}
 use borrow.Author.Tests.{not-true, not-false}
 use Rattle.grammar.specs.Conditions.Tests.{declaredGo}
 use Rattle.book.specs.Held.{goAt}
-use Rattle.conditions.specs.Lent.{GoesOf}
+use Rattle.conditions.specs.Asked.{GoesOf}
 use Rattle.conditions.specs.Answers.{Passing, passing-start, passing-turn, all-stop, all-end}
 use Rattle.conditions.specs.DeclaredTests.{goesDeclared}
 use Rattle.conditions.specs.DeclaredLaws.{go-asked}

@@ -5,8 +5,8 @@ use native.Mathlib.Omega.{arith}
 use borrow.Author.Tests.{not-true, not-false}
 use Rattle.grammar.specs.Conditions.Tests.{declaredInherited}
 use Rattle.book.specs.Held.{inheritedAt}
-use Rattle.conditions.specs.Lent.{DefinitionsOf}
-use Rattle.conditions.specs.LentLaws.{inheritedEntry, inherited-entry}
+use Rattle.conditions.specs.Asked.{DefinitionsOf}
+use Rattle.conditions.specs.AskedLaws.{inheritedEntry, inherited-entry}
 use Rattle.conditions.specs.Answers.{Passing, passing-start, passing-turn, all-stop, all-end}
 use Rattle.conditions.specs.DeclaredTests.{inheritedLineDeclared, inheritedDeclared}
 use borrow.Author.Needs.{needs}
@@ -14,7 +14,8 @@ use Rattle.conditions.proofs.declared.inherited_declared.Statement.{sta
 use Rattle.conditions.proofs.declared.inherited_declared.Tie as tie
 
 abbrev Inv-loop : tie.InvT-loop
-Inv-loop book rules definitions n i₀ i = Passing (DefinitionsOf book rules definitions) (λ b k. declaredInherited b (inheritedAt (b .inheritedDefinitions) k)) n i
+Inv-loop book rules definitions n i₀ i = Passing (DefinitionsOf book rules definitions)
+    (λ b k. declaredInherited b (inheritedAt (b .inheritedDefinitions) k)) n i
 
 abbrev μ-loop : tie.MeasureT-loop
 μ-loop book rules definitions n i₀ i = n - i
@@ -26,8 +27,11 @@ loop-holds : tie.Need-loop-holds Inv-loop μ-loop
 loop-holds c = passing-start
 
 inherited-line-declared-requires : tie.Need-inherited-line-declared-requires Inv-loop μ-loop
-inherited-line-declared-requires c κs = let h = c .before .before .before .before .before .pre in
-    (inheritedEntry (h .0) (c .before .loop .i), inherited-entry (h .1) (c .before .loop .i) (omega (arith, h .1 .rules-of .counted .inherited-definitions-are)))
+inherited-line-declared-requires c κs = let h = c .before .before .before .before .before .pre in (
+  inheritedEntry (h .0) (c .before .loop .i),
+  inherited-entry (h .1) (c .before .loop .i)
+      (omega (arith, h .1 .rules-of .counted .inherited-definitions-are)),
+)
 
 returns : tie.Need-returns Inv-loop μ-loop
 unfolding inheritedDeclared inheritedLineDeclared
@@ -59,7 +63,8 @@ loop-again c = let a = c .before in
 
 returns-2 : tie.Need-returns-2 Inv-loop μ-loop
 unfolding inheritedDeclared
-returns-2 c = all-end _ (λ b. b .inheritedDefinitions) declaredInherited (λ b h. h .rules-of .counted .inherited-definitions-are) (c .before .loop .inv) (c .loop-test .left)
+returns-2 c = all-end _ (λ b. b .inheritedDefinitions) declaredInherited (λ b h. h .rules-of .counted .inherited-definitions-are) (c .before .loop .inv)
+    (c .loop-test .left)
 
 pub inherited-declared-spec : {M : Type 1} → statement M
 inherited-declared-spec =

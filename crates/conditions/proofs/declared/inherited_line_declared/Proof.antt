@@ -12,7 +12,8 @@ use Rattle.conditions.proofs.declared.inherited_line_declared.Tie as ti
 -- a declared line's rule has a line
 low : (t : tie.Then1) → getD (t .before .before .before .before .args .definitions .now) (49 * t .before .before .before .before .args .i) 0 < 64
 low t = let h = t .before .before .before .before .pre in
-    declared-word (h .1) (t .before .before .before .before .args .book .inherited) (sym (t .before .definition-declared .ensures .for-all (h .0) (h .1)) ∙ t .if1 .taken)
+    declared-word (h .1) (t .before .before .before .before .args .book .inherited)
+    (sym (t .before .definition-declared .ensures .for-all (h .0) (h .1)) ∙ t .if1 .taken)
 
 definition-declared-requires : tie.Need-definition-declared-requires
 definition-declared-requires c κs = search needs

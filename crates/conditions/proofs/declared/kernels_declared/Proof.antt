@@ -5,7 +5,7 @@ use native.Mathlib.Omega.{arith}
 use borrow.Author.Tests.{not-true, not-false}
 use Rattle.grammar.specs.Conditions.Tests.{declaredKernel}
 use Rattle.book.specs.Held.{kernelAt}
-use Rattle.conditions.specs.Lent.{KernelsOf}
+use Rattle.conditions.specs.Asked.{KernelsOf}
 use Rattle.conditions.specs.Answers.{answers-where, Passing, passing-start, passing-turn, all-stop, all-end}
 use Rattle.conditions.specs.DeclaredTests.{kernelDeclared, kernelsDeclared}
 use borrow.Author.Needs.{needs}

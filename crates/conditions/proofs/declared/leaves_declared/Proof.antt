@@ -7,7 +7,7 @@ use borrow.Author.Tests.{not-true, not-false}
 use Rattle.grammar.specs.Data.Postfix.{select, postfix}
 use Rattle.grammar.specs.Conditions.Tests.{declaredPlace}
 use Rattle.book.specs.Held.{nodeAt}
-use Rattle.conditions.specs.Lent.{LeavesOf}
+use Rattle.conditions.specs.Asked.{LeavesOf}
 use Rattle.conditions.specs.Answers.{answers-same, Passing, passing-start, passing-turn, all-stop, all-end}
 use Rattle.conditions.specs.Leaves.{ofLeaf, leaves-nodes}
 use Rattle.conditions.specs.DeclaredTests.{leavesDeclared}
@@ -17,7 +17,8 @@ use Rattle.conditions.proofs.declared.leaves_declared.Statement.{statem
 use Rattle.conditions.proofs.declared.leaves_declared.Tie as tie
 
 abbrev Inv-loop : tie.InvT-loop
-Inv-loop book definitions i size n j₀ j = Passing (LeavesOf book definitions i size) (λ x k. ofLeaf (declaredPlace (x .book) (x .line .rule)) (nodeAt (x .line .expression) k)) n j
+Inv-loop book definitions i size n j₀ j = Passing (LeavesOf book definitions i size)
+    (λ x k. ofLeaf (declaredPlace (x .book) (x .line .rule)) (nodeAt (x .line .expression) k)) n j
 
 abbrev μ-loop : tie.MeasureT-loop
 μ-loop book definitions i size n j₀ j = n - j
@@ -84,7 +85,8 @@ unfolding leavesDeclared
 returns c = let a = c .before in
     let k = a .before .before .before .before .before in
     answers-same (λ x h. sym (leaves-nodes (declaredPlace (x .book) (x .line .rule)) (x .line .expression)))
-    (all-stop select (λ x. postfix (x .line .expression)) (λ x. ofLeaf (declaredPlace (x .book) (x .line .rule))) (λ x h. node-count (h .line-is)) (k .loop .inv) (omega arith)
+    (all-stop select (λ x. postfix (x .line .expression)) (λ x. ofLeaf (declaredPlace (x .book) (x .line .rule))) (λ x h. node-count (h .line-is))
+    (k .loop .inv) (omega arith)
     (record { for-all = λ x h. a .place-declared .ensures ∙ node-asked h (k .loop .j) (omega (arith, h .line-is .line-in .nodes-is)) })
     (not-true _ (c .if1 .taken)))
 
@@ -104,7 +106,8 @@ loop-again c = let a = c .before in
 returns-2 : tie.Need-returns-2 Inv-loop μ-loop
 unfolding leavesDeclared
 returns-2 c = answers-same (λ x h. sym (leaves-nodes (declaredPlace (x .book) (x .line .rule)) (x .line .expression)))
-    (all-end select (λ x. postfix (x .line .expression)) (λ x. ofLeaf (declaredPlace (x .book) (x .line .rule))) (λ x h. node-count (h .line-is)) (c .before .loop .inv)
+    (all-end select (λ x. postfix (x .line .expression)) (λ x. ofLeaf (declaredPlace (x .book) (x .line .rule))) (λ x h. node-count (h .line-is))
+    (c .before .loop .inv)
     (c .loop-test .left))
 
 pub leaves-declared-spec : {M : Type 1} → statement M

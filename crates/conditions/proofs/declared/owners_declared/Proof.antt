@@ -47,7 +47,8 @@ loop-again c = let a = c .before in
 
 returns-2 : tie.Need-returns-2 Inv-loop μ-loop
 returns-2 c = let k = c .before in
-    all-end 0 (λ u. k .before .before .args .owners .now) (λ u. oneTo (k .before .before .args .n)) (λ u h. refl) (k .loop .inv) (c .loop-test .left) .for-all tt tt
+    all-end 0 (λ u. k .before .before .args .owners .now) (λ u. oneTo (k .before .before .args .n)) (λ u h. refl) (k .loop .inv)
+    (c .loop-test .left) .for-all tt tt
 
 pub owners-declared-spec : {M : Type 1} → statement M
 owners-declared-spec =

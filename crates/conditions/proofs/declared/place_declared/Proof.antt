@@ -16,13 +16,15 @@ one-to-requires c κs = search needs
 
 returns-2 : tie.Need-returns-2
 returns-2 c = let a = c .before .before .before .before .args in
-    ap (λ (t : Bool). t && ltb (a .second) (a .book .synthesized)) (c .before .one-to .ensures) ∙ place-at (a .book) (a .size) _ _ _ (c .before .before .if2 .taken)
+    ap (λ (t : Bool). t && ltb (a .second) (a .book .synthesized)) (c .before .one-to .ensures)
+    ∙ place-at (a .book) (a .size) _ _ _ (c .before .before .if2 .taken)
 
 one-to-requires-2 : tie.Need-one-to-requires-2
 one-to-requires-2 c κs = search needs
 
 returns-3 : tie.Need-returns-3
-returns-3 c = c .one-to2 .ensures ∙ place-val (c .before .before .before .before .args .book) _ _ _ (c .before .before .before .before .args .second) (c .before .if3 .taken)
+returns-3 c = c .one-to2 .ensures ∙ place-val (c .before .before .before .before .args .book) _ _ _ (c .before .before .before .before .args .second)
+    (c .before .if3 .taken)
 
 returns-4 : tie.Need-returns-4
 returns-4 c = place-none _ _ _ _ _ (c .before .before .if1 .left) (c .before .if2 .left) (c .if3 .left)

@@ -1,7 +1,7 @@
 -- `right_code` meets its contract: by the two kinds of symbols.
 -- Assumes nothing.
 use mathlib.Core.Path.{sym, _∙_}
-use Rattle.conditions.specs.DeclaredLaws.{right-low, right-high}
+use Rattle.conditions.specs.SymbolWords.{right-low, right-high}
 use borrow.Author.Needs.{needs}
 use Rattle.conditions.proofs.declared.right_code.Statement.{statement}
 use Rattle.conditions.proofs.declared.right_code.Tie as tie

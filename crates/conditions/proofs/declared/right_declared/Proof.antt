@@ -7,7 +7,7 @@ use lib.ListN.{getD}
 use borrow.Author.Tests.{not-true, not-false}
 use Rattle.grammar.specs.Data.Symbol.{terminal, rightOf}
 use Rattle.grammar.specs.Conditions.Tests.{rightSymbol}
-use Rattle.conditions.specs.Lent.{RuleOf}
+use Rattle.conditions.specs.Asked.{RuleOf}
 use Rattle.conditions.specs.Answers.{Passing, passing-start, passing-turn, all-stop, all-end}
 use Rattle.conditions.specs.DeclaredTests.{rightDeclared}
 use Rattle.conditions.specs.DeclaredLaws.{right-symbol}

@@ -21,7 +21,10 @@ right-declared-requires : tie.Need-right-declared-requires
 right-declared-requires c κs = search needs
 
 returns : tie.Need-returns
-returns c = record { for-all = λ b h. rule-asked h (c .before .before .before .if1 .taken) (c .before .one-to .ensures) (c .right-declared .ensures .for-all b h) }
+returns c = record {
+  for-all = λ b h. rule-asked h (c .before .before .before .if1 .taken) (c .before .one-to .ensures)
+      (c .right-declared .ensures .for-all b h);
+}
 
 right-declared-requires-2 : tie.Need-right-declared-requires-2
 right-declared-requires-2 c κs = search needs

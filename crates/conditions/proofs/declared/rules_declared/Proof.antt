@@ -5,8 +5,8 @@ use mathlib.Core.Path.{ap}
 use native.Mathlib.Omega.{arith}
 use borrow.Author.Tests.{not-true, not-false}
 use Rattle.grammar.specs.Conditions.Decides.{allBelow}
-use Rattle.conditions.specs.Lent.{RulesOf}
-use Rattle.conditions.specs.LentLaws.{rule-of}
+use Rattle.conditions.specs.Asked.{RulesOf}
+use Rattle.conditions.specs.AskedLaws.{rule-of}
 use Rattle.conditions.specs.Answers.{answers-where, answers-same, Passing, passing-start, passing-turn, passing-stop, passing-end}
 use Rattle.conditions.specs.DeclaredTests.{ruleDeclared, rulesDeclared}
 use borrow.Author.Needs.{needs}
@@ -50,7 +50,8 @@ loop-again c = let a = c .before in
 
 returns-2 : tie.Need-returns-2 Inv-loop μ-loop
 unfolding rulesDeclared
-returns-2 c = answers-same (λ b h. ap (λ (m : ℕ). allBelow m (λ P. ruleDeclared P b)) (h .counted .rules-are)) (passing-end (c .before .loop .inv) (c .loop-test .left))
+returns-2 c = answers-same (λ b h. ap (λ (m : ℕ). allBelow m (λ P. ruleDeclared P b)) (h .counted .rules-are))
+    (passing-end (c .before .loop .inv) (c .loop-test .left))
 
 pub rules-declared-spec : {M : Type 1} → statement M
 rules-declared-spec =

@@ -6,8 +6,8 @@ use native.Mathlib.Omega.{arith}
 use borrow.Author.Tests.{not-true, not-false}
 use Rattle.grammar.specs.Conditions.Tests.{declaredSynthesized}
 use Rattle.book.specs.Held.{synthesizedAt}
-use Rattle.conditions.specs.Lent.{DefinitionsOf}
-use Rattle.conditions.specs.LentLaws.{synthesizedEntry, synthesized-entry}
+use Rattle.conditions.specs.Asked.{DefinitionsOf}
+use Rattle.conditions.specs.AskedLaws.{synthesizedEntry, synthesized-entry}
 use Rattle.conditions.specs.Answers.{Passing, passing-start, passing-turn, all-stop, all-end}
 use Rattle.conditions.specs.DeclaredTests.{synthesizedDeclared}
 use Rattle.conditions.specs.DeclaredLaws.{synthesized-parts}
@@ -16,7 +16,8 @@ use Rattle.conditions.proofs.declared.synthesized_declared.Statement.{s
 use Rattle.conditions.proofs.declared.synthesized_declared.Tie as tie
 
 abbrev Inv-loop : tie.InvT-loop
-Inv-loop book rules definitions first n i₀ i = Passing (DefinitionsOf book rules definitions) (λ b k. declaredSynthesized b (synthesizedAt (b .synthesizedDefinitions) k)) n i
+Inv-loop book rules definitions first n i₀ i = Passing (DefinitionsOf book rules definitions)
+    (λ b k. declaredSynthesized b (synthesizedAt (b .synthesizedDefinitions) k)) n i
 
 abbrev μ-loop : tie.MeasureT-loop
 μ-loop book rules definitions first n i₀ i = n - i
@@ -36,8 +37,11 @@ add-definition-declared c = let h = c .before .before .before .before .before .b
 
 definition-declared-requires : tie.Need-definition-declared-requires Inv-loop μ-loop
 definition-declared-requires c κs = let h = c .before .before .before .before .before .before .pre in
-    let n = h .1 .rules-of .counted in
-    (synthesizedEntry (h .0) (c .before .loop .i), synthesized-entry (h .1) (c .before .loop .i) (n .inherited-definitions-are) (omega (arith, n .synthesized-definitions-are)))
+    let n = h .1 .rules-of .counted in (
+      synthesizedEntry (h .0) (c .before .loop .i),
+      synthesized-entry (h .1) (c .before .loop .i) (n .inherited-definitions-are)
+          (omega (arith, n .synthesized-definitions-are)),
+    )
 
 returns : tie.Need-returns Inv-loop μ-loop
 unfolding synthesizedDeclared
@@ -70,7 +74,8 @@ loop-again c = let a = c .before in
 
 returns-2 : tie.Need-returns-2 Inv-loop μ-loop
 unfolding synthesizedDeclared
-returns-2 c = all-end _ (λ b. b .synthesizedDefinitions) declaredSynthesized (λ b h. h .rules-of .counted .synthesized-definitions-are) (c .before .loop .inv) (c .loop-test .left)
+returns-2 c = all-end _ (λ b. b .synthesizedDefinitions) declaredSynthesized (λ b h. h .rules-of .counted .synthesized-definitions-are) (c .before .loop .inv)
+    (c .loop-test .left)
 
 pub synthesized-declared-spec : {M : Type 1} → statement M
 synthesized-declared-spec =

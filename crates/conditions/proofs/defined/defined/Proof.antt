@@ -26,7 +26,8 @@ cast-synthesized-defined : tie.Need-cast-synthesized-defined
 cast-synthesized-defined c = search needs
 
 synthesized-defined-requires : tie.Need-synthesized-defined-requires
-synthesized-defined-requires c κs = let h = c .before .before .before .before .before .before .before .before .before .before .pre in (h .0, synthesized-side (h .1))
+synthesized-defined-requires c κs = let h = c .before .before .before .before .before .before .before .before .before .before .pre in
+    (h .0, synthesized-side (h .1))
 
 returns : tie.Need-returns
 returns c = record {

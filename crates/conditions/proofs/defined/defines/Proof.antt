@@ -44,7 +44,8 @@ shared-slice-read-if1-2 : tie.Need-shared-slice-read-if1-2 Inv-loop μ-loop
 shared-slice-read-if1-2 c = search needs
 
 cast-if1-2 : tie.Need-cast-if1-2 Inv-loop μ-loop
-cast-if1-2 c = let w = 49 * (c .before .before .before .before .args .first + c .before .before .before .loop .i) in omega (arith, c .shared-slice-known2 .given (w + 1))
+cast-if1-2 c = let w = 49 * (c .before .before .before .before .args .first + c .before .before .before .loop .i) in
+    omega (arith, c .shared-slice-known2 .given (w + 1))
 
 add-if1-2 : tie.Need-add-if1-2 Inv-loop μ-loop
 add-if1-2 c = search needs
@@ -56,7 +57,8 @@ shared-slice-read-if1-3 : tie.Need-shared-slice-read-if1-3 Inv-loop μ-loop
 shared-slice-read-if1-3 c = search needs
 
 cast-if1-3 : tie.Need-cast-if1-3 Inv-loop μ-loop
-cast-if1-3 c = let w = 49 * (c .before .before .before .before .before .args .first + c .before .before .before .before .loop .i) in omega (arith, c .shared-slice-known3 .given (w + 2))
+cast-if1-3 c = let w = 49 * (c .before .before .before .before .before .args .first + c .before .before .before .before .loop .i) in
+    omega (arith, c .shared-slice-known3 .given (w + 2))
 
 returns : tie.Need-returns Inv-loop μ-loop
 unfolding definesCode lineDefines

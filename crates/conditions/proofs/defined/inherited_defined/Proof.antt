@@ -5,7 +5,7 @@ use mathlib.Core.Path.{ap}
 use native.Mathlib.Omega.{arith}
 use borrow.Author.Tests.{not-true, not-false}
 use Rattle.grammar.specs.Conditions.Decides.{allBelow}
-use Rattle.conditions.specs.Lent.{InheritedSide}
+use Rattle.conditions.specs.Asked.{InheritedSide}
 use Rattle.conditions.specs.Answers.{answers-where, answers-same, Passing, passing-start, passing-turn, passing-stop, passing-end}
 use Rattle.conditions.specs.DefinedTests.{inheritedRuleDefined, inheritedDefined}
 use Rattle.conditions.specs.DefinedLaws.{inherited-rule}
@@ -14,7 +14,8 @@ use Rattle.conditions.proofs.defined.inherited_defined.Statement.{state
 use Rattle.conditions.proofs.defined.inherited_defined.Tie as tie
 
 abbrev Inv-loop : tie.InvT-loop
-Inv-loop inherited rules definitions attributes n count p₀ p = Passing (InheritedSide inherited rules definitions attributes n count) (λ b m. inheritedRuleDefined m b) count p
+Inv-loop inherited rules definitions attributes n count p₀ p = Passing (InheritedSide inherited rules definitions attributes n count)
+    (λ b m. inheritedRuleDefined m b) count p
 
 abbrev μ-loop : tie.MeasureT-loop
 μ-loop inherited rules definitions attributes n count p₀ p = count - p

@@ -6,7 +6,7 @@ use native.Mathlib.Omega.{arith}
 use native.Mathlib.Numerals.{add-one}
 use borrow.Author.Tests.{not-true, not-false}
 use Rattle.grammar.specs.Conditions.Decides.{allBelow, allOneTo}
-use Rattle.conditions.specs.Lent.{InheritedRule}
+use Rattle.conditions.specs.Asked.{InheritedRule}
 use Rattle.conditions.specs.Answers.{answers-where, answers-same, Passing, passing-start, passing-turn, passing-stop, passing-end}
 use Rattle.conditions.specs.DefinedTests.{positionDefined, inheritedRuleDefined}
 use Rattle.conditions.specs.DefinedLaws.{inherited-place}
@@ -15,7 +15,8 @@ use Rattle.conditions.proofs.defined.inherited_rule_defined.Statement.{
 use Rattle.conditions.proofs.defined.inherited_rule_defined.Tie as tie
 
 abbrev Inv-loop : tie.InvT-loop
-Inv-loop inherited rules definitions attributes n p size d₀ d = Passing (InheritedRule inherited rules definitions attributes n p) (λ b m. positionDefined p (suc m) b) size d
+Inv-loop inherited rules definitions attributes n p size d₀ d = Passing (InheritedRule inherited rules definitions attributes n p)
+    (λ b m. positionDefined p (suc m) b) size d
 
 abbrev μ-loop : tie.MeasureT-loop
 μ-loop inherited rules definitions attributes n p size d₀ d = size - d

@@ -5,7 +5,7 @@ use mathlib.Core.Path.{ap}
 use native.Mathlib.Omega.{arith}
 use borrow.Author.Tests.{not-true, not-false}
 use Rattle.grammar.specs.Conditions.Decides.{allBelow}
-use Rattle.conditions.specs.Lent.{InheritedPlace}
+use Rattle.conditions.specs.Asked.{InheritedPlace}
 use Rattle.conditions.specs.Answers.{answers-where, answers-same, Passing, passing-start, passing-turn, passing-stop, passing-end}
 use Rattle.conditions.specs.DefinedTests.{inheritedAttributeDefined, positionDefined}
 use Rattle.conditions.specs.DefinedLaws.{inherited-attribute}
@@ -14,7 +14,8 @@ use Rattle.conditions.proofs.defined.position_defined.Statement.{statem
 use Rattle.conditions.proofs.defined.position_defined.Tie as tie
 
 abbrev Inv-loop : tie.InvT-loop
-Inv-loop inherited rules definitions attributes n p j k₀ k = Passing (InheritedPlace inherited rules definitions attributes n p j) (λ b m. inheritedAttributeDefined p j m b) attributes k
+Inv-loop inherited rules definitions attributes n p j k₀ k = Passing (InheritedPlace inherited rules definitions attributes n p j)
+    (λ b m. inheritedAttributeDefined p j m b) attributes k
 
 abbrev μ-loop : tie.MeasureT-loop
 μ-loop inherited rules definitions attributes n p j k₀ k = attributes - k
@@ -31,8 +32,10 @@ returns : tie.Need-returns Inv-loop μ-loop
 unfolding positionDefined
 returns c = let a = c .before in
     let k = a .before .before in
-    answers-same (λ b h. ap (λ (m : ℕ). allBelow m (λ i. inheritedAttributeDefined (k .before .before .before .before .args .p) (k .before .before .before .before .args .j) i b)) (h .rule .side .attributes-are)) (passing-stop (k .loop .inv) (omega arith)
-    (answers-where (λ b h. inherited-attribute (k .loop .k) h (omega (arith, h .rule .side .attributes-are))) (a .inherited-attribute-defined .ensures)) (not-true _ (c .if1 .taken)))
+    answers-same (λ b h. ap (λ (m : ℕ). allBelow m (λ i. inheritedAttributeDefined (k .before .before .before .before .args .p)
+    (k .before .before .before .before .args .j) i b)) (h .rule .side .attributes-are)) (passing-stop (k .loop .inv) (omega arith)
+    (answers-where (λ b h. inherited-attribute (k .loop .k) h (omega (arith, h .rule .side .attributes-are))) (a .inherited-attribute-defined .ensures))
+    (not-true _ (c .if1 .taken)))
 
 add-k : tie.Need-add-k Inv-loop μ-loop
 add-k c = search needs
@@ -44,12 +47,14 @@ loop-again : tie.Need-loop-again Inv-loop μ-loop
 loop-again c = let a = c .before in
     let k = a .before .before in
     passing-turn (k .loop .inv) (omega arith)
-    (answers-where (λ b h. inherited-attribute (k .loop .k) h (omega (arith, h .rule .side .attributes-are))) (a .inherited-attribute-defined .ensures)) (not-false _ (c .if1 .left))
+    (answers-where (λ b h. inherited-attribute (k .loop .k) h (omega (arith, h .rule .side .attributes-are))) (a .inherited-attribute-defined .ensures))
+    (not-false _ (c .if1 .left))
 
 returns-2 : tie.Need-returns-2 Inv-loop μ-loop
 unfolding positionDefined
 returns-2 c = let k = c .before in
-    answers-same (λ b h. ap (λ (m : ℕ). allBelow m (λ i. inheritedAttributeDefined (k .before .before .before .before .args .p) (k .before .before .before .before .args .j) i b)) (h .rule .side .attributes-are)) (passing-end (k .loop .inv) (c .loop-test .left))
+    answers-same (λ b h. ap (λ (m : ℕ). allBelow m (λ i. inheritedAttributeDefined (k .before .before .before .before .args .p)
+    (k .before .before .before .before .args .j) i b)) (h .rule .side .attributes-are)) (passing-end (k .loop .inv) (c .loop-test .left))
 
 pub position-defined-spec : {M : Type 1} → statement M
 position-defined-spec =

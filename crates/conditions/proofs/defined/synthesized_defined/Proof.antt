@@ -5,7 +5,7 @@ use mathlib.Core.Path.{ap}
 use native.Mathlib.Omega.{arith}
 use borrow.Author.Tests.{not-true, not-false}
 use Rattle.grammar.specs.Conditions.Decides.{allBelow}
-use Rattle.conditions.specs.Lent.{SynthesizedSide}
+use Rattle.conditions.specs.Asked.{SynthesizedSide}
 use Rattle.conditions.specs.Answers.{answers-where, answers-same, Passing, passing-start, passing-turn, passing-stop, passing-end}
 use Rattle.conditions.specs.DefinedTests.{synthesizedRuleDefined, synthesizedDefined}
 use Rattle.conditions.specs.DefinedLaws.{synthesized-rule}
@@ -14,7 +14,8 @@ use Rattle.conditions.proofs.defined.synthesized_defined.Statement.{sta
 use Rattle.conditions.proofs.defined.synthesized_defined.Tie as tie
 
 abbrev Inv-loop : tie.InvT-loop
-Inv-loop synthesized rules definitions attributes first n count p₀ p = Passing (SynthesizedSide synthesized rules definitions attributes first n count) (λ b m. synthesizedRuleDefined m b) count p
+Inv-loop synthesized rules definitions attributes first n count p₀ p = Passing (SynthesizedSide synthesized rules definitions attributes first n count)
+    (λ b m. synthesizedRuleDefined m b) count p
 
 abbrev μ-loop : tie.MeasureT-loop
 μ-loop synthesized rules definitions attributes first n count p₀ p = count - p

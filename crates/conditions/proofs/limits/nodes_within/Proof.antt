@@ -6,7 +6,7 @@ use native.Mathlib.Omega.{arith}
 use lib.Dec.{leb}
 use lib.ListN.{getD}
 use borrow.Author.Tests.{le-leb, lt-leb}
-use Rattle.conditions.specs.Lent.{DefinitionLines}
+use Rattle.conditions.specs.Asked.{DefinitionLines}
 use Rattle.conditions.specs.Answers.{Passing, passing-start, passing-turn, passing-stop, passing-end, answers-same}
 use Rattle.conditions.specs.LimitLaws.{nodes-lines}
 use borrow.Author.Needs.{needs}

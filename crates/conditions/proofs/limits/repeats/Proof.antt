@@ -35,7 +35,8 @@ loop-less c = search needs
 
 loop-again : tie.Need-loop-again Inv-loop μ-loop
 loop-again c = let k = c .before .before .before in
-    ⊎-elim (λ w. rw (w .1) (counting-met (k .loop .inv) (omega arith) (w .0 .taken))) (λ w. rw (w .1) (counting-on (k .loop .inv) (omega arith) (w .0 .left))) (c .if1 .came)
+    ⊎-elim (λ w. rw (w .1) (counting-met (k .loop .inv) (omega arith) (w .0 .taken))) (λ w. rw (w .1) (counting-on (k .loop .inv) (omega arith) (w .0 .left)))
+    (c .if1 .came)
 
 returns : tie.Need-returns Inv-loop μ-loop
 returns c = counting-end (c .before .loop .inv) (c .loop-test .left)

@@ -8,7 +8,7 @@ use lib.Dec.{leb}
 use borrow.Author.Tests.{le-leb, lt-leb}
 use Rattle.grammar.specs.Data.Symbol.{ruleAt, rightOf}
 use Rattle.conditions.specs.LimitTests.{rightsWithin}
-use Rattle.conditions.specs.Lent.{RuleLines}
+use Rattle.conditions.specs.Asked.{RuleLines}
 use Rattle.conditions.specs.Answers.{Passing, passing-start, passing-turn, all-stop, all-end}
 use borrow.Author.Needs.{needs}
 use Rattle.conditions.proofs.limits.rights_within.Statement.{statement}

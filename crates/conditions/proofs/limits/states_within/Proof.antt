@@ -7,7 +7,7 @@ use native.Mathlib.Omega.{arith}
 use lib.Dec.{eqb}
 use lib.ListN.{getD}
 use borrow.Author.Tests.{eq-eqb, ne-eqb}
-use Rattle.conditions.specs.Lent.{KernelLines}
+use Rattle.conditions.specs.Asked.{KernelLines}
 use Rattle.conditions.specs.Answers.{Passing, passing-start, passing-turn, passing-stop, passing-end, answers-same}
 use Rattle.conditions.specs.LimitLaws.{states-lines}
 use borrow.Author.Needs.{needs}

@@ -5,8 +5,8 @@ use native.Mathlib.Omega.{arith}
 use borrow.Author.Tests.{not-true, not-false}
 use Rattle.grammar.specs.Conditions.Tests.{ownedInherited}
 use Rattle.book.specs.Held.{inheritedAt}
-use Rattle.conditions.specs.Lent.{InheritedLines}
-use Rattle.conditions.specs.LentLaws.{inheritedEntry}
+use Rattle.conditions.specs.Asked.{InheritedLines}
+use Rattle.conditions.specs.AskedLaws.{inheritedEntry}
 use Rattle.conditions.specs.Answers.{Passing, passing-start, passing-turn, all-stop, all-end}
 use Rattle.conditions.specs.OwnedTests.{inheritedLineOwned, inheritedOwned}
 use Rattle.conditions.specs.OwnedLines.{inherited-there}
@@ -15,7 +15,8 @@ use Rattle.conditions.proofs.owned.inherited_owned.Statement.{statement
 use Rattle.conditions.proofs.owned.inherited_owned.Tie as tie
 
 abbrev Inv-loop : tie.InvT-loop
-Inv-loop inherited synthesized rules definitions n i₀ i = Passing (InheritedLines inherited synthesized rules definitions n) (λ b k. ownedInherited b (inheritedAt (b .inheritedDefinitions) k)) n i
+Inv-loop inherited synthesized rules definitions n i₀ i = Passing (InheritedLines inherited synthesized rules definitions n)
+    (λ b k. ownedInherited b (inheritedAt (b .inheritedDefinitions) k)) n i
 
 abbrev μ-loop : tie.MeasureT-loop
 μ-loop inherited synthesized rules definitions n i₀ i = n - i
@@ -32,7 +33,10 @@ unfolding inheritedOwned inheritedLineOwned
 returns c = let a = c .before in
     let k = a .before .before in
     all-stop _ (λ b. b .inheritedDefinitions) ownedInherited (λ b h. h .count) (k .loop .inv) (omega arith)
-    (record { for-all = λ b h. a .inherited-line-owned .ensures .for-all (inheritedEntry b (k .loop .i)) (inherited-there (h .lines) (k .loop .i) (omega (arith, h .count))) })
+    (record {
+      for-all = λ b h. a .inherited-line-owned .ensures .for-all (inheritedEntry b (k .loop .i))
+          (inherited-there (h .lines) (k .loop .i) (omega (arith, h .count)));
+    })
     (not-true _ (c .if1 .taken))
 
 add-i : tie.Need-add-i Inv-loop μ-loop
@@ -46,7 +50,10 @@ unfolding inheritedLineOwned
 loop-again c = let a = c .before in
     let k = a .before .before in
     passing-turn (k .loop .inv) (omega arith)
-    (record { for-all = λ b h. a .inherited-line-owned .ensures .for-all (inheritedEntry b (k .loop .i)) (inherited-there (h .lines) (k .loop .i) (omega (arith, h .count))) })
+    (record {
+      for-all = λ b h. a .inherited-line-owned .ensures .for-all (inheritedEntry b (k .loop .i))
+          (inherited-there (h .lines) (k .loop .i) (omega (arith, h .count)));
+    })
     (not-false _ (c .if1 .left))
 
 returns-2 : tie.Need-returns-2 Inv-loop μ-loop

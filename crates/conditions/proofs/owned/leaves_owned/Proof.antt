@@ -6,7 +6,7 @@ use native.Mathlib.Omega.{arith}
 use borrow.Author.Tests.{not-true, not-false}
 use Rattle.grammar.specs.Data.Postfix.{select, postfix}
 use Rattle.book.specs.Held.{nodeAt}
-use Rattle.conditions.specs.Lent.{LeavesThere}
+use Rattle.conditions.specs.Asked.{LeavesThere}
 use Rattle.conditions.specs.Answers.{answers-same, Passing, passing-start, passing-turn, all-stop, all-end}
 use Rattle.conditions.specs.DeclaredLaws.{node-count}
 use Rattle.conditions.specs.OwnedLines.{ownedNode, leaves-owned-nodes, node-in-reach, node-owned}
@@ -15,7 +15,8 @@ use Rattle.conditions.proofs.owned.leaves_owned.Statement.{statement}
 use Rattle.conditions.proofs.owned.leaves_owned.Tie as tie
 
 abbrev Inv-loop : tie.InvT-loop
-Inv-loop inherited synthesized rules definitions i limit p n j₀ j = Passing (LeavesThere inherited synthesized rules definitions i) (λ x k. ownedNode limit x (nodeAt (x .line .expression) k)) n j
+Inv-loop inherited synthesized rules definitions i limit p n j₀ j = Passing (LeavesThere inherited synthesized rules definitions i)
+    (λ x k. ownedNode limit x (nodeAt (x .line .expression) k)) n j
 
 abbrev μ-loop : tie.MeasureT-loop
 μ-loop inherited synthesized rules definitions i limit p n j₀ j = n - j
@@ -94,8 +95,12 @@ returns : tie.Need-returns Inv-loop μ-loop
 returns c = let a = c .before in
     let k = a .before .before .before .before .before in
     answers-same (λ x h. leaves-owned-nodes (k .before .before .before .before .before .before .before .args .limit) x)
-    (all-stop select (λ x. postfix (x .line .expression)) (ownedNode (k .before .before .before .before .before .before .before .args .limit)) (λ x h. node-count (h .line-is)) (k .loop .inv) (omega arith)
-    (record { for-all = λ x h. a .place-owned .ensures ∙ node-owned h (k .loop .j) (omega (arith, h .line-is .line-in .nodes-is)) (k .before .before .before .before .before .before .before .args .limit) })
+    (all-stop select (λ x. postfix (x .line .expression)) (ownedNode (k .before .before .before .before .before .before .before .args .limit))
+    (λ x h. node-count (h .line-is)) (k .loop .inv) (omega arith)
+    (record {
+      for-all = λ x h. a .place-owned .ensures ∙ node-owned h (k .loop .j) (omega (arith, h .line-is .line-in .nodes-is))
+          (k .before .before .before .before .before .before .before .args .limit);
+    })
     (not-true _ (c .if1 .taken)))
 
 add-j : tie.Need-add-j Inv-loop μ-loop
@@ -108,13 +113,17 @@ loop-again : tie.Need-loop-again Inv-loop μ-loop
 loop-again c = let a = c .before in
     let k = a .before .before .before .before .before in
     passing-turn (k .loop .inv) (omega arith)
-    (record { for-all = λ x h. a .place-owned .ensures ∙ node-owned h (k .loop .j) (omega (arith, h .line-is .line-in .nodes-is)) (k .before .before .before .before .before .before .before .args .limit) })
+    (record {
+      for-all = λ x h. a .place-owned .ensures ∙ node-owned h (k .loop .j) (omega (arith, h .line-is .line-in .nodes-is))
+          (k .before .before .before .before .before .before .before .args .limit);
+    })
     (not-false _ (c .if1 .left))
 
 returns-2 : tie.Need-returns-2 Inv-loop μ-loop
 returns-2 c = let k = c .before in
     answers-same (λ x h. leaves-owned-nodes (k .before .before .before .before .before .before .before .args .limit) x)
-    (all-end select (λ x. postfix (x .line .expression)) (ownedNode (k .before .before .before .before .before .before .before .args .limit)) (λ x h. node-count (h .line-is)) (k .loop .inv) (c .loop-test .left))
+    (all-end select (λ x. postfix (x .line .expression)) (ownedNode (k .before .before .before .before .before .before .before .args .limit))
+    (λ x h. node-count (h .line-is)) (k .loop .inv) (c .loop-test .left))
 
 pub leaves-owned-spec : {M : Type 1} → statement M
 leaves-owned-spec =

@@ -2,7 +2,7 @@
 -- Assumes nothing.
 use mathlib.Core.Path.{ap₂, _∙_}
 use mathlib.Core.Bool.{_&&_}
-use Rattle.conditions.specs.LentLaws.{inherited-lines, synthesized-lines}
+use Rattle.conditions.specs.AskedLaws.{inherited-lines, synthesized-lines}
 use Rattle.conditions.specs.OwnedLines.{owned-parts}
 use borrow.Author.Needs.{needs}
 use Rattle.conditions.proofs.owned.owned.Statement.{statement}

@@ -74,7 +74,8 @@ returns-3 c = let a = c .before .before .before .before .args in
 
 returns-4 : tie.Need-returns-4
 returns-4 c = let a = c .before .before .before .args in
-    owned-none (a .inherited .now) (a .synthesized .now) (a .rules .now) (a .p) (a .limit) _ (a .first) (a .second) (c .before .before .if1 .left) (c .before .if2 .left) (c .if3 .left)
+    owned-none (a .inherited .now) (a .synthesized .now) (a .rules .now) (a .p) (a .limit) _ (a .first) (a .second) (c .before .before .if1 .left)
+    (c .before .if2 .left) (c .if3 .left)
 
 pub place-owned-spec : {M : Type 1} → statement M
 place-owned-spec =

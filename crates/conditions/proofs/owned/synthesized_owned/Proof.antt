@@ -5,8 +5,8 @@ use native.Mathlib.Omega.{arith}
 use borrow.Author.Tests.{not-true, not-false}
 use Rattle.grammar.specs.Conditions.Tests.{ownedSynthesized}
 use Rattle.book.specs.Held.{synthesizedAt}
-use Rattle.conditions.specs.Lent.{SynthesizedLines}
-use Rattle.conditions.specs.LentLaws.{synthesizedEntry}
+use Rattle.conditions.specs.Asked.{SynthesizedLines}
+use Rattle.conditions.specs.AskedLaws.{synthesizedEntry}
 use Rattle.conditions.specs.Answers.{Passing, passing-start, passing-turn, all-stop, all-end}
 use Rattle.conditions.specs.OwnedTests.{synthesizedLineOwned, synthesizedOwned}
 use Rattle.conditions.specs.OwnedLines.{synthesized-there}
@@ -15,7 +15,8 @@ use Rattle.conditions.proofs.owned.synthesized_owned.Statement.{stateme
 use Rattle.conditions.proofs.owned.synthesized_owned.Tie as tie
 
 abbrev Inv-loop : tie.InvT-loop
-Inv-loop inherited synthesized rules definitions first n i₀ i = Passing (SynthesizedLines inherited synthesized rules definitions first n) (λ b k. ownedSynthesized b (synthesizedAt (b .synthesizedDefinitions) k)) n i
+Inv-loop inherited synthesized rules definitions first n i₀ i = Passing (SynthesizedLines inherited synthesized rules definitions first n)
+    (λ b k. ownedSynthesized b (synthesizedAt (b .synthesizedDefinitions) k)) n i
 
 abbrev μ-loop : tie.MeasureT-loop
 μ-loop inherited synthesized rules definitions first n i₀ i = n - i
@@ -24,7 +25,8 @@ loop-holds : tie.Need-loop-holds Inv-loop μ-loop
 loop-holds c = passing-start
 
 add-synthesized-line-owned : tie.Need-add-synthesized-line-owned Inv-loop μ-loop
-add-synthesized-line-owned c = let h = c .before .before .before .before .before .before .pre .1 in omega (arith, h .lines .definitions-in .fits, h .start, h .count)
+add-synthesized-line-owned c = let h = c .before .before .before .before .before .before .pre .1 in
+    omega (arith, h .lines .definitions-in .fits, h .start, h .count)
 
 synthesized-line-owned-requires : tie.Need-synthesized-line-owned-requires Inv-loop μ-loop
 synthesized-line-owned-requires c κs = let h = c .before .before .before .before .before .before .pre in
@@ -37,7 +39,8 @@ returns c = let a = c .before in
     all-stop _ (λ b. b .synthesizedDefinitions) ownedSynthesized (λ b h. h .count) (k .loop .inv) (omega arith)
     (record {
       for-all = λ b h.
-          a .synthesized-line-owned .ensures .for-all (synthesizedEntry b (k .loop .i)) (synthesized-there (h .lines) (k .loop .i) (h .start) (omega (arith, h .count)));
+          a .synthesized-line-owned .ensures .for-all (synthesizedEntry b (k .loop .i))
+          (synthesized-there (h .lines) (k .loop .i) (h .start) (omega (arith, h .count)));
     })
     (not-true _ (c .if1 .taken))
 
@@ -54,7 +57,8 @@ loop-again c = let a = c .before in
     passing-turn (k .loop .inv) (omega arith)
     (record {
       for-all = λ b h.
-          a .synthesized-line-owned .ensures .for-all (synthesizedEntry b (k .loop .i)) (synthesized-there (h .lines) (k .loop .i) (h .start) (omega (arith, h .count)));
+          a .synthesized-line-owned .ensures .for-all (synthesizedEntry b (k .loop .i))
+          (synthesized-there (h .lines) (k .loop .i) (h .start) (omega (arith, h .count)));
     })
     (not-false _ (c .if1 .left))
 

@@ -44,7 +44,7 @@ pub record KernelLines (kernels : List ℕ) (n : ℕ) (ks : List Kernel) : Type 
   pub ascend : Ascending kernelKey ks
 
 -- a book, but for its go lines
-pub record Lent (numbers : Book) (inherited synthesized rules definitions kernels : List ℕ) (b : Lines) : Type 0 where
+pub record Stored (numbers : Book) (inherited synthesized rules definitions kernels : List ℕ) (b : Lines) : Type 0 where
   pub counted : Counted numbers b
   pub ordered : Ordered b
   pub inherited-in : OwnersIn MAX-INHERITED (b .inheritedOwners) inherited
@@ -124,7 +124,7 @@ pub record GrammarOf (numbers : Book) (inherited synthesized rules : List ℕ) (
 
 -- a whole book within its limits
 pub record Within (numbers : Book) (inherited synthesized rules definitions kernels goes : List ℕ) (b : Lines) : Type 0 where
-  pub lent : Lent numbers inherited synthesized rules definitions kernels b
+  pub stored : Stored numbers inherited synthesized rules definitions kernels b
   pub goes-in : GoesIn (b .goes) goes
   pub within : withinLimits b ≡ true
 

@@ -17,13 +17,13 @@ use Rattle.book.specs.declared.Book.{Book}
 use Rattle.book.specs.Held.{inheritedAt, synthesizedAt, OwnersIn, DefinitionsIn, Held, HasRoom, kept}
 use Rattle.book.specs.HeldLaws.{kept-all, within-room}
 use Rattle.book.specs.Counts.{countsOf}
-use Rattle.conditions.specs.Lent.{
+use Rattle.conditions.specs.Asked.{
   Counted,
   RuleLines,
   DefinitionLines,
   KernelLines,
   Kept,
-  Lent,
+  Stored,
   RulesOf,
   RuleOf,
   DefinitionsOf,
@@ -40,9 +40,9 @@ use Rattle.conditions.specs.Lent.{
 }
 
 -- where there is room, what is kept is all
-pub lent-kept : {numbers : Book} {inherited synthesized rules definitions kernels : List ℕ} {b : Lines}
-    → Kept numbers inherited synthesized rules definitions kernels b → HasRoom b → Lent numbers inherited synthesized rules definitions kernels b
-lent-kept {b = b} k h =
+pub stored-kept : {numbers : Book} {inherited synthesized rules definitions kernels : List ℕ} {b : Lines}
+    → Kept numbers inherited synthesized rules definitions kernels b → HasRoom b → Stored numbers inherited synthesized rules definitions kernels b
+stored-kept {b = b} k h =
     let e : kept b ≡ b = kept-all b h in
     record {
       counted = k .counted;
@@ -70,7 +70,7 @@ pub owners-part : {room n : ℕ} {owners array : List ℕ} → OwnersIn room own
 owners-part h e = e ∙ sym (ap length (owners-are h e))
 
 module _ {numbers : Book} {inherited synthesized rules definitions kernels : List ℕ} {b : Lines}
-    (h : Lent numbers inherited synthesized rules definitions kernels b) where
+    (h : Stored numbers inherited synthesized rules definitions kernels b) where
   pub rule-lines : RuleLines rules (numbers .rules) (b .rules)
   rule-lines = record { count = h .counted .rules-are; lines = h .rules-in }
 
@@ -136,23 +136,24 @@ module _ {numbers : Book} {inherited synthesized rules definitions kernels goes 
   within-limits = withinLimits-decides b .sound (h .within)
 
   pub rules-of : RulesOf numbers rules b
-  rules-of = record { counted = h .lent .counted; within = within-limits; rules-in = h .lent .rules-in }
+  rules-of = record { counted = h .stored .counted; within = within-limits; rules-in = h .stored .rules-in }
 
   pub grammar-of : GrammarOf numbers inherited synthesized rules b
-  grammar-of = record { rules-of = rules-of; inherited-in = h .lent .inherited-in; synthesized-in = h .lent .synthesized-in }
+  grammar-of = record { rules-of = rules-of; inherited-in = h .stored .inherited-in; synthesized-in = h .stored .synthesized-in }
 
   pub definitions-of : DefinitionsOf numbers rules definitions b
-  definitions-of = record { rules-of = rules-of; definitions-in = h .lent .definitions-in }
+  definitions-of = record { rules-of = rules-of; definitions-in = h .stored .definitions-in }
 
   pub kernels-of : KernelsOf numbers rules kernels b
-  kernels-of = record { rules-of = rules-of; ordered = h .lent .ordered; kernels-in = h .lent .kernels-in }
+  kernels-of = record { rules-of = rules-of; ordered = h .stored .ordered; kernels-in = h .stored .kernels-in }
 
   pub goes-of : GoesOf numbers goes b
-  goes-of = record { counted = h .lent .counted; within = within-limits; goes-in = h .goes-in }
+  goes-of = record { counted = h .stored .counted; within = within-limits; goes-in = h .goes-in }
 
 -- The lines of each kind of a declared book
 
-module _ {numbers : Book} {inherited synthesized rules definitions : List ℕ} {b : Lines} (h : DeclaredBook numbers inherited synthesized rules definitions b) where
+module _ {numbers : Book} {inherited synthesized rules definitions : List ℕ} {b : Lines}
+    (h : DeclaredBook numbers inherited synthesized rules definitions b) where
   pub inherited-lines : InheritedLines inherited synthesized rules definitions (numbers .«inherited_definitions») b
   inherited-lines = record { lines = h .lines; count = h .counted .inherited-definitions-are }
 
@@ -201,7 +202,7 @@ module _ {numbers : Book} {inherited synthesized rules definitions kernels goes 
       → Within numbers inherited synthesized rules definitions kernels goes b
   within-book e o h w =
       record {
-        lent = lent-kept (kept-book e o h) (within-room (withinLimits-decides b .sound w));
+        stored = stored-kept (kept-book e o h) (within-room (withinLimits-decides b .sound w));
         goes-in = held-all w h .goes-in;
         within = w;
       }
@@ -211,12 +212,12 @@ module _ {numbers : Book} {inherited synthesized rules definitions kernels goes 
       → DeclaredBook numbers inherited synthesized rules definitions b
   declared-book h d =
       record {
-        counted = h .lent .counted;
+        counted = h .stored .counted;
         lines = record {
-          inherited-in = h .lent .inherited-in;
-          synthesized-in = h .lent .synthesized-in;
-          rules-in = h .lent .rules-in;
-          definitions-in = h .lent .definitions-in;
+          inherited-in = h .stored .inherited-in;
+          synthesized-in = h .stored .synthesized-in;
+          rules-in = h .stored .rules-in;
+          definitions-in = h .stored .definitions-in;
           within = h .within;
           declared = d;
         };

@@ -1,5 +1,7 @@
 // Formulas of partial states: interned nodes, and the one-formula check (10).
+pub mod check;
 pub mod formulas;
 pub mod interning;
 pub mod nodes;
+pub mod owned;
 pub mod steps;

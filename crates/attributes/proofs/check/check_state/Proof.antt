@@ -1,0 +1,132 @@
+-- `check::check_state` meets its contract: the terminals passed have one formula for each attribute.
+-- Assumes nothing.
+use Prim.Native.Nat.{ℕ, suc, _+_, _-_, _<_, _≤_}
+use mathlib.Core.Path.{_≡_, refl, sym, ap, _∙_}
+use mathlib.Core.Bool.{Bool, true, false}
+use native.Mathlib.Omega.{arith}
+use lib.ListN.{length}
+use borrow.Author.Needs.{needs}
+use Rattle.grammar.specs.Conditions.Decides.{allBelow}
+use Rattle.grammar.specs.Data.Book.{Book}
+use Rattle.grammar.specs.Formulas.FormulaCheck as grammar
+use Rattle.attributes.specs.Checking.{memberOf, CheckHeld, Room}
+use Rattle.attributes.specs.CheckLaws.{all-start, all-turn, one-fails}
+use Rattle.attributes.proofs.check.check_state.Statement.{statement}
+use Rattle.attributes.proofs.check.check_state.Tie as tie
+
+abbrev Inv-loop : tie.InvT-loop
+Inv-loop definitions lines terminals masks rules owned slots₀ done₀ table₀ heads₀ nexts₀ a₀ slots done table heads nexts a =
+    (a ≤ terminals + 1) × (length slots ≡ length slots₀) × (length done ≡ length done₀) × (length table ≡ length table₀)
+    × (length heads ≡ length heads₀) × (length nexts ≡ length nexts₀)
+    × ((b : Book) → CheckHeld b definitions rules owned masks → lines ≡ grammar.definitions b
+    → allBelow a (λ c. grammar.check b (memberOf masks c)) ≡ true)
+
+abbrev μ-loop : tie.MeasureT-loop
+μ-loop definitions lines terminals masks rules owned slots₀ done₀ table₀ heads₀ nexts₀ a₀ slots done table heads nexts a = terminals + 1 - a
+
+-- Places: the entry, and the loop where a turn has checked its terminal
+
+abbrev entry : tie.At-loop Inv-loop μ-loop → tie.Start Inv-loop μ-loop
+entry c = c .before .before .before .before .before .before .before .before .before .before
+
+abbrev turn : tie.After-check Inv-loop μ-loop → tie.In-loop Inv-loop μ-loop
+turn c = c .before .before .before .before .before .before
+
+-- the check of a terminal
+abbrev answer : tie.At-loop Inv-loop μ-loop → Book → ℕ → Bool
+answer c b a = grammar.check b (memberOf (entry c .args .masks .now) a)
+
+loop-holds : tie.Need-loop-holds Inv-loop μ-loop
+loop-holds c = (omega arith, refl, refl, refl, refl, refl, λ b H e. all-start _)
+
+check-requires : tie.Need-check-requires Inv-loop μ-loop
+check-requires c κs = 
+    let t = c .before .before .before .before .before in
+    let at = t .before .loop in
+    let g = entry (t .before) .pre in
+    (g .0, omega (arith, t .loop-test .taken, g .1), record {
+      words-long = at .inv .1 ∙ g .2 .words-long;
+      marks-long = at .inv .2 ∙ g .2 .marks-long;
+      table-long = at .inv .3 ∙ g .2 .table-long;
+      heads-long = at .inv .4 ∙ g .2 .heads-long;
+      nexts-long = at .inv .5 ∙ g .2 .nexts-long;
+    })
+
+same-length : tie.Need-same-length Inv-loop μ-loop
+same-length c = search needs
+
+same-length-2 : tie.Need-same-length-2 Inv-loop μ-loop
+same-length-2 c = search needs
+
+same-length-3 : tie.Need-same-length-3 Inv-loop μ-loop
+same-length-3 c = search needs
+
+same-length-4 : tie.Need-same-length-4 Inv-loop μ-loop
+same-length-4 c = search needs
+
+same-length-5 : tie.Need-same-length-5 Inv-loop μ-loop
+same-length-5 c = search needs
+
+returns : tie.Need-returns Inv-loop μ-loop
+returns c = λ b H e t.
+    let v = c .before .before .before .before .before .before .before .before .before .before .before in
+    let l = turn v .before in
+    one-fails (answer l b) (l .loop .a) _ (omega (arith, turn v .loop-test .taken, t)) (v .check .ensures b H e) (c .if1 .taken)
+
+add-a : tie.Need-add-a Inv-loop μ-loop
+add-a c = search needs
+
+loop-less : tie.Need-loop-less Inv-loop μ-loop
+loop-less c = search needs
+
+loop-again : tie.Need-loop-again Inv-loop μ-loop
+loop-again c = 
+    let v = c .before .before .before .before .before .before .before .before .before .before .before in
+    let l = turn v .before in
+    (omega (arith, turn v .loop-test .taken), search needs, search needs, search needs, search needs, search needs, λ b H e.
+    all-turn (answer l b) (l .loop .a) (l .loop .inv .6 b H e) (v .check .ensures b H e) (c .if1 .left))
+
+same-length-6 : tie.Need-same-length-6 Inv-loop μ-loop
+same-length-6 c = c .before .loop .inv .1
+
+same-length-7 : tie.Need-same-length-7 Inv-loop μ-loop
+same-length-7 c = c .before .loop .inv .2
+
+same-length-8 : tie.Need-same-length-8 Inv-loop μ-loop
+same-length-8 c = c .before .loop .inv .3
+
+same-length-9 : tie.Need-same-length-9 Inv-loop μ-loop
+same-length-9 c = c .before .loop .inv .4
+
+same-length-10 : tie.Need-same-length-10 Inv-loop μ-loop
+same-length-10 c = c .before .loop .inv .5
+
+returns-2 : tie.Need-returns-2 Inv-loop μ-loop
+returns-2 c = λ b H e t.
+    let at = c .before .loop in
+    let end : at .a ≡ suc (b .terminals) = omega (arith, at .inv .0, c .loop-test .left, t) in
+    sym (rw end at (at .inv .6 b H e))
+
+pub check-state-spec : {M : Type 1} → statement M
+check-state-spec =
+    tie.close
+    (tie.spec
+    Inv-loop
+    μ-loop
+    loop-holds
+    check-requires
+    same-length
+    same-length-2
+    same-length-3
+    same-length-4
+    same-length-5
+    returns
+    add-a
+    loop-less
+    loop-again
+    same-length-6
+    same-length-7
+    same-length-8
+    same-length-9
+    same-length-10
+    returns-2)

@@ -1,12 +1,13 @@
 -- A book that is spelled right (2), within the limits (3) and declared (4), in the arrays from which its states are worked out; the arrays that are
 -- filled; and the first of 7, 8 and 9 that applies. Assumes nothing.
 use Prim.Native.Nat.{ℕ, _*_}
-use mathlib.Core.Path.{_≡_, refl, sym, _∙_}
+use mathlib.Core.Path.{_≡_, sym, _∙_}
 use mathlib.Core.Bool.{Bool, true, false}
 use mathlib.Core.List.{List}
+use native.Mathlib.Omega.{arith}
 use lib.ListN.{length, replicate}
 use Rattle.grammar.specs.Limits.{MAX-RULES}
-use Rattle.grammar.specs.Data.Book.{Book, Kernel}
+use Rattle.grammar.specs.Data.Book.{Book}
 use Rattle.grammar.specs.Format.Ordered.{Ordered}
 use Rattle.grammar.specs.Conditions.Meaning.{WithinLimits, Declared}
 use Rattle.grammar.specs.BookFacts.{small-book}
@@ -22,6 +23,7 @@ use Rattle.automaton.specs.GrammarOf.{GrammarHeld, book-grammar}
 use Rattle.automaton.specs.RestSets.{RestSetsIn}
 use Rattle.automaton.specs.GoTable.{GoLinesIn}
 use Rattle.automaton.specs.StatesIn.{StatesIn, ItemsIn, AutomatonIn}
+use Rattle.automaton.specs.ActionTable.{Acted}
 use Rattle.automaton.specs.BookHeld.{lines-in, state-items-in, ruled-in}
 
 -- the rules and the kernel lines
@@ -143,6 +145,30 @@ module _ (b : Book) where
       pub none-refused : actsRight b ≡ true → tablesRefusal b ≡ 0
       unfolding tablesRefusal
       none-refused e = rw (k, g, e, tablesRefusal)
+
+-- ---- the answer, by what the steps told
+
+module _ {b : Book} {vanishes begins reached starts closures table actions : List ℕ} {k : Bool} (k-is : k ≡ kernelRules b) where
+  pub tabled-kernels : k ≡ false → Tabled b 7 vanishes begins reached starts closures table actions
+  tabled-kernels f = record { told = sym (kernels-refused b (sym k-is ∙ f)); filled = λ z. absurd (omega arith) }
+
+  module _ (k-right : k ≡ true) {g : Bool} (g-is : g ≡ goesRight b) where
+    pub tabled-goes : g ≡ false → Tabled b 8 vanishes begins reached starts closures table actions
+    tabled-goes f = record { told = sym (goes-refused b (sym k-is ∙ k-right) (sym g-is ∙ f)); filled = λ z. absurd (omega arith) }
+
+    module _ (g-right : g ≡ true) {a : Bool} (acted : Acted b (setsOf (b .rules)) actions a) where
+      pub tabled-acts : a ≡ false → Tabled b 9 vanishes begins reached starts closures table actions
+      tabled-acts f = record {
+        told = sym (acts-refused b (sym k-is ∙ k-right) (sym g-is ∙ g-right) (sym (acted .told) ∙ f));
+        filled = λ z. absurd (omega arith);
+      }
+
+      pub tabled-all : a ≡ true → ItemsFilled b vanishes begins reached closures → StartsIn (b .kernels) (b .states) starts → GoTableIn b table
+          → Tabled b 0 vanishes begins reached starts closures table actions
+      tabled-all t I T G = record {
+        told = sym (none-refused b (sym k-is ∙ k-right) (sym g-is ∙ g-right) (sym (acted .told) ∙ t));
+        filled = λ z. record { items-filled = I; starts-in = T; table-in = G; actions-in = acted .table t };
+      }
 
 -- opens every definition of this module
 unfoldable pub opens : Unit {0}

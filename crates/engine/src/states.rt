@@ -9,7 +9,8 @@ ghost use Rattle.grammar.specs.Automaton.FirstSets.{setsOf};
 ghost use Rattle.grammar.specs.Automaton.StatesCheck.{kernelRules};
 ghost use Rattle.book.specs.Held.{GoesIn};
 ghost use Rattle.automaton.specs.Arrays.{StartsIn, ClosuresIn, GoTableIn};
-ghost use Rattle.engine.specs.States.{KernelsHeld, ItemsFilled, goesRight};
+ghost use Rattle.engine.specs.States.{KernelsHeld, BookHeld, ItemsFilled, TablesRoom, Tabled, goesRight};
+use automaton::actions::actions;
 use automaton::closures::closures;
 use automaton::go_rules::go_rules;
 use automaton::go_table::go_table;
@@ -96,4 +97,70 @@ fn moves(
         lookaheads,
         table,
     )
+}
+
+// Fills the arrays, up to the first of 7, 8 and 9 that applies; that, or 0.
+pub fn tables(
+    rules: &[u32],
+    count: u32,
+    kernels: &[u32],
+    items: u32,
+    goes: &[u32],
+    lines: u32,
+    terminals: u32,
+    states: u32,
+    vanishes: &mut [u32],
+    begins: &mut [u32],
+    reached: &mut [u32],
+    starts: &mut [u32],
+    lookaheads: &mut [u32],
+    table: &mut [u8],
+    cells: &mut [u8],
+) -> u32
+    requires { ⌜ ((b : Book) × BookHeld b (now rules) count (now kernels) items (now goes) lines terminals states) ⌝ }
+    requires { ⌜ TablesRoom (now vanishes) (now begins) (now reached) (now starts) (now lookaheads) (now table) (now cells) ⌝ }
+    ensures { λ r. ⌜ ((b : Book) → BookHeld b (now (rules .entry)) count (now (kernels .entry)) items (now (goes .entry)) lines terminals states
+        → Tabled b r (now (vanishes .exit)) (now (begins .exit)) (now (reached .exit)) (now (starts .exit)) (now (lookaheads .exit)) (now (table .exit))
+        (now (cells .exit))) ⌝ }
+{
+    if !kernel_states(rules, kernels, items, states, starts) {
+        return 7;
+    }
+    fill_items(
+        rules,
+        count,
+        kernels,
+        states,
+        starts,
+        vanishes,
+        begins,
+        reached,
+        lookaheads,
+    );
+    if !moves(
+        rules,
+        count,
+        kernels,
+        goes,
+        lines,
+        states,
+        starts,
+        lookaheads,
+        table,
+    ) {
+        return 8;
+    }
+    if !actions(
+        rules,
+        count,
+        kernels,
+        starts,
+        lookaheads,
+        terminals,
+        states,
+        cells,
+    ) {
+        return 9;
+    }
+    0
 }

@@ -3,3 +3,4 @@ pub mod WordsLaws
 pub mod PlacedLaws
 pub mod PackingLoops
 pub mod States
+pub mod StatesRefusal

@@ -6,6 +6,20 @@ use Rattle.engine.specs.States.{held-closures, tabled-kernels, tabled-go
 use Rattle.engine.proofs.states.tables.Statement.{statement}
 use Rattle.engine.proofs.states.tables.Tie as tie
 
+-- from each call back to the one before
+
+abbrev start : tie.After-kernel-states → tie.Start
+start c = c .before .before .before .before .before .before .before .before .before .before .before .before
+
+abbrev kernels-at : tie.After-fill-items → tie.After-kernel-states
+kernels-at c = c .before .before .before .before .before .before .before .before .before
+
+abbrev items-at : tie.After-moves → tie.After-fill-items
+items-at c = c .before .before .before .before .before .before .before .before .before .before .before .before
+
+abbrev moves-at : tie.After-actions → tie.After-moves
+moves-at c = c .before .before .before .before .before .before .before
+
 kernel-states-requires : tie.Need-kernel-states-requires
 kernel-states-requires c κs = search needs
 
@@ -18,17 +32,19 @@ returns c = λ b H.
 
 fill-items-requires : tie.Need-fill-items-requires
 fill-items-requires c κs =
-    let (b, H) = c .before .before .before .before .before .before .before .before .before .before .before .before .before .before .before .before .before .before .before .before .pre .0 in
-    let room = c .before .before .before .before .before .before .before .before .before .before .before .before .before .before .before .before .before .before .before .before .pre .1 in
-    let (k, T) = c .before .before .before .before .before .before .before .before .kernel-states .ensures b (H .kernels-held) (H .kernels-counted) in
+    let s = c .before .before .before .before .before .before .before .before in
+    let (b, H) = start s .pre .0 in
+    let room = start s .pre .1 in
+    let (k, T) = s .kernel-states .ensures b (H .kernels-held) (H .kernels-counted) in
     ((b, H .kernels-held, H .rules-counted, T), (room .vanishes-long, room .begins-long, room .reached-long, room .closures-none))
 
 moves-requires : tie.Need-moves-requires
 moves-requires c κs =
-    let (b, H) = c .before .before .before .before .before .before .before .before .before .before .before .before .before .before .before .before .before .before .before .before .before .before .before .before .before .before .before .before .before .before .before .before .pre .0 in
-    let (k, T) = c .before .before .before .before .before .before .before .before .before .before .before .before .before .before .before .before .before .before .before .before .kernel-states .ensures b (H .kernels-held) (H .kernels-counted) in
-    let I = c .before .before .before .before .before .before .before .before .before .before .before .fill-items .ensures b (H .kernels-held) (H .rules-counted) T in
-    ((b, H .kernels-held, H .rules-counted, H .goes-in, H .goes-counted, T, I .closures-in), c .before .before .before .before .before .before .before .before .before .before .before .before .before .before .before .before .before .before .before .before .before .before .before .before .before .before .before .before .before .before .before .before .pre .1 .table-long)
+    let i = c .before .before .before .before .before .before .before .before .before .before .before in
+    let (b, H) = start (kernels-at i) .pre .0 in
+    let (k, T) = kernels-at i .kernel-states .ensures b (H .kernels-held) (H .kernels-counted) in
+    let I = i .fill-items .ensures b (H .kernels-held) (H .rules-counted) T in
+    ((b, H .kernels-held, H .rules-counted, H .goes-in, H .goes-counted, T, I .closures-in), start (kernels-at i) .pre .1 .table-long)
 
 same-length-2 : tie.Need-same-length-2
 same-length-2 c = search needs
@@ -50,18 +66,21 @@ same-length-7 c = search needs
 
 returns-2 : tie.Need-returns-2
 returns-2 c = λ b H.
-    let (k, T) = c .before .before .before .before .before .before .before .before .before .before .before .before .before .before .before .before .before .before .before .before .before .before .before .before .kernel-states .ensures b (H .kernels-held) (H .kernels-counted) in
-    let I = c .before .before .before .before .before .before .before .before .before .before .before .before .before .before .before .fill-items .ensures b (H .kernels-held) (H .rules-counted) T in
-    let (g, G) = c .before .before .before .moves .ensures b (H .kernels-held) (H .rules-counted) (H .goes-in) (H .goes-counted) T (I .closures-in) in
-    tabled-goes k (not-false _ (c .before .before .before .before .before .before .before .before .before .before .before .before .before .before .before .before .before .before .before .before .before .if1 .left)) g (not-true _ (c .if2 .taken))
+    let m = c .before .before .before in
+    let i = items-at m in
+    let (k, T) = kernels-at i .kernel-states .ensures b (H .kernels-held) (H .kernels-counted) in
+    let I = i .fill-items .ensures b (H .kernels-held) (H .rules-counted) T in
+    let (g, G) = m .moves .ensures b (H .kernels-held) (H .rules-counted) (H .goes-in) (H .goes-counted) T (I .closures-in) in
+    tabled-goes k (not-false _ (i .before .before .before .before .before .before .if1 .left)) g (not-true _ (c .if2 .taken))
 
 actions-requires : tie.Need-actions-requires
 actions-requires c κs =
-    let (b, H) = c .before .before .before .before .before .before .before .before .before .before .before .before .before .before .before .before .before .before .before .before .before .before .before .before .before .before .before .before .before .before .before .before .before .before .before .before .before .before .before .pre .0 in
-    let (k, T) = c .before .before .before .before .before .before .before .before .before .before .before .before .before .before .before .before .before .before .before .before .before .before .before .before .before .before .before .kernel-states .ensures b (H .kernels-held) (H .kernels-counted) in
-    let I = c .before .before .before .before .before .before .before .before .before .before .before .before .before .before .before .before .before .before .fill-items .ensures b (H .kernels-held) (H .rules-counted) T in
+    let i = items-at (c .before .before .before .before .before .before) in
+    let (b, H) = start (kernels-at i) .pre .0 in
+    let (k, T) = kernels-at i .kernel-states .ensures b (H .kernels-held) (H .kernels-counted) in
+    let I = i .fill-items .ensures b (H .kernels-held) (H .rules-counted) T in
     let K = held-closures (H .kernels-held) T (I .closures-in) in
-    (c .before .before .before .before .before .before .before .before .before .before .before .before .before .before .before .before .before .before .before .before .before .before .before .before .before .before .before .before .before .before .before .before .before .before .before .before .before .before .before .pre .1 .actions-long, (b, setsOf (b .rules), K, H .terminals-are, H .kernels-held .states-are, H .rules-counted))
+    (start (kernels-at i) .pre .1 .actions-long, (b, setsOf (b .rules), K, H .terminals-are, H .kernels-held .states-are, H .rules-counted))
 
 same-length-8 : tie.Need-same-length-8
 same-length-8 c = search needs
@@ -73,7 +92,7 @@ same-length-10 : tie.Need-same-length-10
 same-length-10 c = search needs
 
 same-length-11 : tie.Need-same-length-11
-same-length-11 c = c .before .before .before .before .before .before .before .before .before .before .before .before .before .before .before .before .before .before .before .before .before .before .before .before .before .before .before .before .before .before .before .kernel-states .kept .1 .1 .1 .1 .0
+same-length-11 c = kernels-at (items-at (moves-at (c .before .before .before))) .kernel-states .kept .1 .1 .1 .1 .0
 
 same-length-12 : tie.Need-same-length-12
 same-length-12 c = search needs
@@ -86,12 +105,15 @@ same-length-14 c = search needs
 
 returns-3 : tie.Need-returns-3
 returns-3 c = λ b H.
-    let (k, T) = c .before .before .before .before .before .before .before .before .before .before .before .before .before .before .before .before .before .before .before .before .before .before .before .before .before .before .before .before .before .before .before .kernel-states .ensures b (H .kernels-held) (H .kernels-counted) in
-    let I = c .before .before .before .before .before .before .before .before .before .before .before .before .before .before .before .before .before .before .before .before .before .before .fill-items .ensures b (H .kernels-held) (H .rules-counted) T in
-    let (g, G) = c .before .before .before .before .before .before .before .before .before .before .moves .ensures b (H .kernels-held) (H .rules-counted) (H .goes-in) (H .goes-counted) T (I .closures-in) in
-    let A = c .before .before .before .actions .ensures b (setsOf (b .rules)) (held-closures (H .kernels-held) T (I .closures-in)) (H .terminals-are) (H .kernels-held .states-are)
-    (H .rules-counted) in
-    tabled-acts k (not-false _ (c .before .before .before .before .before .before .before .before .before .before .before .before .before .before .before .before .before .before .before .before .before .before .before .before .before .before .before .before .if1 .left)) g (not-false _ (c .before .before .before .before .before .before .before .if2 .left)) A (not-true _ (c .if3 .taken))
+    let m = moves-at (c .before .before .before) in
+    let i = items-at m in
+    let (k, T) = kernels-at i .kernel-states .ensures b (H .kernels-held) (H .kernels-counted) in
+    let I = i .fill-items .ensures b (H .kernels-held) (H .rules-counted) T in
+    let (g, G) = m .moves .ensures b (H .kernels-held) (H .rules-counted) (H .goes-in) (H .goes-counted) T (I .closures-in) in
+    let K = held-closures (H .kernels-held) T (I .closures-in) in
+    let A = c .before .before .before .actions .ensures b (setsOf (b .rules)) K (H .terminals-are) (H .kernels-held .states-are) (H .rules-counted) in
+    tabled-acts k (not-false _ (i .before .before .before .before .before .before .if1 .left)) g (not-false _ (c .before .before .before .before .before .before .before .if2 .left)) A
+    (not-true _ (c .if3 .taken))
 
 same-length-15 : tie.Need-same-length-15
 same-length-15 c = search needs
@@ -103,7 +125,7 @@ same-length-17 : tie.Need-same-length-17
 same-length-17 c = search needs
 
 same-length-18 : tie.Need-same-length-18
-same-length-18 c = c .before .before .before .before .before .before .before .before .before .before .before .before .before .before .before .before .before .before .before .before .before .before .before .before .before .before .before .before .before .before .before .kernel-states .kept .1 .1 .1 .1 .0
+same-length-18 c = kernels-at (items-at (moves-at (c .before .before .before))) .kernel-states .kept .1 .1 .1 .1 .0
 
 same-length-19 : tie.Need-same-length-19
 same-length-19 c = search needs
@@ -116,12 +138,15 @@ same-length-21 c = search needs
 
 returns-4 : tie.Need-returns-4
 returns-4 c = λ b H.
-    let (k, T) = c .before .before .before .before .before .before .before .before .before .before .before .before .before .before .before .before .before .before .before .before .before .before .before .before .before .before .before .before .before .before .before .kernel-states .ensures b (H .kernels-held) (H .kernels-counted) in
-    let I = c .before .before .before .before .before .before .before .before .before .before .before .before .before .before .before .before .before .before .before .before .before .before .fill-items .ensures b (H .kernels-held) (H .rules-counted) T in
-    let (g, G) = c .before .before .before .before .before .before .before .before .before .before .moves .ensures b (H .kernels-held) (H .rules-counted) (H .goes-in) (H .goes-counted) T (I .closures-in) in
-    let A = c .before .before .before .actions .ensures b (setsOf (b .rules)) (held-closures (H .kernels-held) T (I .closures-in)) (H .terminals-are) (H .kernels-held .states-are)
-    (H .rules-counted) in
-    tabled-all k (not-false _ (c .before .before .before .before .before .before .before .before .before .before .before .before .before .before .before .before .before .before .before .before .before .before .before .before .before .before .before .before .if1 .left)) g (not-false _ (c .before .before .before .before .before .before .before .if2 .left)) A (not-false _ (c .if3 .left)) I T G
+    let m = moves-at (c .before .before .before) in
+    let i = items-at m in
+    let (k, T) = kernels-at i .kernel-states .ensures b (H .kernels-held) (H .kernels-counted) in
+    let I = i .fill-items .ensures b (H .kernels-held) (H .rules-counted) T in
+    let (g, G) = m .moves .ensures b (H .kernels-held) (H .rules-counted) (H .goes-in) (H .goes-counted) T (I .closures-in) in
+    let K = held-closures (H .kernels-held) T (I .closures-in) in
+    let A = c .before .before .before .actions .ensures b (setsOf (b .rules)) K (H .terminals-are) (H .kernels-held .states-are) (H .rules-counted) in
+    tabled-all k (not-false _ (i .before .before .before .before .before .before .if1 .left)) g (not-false _ (c .before .before .before .before .before .before .before .if2 .left)) A
+    (not-false _ (c .if3 .left)) I T G
 
 pub tables-spec : {M : Type 1} → statement M
 tables-spec =

@@ -1,2 +1,3 @@
 // The two public calls: reading and evaluating.
 pub mod packing;
+pub mod states;

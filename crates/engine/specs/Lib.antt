@@ -4,3 +4,4 @@ pub mod PlacedLaws
 pub mod PackingLoops
 pub mod States
 pub mod StatesRefusal
+pub mod Conditions

@@ -1,3 +1,4 @@
 // The two public calls: reading and evaluating.
+pub mod compile;
 pub mod packing;
 pub mod states;

@@ -5,3 +5,7 @@ pub mod PackingLoops
 pub mod States
 pub mod StatesRefusal
 pub mod Conditions
+pub mod Prepared
+pub mod Compiling
+pub mod Readings
+pub mod Rooms

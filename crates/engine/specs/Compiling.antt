@@ -1,6 +1,6 @@
 -- The first of conditions 2 to 10 that applies to a text, and the book's arrays and tables where none does.
 -- Assumes nothing.
-use Prim.Native.Nat.{ℕ}
+use Prim.Native.Nat.{ℕ, zero, suc}
 use mathlib.Core.Path.{_≡_, refl, sym, ap, _∙_}
 use mathlib.Core.Bool.{Bool, true, false}
 use mathlib.Core.List.{List}
@@ -9,12 +9,24 @@ use native.Mathlib.Omega.{arith}
 use Rattle.grammar.specs.Data.Book.{Book as Lines}
 use Rattle.grammar.specs.Format.Parse.{parseBook}
 use Rattle.grammar.specs.Format.ParseLaws.{print-parse}
+use Rattle.grammar.specs.Conditions.Tests.{withinLimits, declared, owned, defined}
+use Rattle.grammar.specs.Automaton.Compiled.{statesRefusal}
 use Rattle.grammar.specs.Refusal.{bookRefusal, refusal}
 use Rattle.book.specs.declared.Book.{Book}
 use Rattle.book.specs.Spelling.{Arrays, Roomy, Spelling}
 use Rattle.conditions.specs.SpellingHeld.{spelled-got, misspelt-none, arrays-held}
-use Rattle.engine.specs.Conditions.{BookKept}
-use Rattle.engine.specs.Prepared.{BookReady}
+use Rattle.engine.specs.States.{tablesRefusal}
+use Rattle.engine.specs.StatesRefusal.{formulasRight, withFormulas, states-refusal}
+use Rattle.engine.specs.Conditions.{
+  BookKept,
+  conditionsRefusal,
+  limits-refused,
+  names-refused,
+  attributes-refused,
+  definitions-refused,
+  conditions-met,
+}
+use Rattle.engine.specs.Prepared.{BookReady, orElse, orElse-none, preparedRefusal}
 
 -- a book's refusal r is told, and it is ready where there is none
 pub record Checked (r : ℕ) (numbers : Book) (inherited synthesized rules definitions kernels goes : List ℕ)
@@ -28,6 +40,27 @@ pub record Compiles (text : List ℕ) (r : ℕ) (numbers : Book) (inherited synt
   pub told : r ≡ refusal text
   pub ready : r ≡ 0 → (b : Lines) → parseBook text ≡ some b
       → BookReady numbers inherited synthesized rules definitions kernels goes vanishes begins reached starts closures table actions b
+
+-- ---- the refusal of a book
+
+module _ (b : Lines) where
+  first-refused : (n : ℕ) → bookRefusal b ≡ suc n → conditionsRefusal b ≡ suc n → bookRefusal b ≡ withFormulas (preparedRefusal b) (formulasRight b)
+  unfolding withFormulas orElse
+  first-refused n e c = e ∙ sym (ap (λ (m : ℕ). withFormulas m (formulasRight b)) (ap (λ (m : ℕ). orElse m (tablesRefusal b)) c))
+
+  pub book-refusal : bookRefusal b ≡ withFormulas (preparedRefusal b) (formulasRight b)
+  unfolding bookRefusal
+  book-refusal = go (withinLimits b) refl (declared b) refl (owned b) refl (defined b) refl
+    where
+      go : (w : Bool) → withinLimits b ≡ w → (d : Bool) → declared b ≡ d → (o : Bool) → owned b ≡ o → (f : Bool) → defined b ≡ f
+          → bookRefusal b ≡ withFormulas (preparedRefusal b) (formulasRight b)
+      go false w d _ o _ f _ = first-refused 2 (rw (w, bookRefusal)) (limits-refused b w)
+      go true w false d o _ f _ = first-refused 3 (rw (w, d, bookRefusal)) (names-refused b w d)
+      go true w true d false o f _ = first-refused 4 (rw (w, d, o, bookRefusal)) (attributes-refused b w d o)
+      go true w true d true o false f = first-refused 5 (rw (w, d, o, f, bookRefusal)) (definitions-refused b w d o f)
+      go true w true d true o true f =
+          let e : bookRefusal b ≡ statesRefusal b = rw (w, d, o, f, bookRefusal) in
+          e ∙ states-refusal b ∙ ap (λ (m : ℕ). withFormulas m (formulasRight b)) (sym (orElse-none (tablesRefusal b) (conditions-met b w d o f)))
 
 -- ---- the refusal of a text
 

@@ -1,12 +1,9 @@
+-- `compile::compile` meets its contract: a text that is spelled right has a book, and that is checked. Assumes nothing.
 use borrow.Author.Tests.{not-true, not-false}
 use Rattle.engine.specs.Compiling.{compiles-misspelt, compiles-checked, read-some}
 use borrow.Author.Needs.{needs}
 use Rattle.engine.proofs.compile.compile.Statement.{statement}
 use Rattle.engine.proofs.compile.compile.Tie as tie
-use Rattle.engine.proofs.compile.compile.Reads as reads
-use Rattle.engine.proofs.compile.compile.Lts as lts
-use Rattle.book.proofs.reading.spelling.Reads as spelling-reads
-use Rattle.engine.proofs.compile.check.Reads as check-reads
 
 -- from each call back to the one before
 
@@ -19,105 +16,80 @@ spelling-at c = c .before .before .before .before .before .before .before .befor
 abbrev read-at : tie.After-check → tie.Else1
 read-at c = c .before .before .before .before .before .before .before .before .before .before .before .before .before .before
 
--- src/compile.rt:175:9
 spelling-requires : tie.Need-spelling-requires
 spelling-requires c κs = search needs
 
--- src/compile.rt:188:9
 same-length : tie.Need-same-length
 same-length c = search needs
 
--- src/compile.rt:188:9
 same-length-2 : tie.Need-same-length-2
 same-length-2 c = search needs
 
--- src/compile.rt:188:9
 same-length-3 : tie.Need-same-length-3
 same-length-3 c = search needs
 
--- src/compile.rt:188:9
 same-length-4 : tie.Need-same-length-4
 same-length-4 c = search needs
 
--- src/compile.rt:188:9
 same-length-5 : tie.Need-same-length-5
 same-length-5 c = search needs
 
--- src/compile.rt:188:9
 same-length-6 : tie.Need-same-length-6
 same-length-6 c = search needs
 
--- src/compile.rt:188:9
 same-length-7 : tie.Need-same-length-7
 same-length-7 c = search needs
 
--- src/compile.rt:188:9
 returns : tie.Need-returns
 returns c = compiles-misspelt (c .before .before .before .before .before .before .before .before .before .before .before .before .before .before .before .before .before .spelling .ensures) (not-true _ (c .if1 .taken))
 
--- src/compile.rt:190:9
 check-requires : tie.Need-check-requires
 check-requires c κs = let e = c .before .before .before .before .before .before .before .before .before .before .before .before .before in
     let s = spelling-at e in
     (read-some (s .spelling .ensures) (start s .pre .0 .2) (not-false _ (e .if1 .left)), start s .pre .1)
 
--- src/compile.rt:150:1
 same-length-8 : tie.Need-same-length-8
 same-length-8 c = spelling-at (read-at (c .before .before .before .before .before .before .before .before .before .before .before .before .before .before)) .spelling .kept .1 .1 .0
 
--- src/compile.rt:150:1
 same-length-9 : tie.Need-same-length-9
 same-length-9 c = spelling-at (read-at (c .before .before .before .before .before .before .before .before .before .before .before .before .before .before)) .spelling .kept .1 .1 .1 .0
 
--- src/compile.rt:150:1
 same-length-10 : tie.Need-same-length-10
 same-length-10 c = spelling-at (read-at (c .before .before .before .before .before .before .before .before .before .before .before .before .before .before)) .spelling .kept .1 .1 .1 .1 .0
 
--- src/compile.rt:150:1
 same-length-11 : tie.Need-same-length-11
 same-length-11 c = spelling-at (read-at (c .before .before .before .before .before .before .before .before .before .before .before .before .before .before)) .spelling .kept .1 .1 .1 .1 .1 .0
 
--- src/compile.rt:150:1
 same-length-12 : tie.Need-same-length-12
 same-length-12 c = search needs
 
--- src/compile.rt:150:1
 same-length-13 : tie.Need-same-length-13
 same-length-13 c = search needs
 
--- src/compile.rt:150:1
 same-length-14 : tie.Need-same-length-14
 same-length-14 c = search needs
 
--- src/compile.rt:150:1
 same-length-15 : tie.Need-same-length-15
 same-length-15 c = search needs
 
--- src/compile.rt:150:1
 same-length-16 : tie.Need-same-length-16
 same-length-16 c = search needs
 
--- src/compile.rt:150:1
 same-length-17 : tie.Need-same-length-17
 same-length-17 c = search needs
 
--- src/compile.rt:150:1
 same-length-18 : tie.Need-same-length-18
 same-length-18 c = search needs
 
--- src/compile.rt:150:1
 same-length-19 : tie.Need-same-length-19
 same-length-19 c = search needs
 
--- src/compile.rt:150:1
 same-length-20 : tie.Need-same-length-20
 same-length-20 c = search needs
 
--- src/compile.rt:150:1
 same-length-21 : tie.Need-same-length-21
 same-length-21 c = search needs
 
--- src/compile.rt:150:1
 returns-2 : tie.Need-returns-2
 returns-2 c = let k = c .before .before .before .before .before .before .before .before .before .before .before .before .before .before in
     let e = read-at k in

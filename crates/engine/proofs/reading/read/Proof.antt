@@ -1,40 +1,29 @@
+-- `reading::read` meets its contract: the number says what is in the words. Assumes nothing.
 use Rattle.engine.specs.Readings.{read-taken, read-refused, taken-fits}
 use borrow.Author.Needs.{needs}
 use Rattle.engine.proofs.reading.read.Statement.{statement}
 use Rattle.engine.proofs.reading.read.Tie as tie
-use Rattle.engine.proofs.reading.read.Reads as reads
-use Rattle.engine.proofs.reading.read.Lts as lts
-use Rattle.engine.proofs.packing.clear.Reads as clear-reads
-use Rattle.engine.proofs.packing.pack.Reads as pack-reads
-use Rattle.engine.proofs.reading.number.Reads as number-reads
 
--- src/reading.rt:73:9
 number-requires : tie.Need-number-requires
 number-requires c κs = search needs
 
--- src/reading.rt:75:9
 pack-requires : tie.Need-pack-requires
 pack-requires c κs = taken-fits _ _ (c .before .before .number .ensures) (c .before .if1 .taken)
 
--- src/reading.rt:76:9
 same-length : tie.Need-same-length
 same-length c = search needs
 
--- src/reading.rt:76:9
 returns : tie.Need-returns
 returns c = let k = c .before .before in
     let t = k .before .before in
     read-taken _ _ (t .before .number .ensures) (t .if1 .taken) (k .pack .ensures)
 
--- src/reading.rt:78:5
 clear-requires : tie.Need-clear-requires
 clear-requires c κs = search needs
 
--- src/reading.rt:70:1
 same-length-2 : tie.Need-same-length-2
 same-length-2 c = search needs
 
--- src/reading.rt:70:1
 returns-2 : tie.Need-returns-2
 returns-2 c = let k = c .before .before in
     let e = k .before .before in

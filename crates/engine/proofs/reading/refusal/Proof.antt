@@ -1,78 +1,58 @@
+-- `reading::refusal` meets its contract: the arrays have room, and what is compiled tells the refusal. Assumes nothing.
 use Rattle.engine.specs.Rooms.{waits-room, lines-room, tables-room}
 use borrow.Author.Needs.{needs}
 use Rattle.engine.proofs.reading.refusal.Statement.{statement}
 use Rattle.engine.proofs.reading.refusal.Tie as tie
-use Rattle.engine.proofs.reading.refusal.Reads as reads
-use Rattle.engine.proofs.reading.refusal.Lts as lts
-use Rattle.engine.proofs.compile.compile.Reads as compile-reads
-use Rattle.text.proofs.classes.Reads as classes-reads
 
--- src/reading.rt:20:13
 classes-requires : tie.Need-classes-requires
 classes-requires c κs = search needs
 
--- src/reading.rt:38:9
 slice-aggregate-compile : tie.Need-slice-aggregate-compile
 slice-aggregate-compile c = search needs
 
--- src/reading.rt:39:9
 slice-aggregate-compile-2 : tie.Need-slice-aggregate-compile-2
 slice-aggregate-compile-2 c = search needs
 
--- src/reading.rt:40:9
 slice-aggregate-compile-3 : tie.Need-slice-aggregate-compile-3
 slice-aggregate-compile-3 c = search needs
 
--- src/reading.rt:41:9
 slice-aggregate-compile-4 : tie.Need-slice-aggregate-compile-4
 slice-aggregate-compile-4 c = search needs
 
--- src/reading.rt:42:9
 slice-aggregate-compile-5 : tie.Need-slice-aggregate-compile-5
 slice-aggregate-compile-5 c = search needs
 
--- src/reading.rt:43:9
 slice-aggregate-compile-6 : tie.Need-slice-aggregate-compile-6
 slice-aggregate-compile-6 c = search needs
 
--- src/reading.rt:44:9
 slice-aggregate-compile-7 : tie.Need-slice-aggregate-compile-7
 slice-aggregate-compile-7 c = search needs
 
--- src/reading.rt:45:9
 slice-aggregate-compile-8 : tie.Need-slice-aggregate-compile-8
 slice-aggregate-compile-8 c = search needs
 
--- src/reading.rt:46:9
 slice-aggregate-compile-9 : tie.Need-slice-aggregate-compile-9
 slice-aggregate-compile-9 c = search needs
 
--- src/reading.rt:47:9
 slice-aggregate-compile-10 : tie.Need-slice-aggregate-compile-10
 slice-aggregate-compile-10 c = search needs
 
--- src/reading.rt:48:9
 slice-aggregate-compile-11 : tie.Need-slice-aggregate-compile-11
 slice-aggregate-compile-11 c = search needs
 
--- src/reading.rt:49:9
 slice-aggregate-compile-12 : tie.Need-slice-aggregate-compile-12
 slice-aggregate-compile-12 c = search needs
 
--- src/reading.rt:50:9
 slice-aggregate-compile-13 : tie.Need-slice-aggregate-compile-13
 slice-aggregate-compile-13 c = search needs
 
--- src/reading.rt:51:9
 slice-aggregate-compile-14 : tie.Need-slice-aggregate-compile-14
 slice-aggregate-compile-14 c = search needs
 
--- src/reading.rt:35:9
 compile-requires : tie.Need-compile-requires
 compile-requires c κs = let t = c .before .before .before .before .before .before .before .before .before .before .before .before .before .before in
     ((record { table-is = t .before .classes .ensures; short = t .before .before .before .pre }, waits-room, lines-room), tables-room)
 
--- src/reading.rt:16:1
 returns : tie.Need-returns
 returns c = search needs
 

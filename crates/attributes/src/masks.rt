@@ -1,16 +1,19 @@
 // The partial states of a state: for each item the set of the terminals with which it is in one.
 ghost use mathlib.Core.Path.{_≡_};
-ghost use mathlib.Core.List.{List, []};
+ghost use mathlib.Core.List.{List, [], _∷_, _++_};
 ghost use Prim.Native.Nat.{ℕ, _+_, _*_, _≤_, _<_};
 ghost use lib.ListN.{length, getD, set};
+ghost use lib.Seq.{slice};
 ghost use Rattle.sets.specs.Sets.{union};
 ghost use Rattle.grammar.specs.Data.Symbol.{Rule, rightOf, after};
 ghost use Rattle.grammar.specs.Automaton.FirstSets.{Sets};
 ghost use Rattle.grammar.specs.Automaton.ReachSets.{reachWith};
-ghost use Rattle.grammar.specs.Automaton.CoreItems.{ofRules};
+ghost use Rattle.grammar.specs.Data.Book.{Kernel};
+ghost use Rattle.grammar.specs.Automaton.CoreItems.{Core, ofRules, ofKernels};
 ghost use Rattle.automaton.specs.Arrays.{SuffixesIn, ReachesIn};
 ghost use Rattle.attributes.specs.Marks.{MarksIn};
 ghost use Rattle.attributes.specs.MarkRules.{LooksIn};
+ghost use Rattle.attributes.specs.MarkLines.{ItemLinesIn, itemOf};
 use automaton::words::word;
 
 // What is reached by items of a rule, with the dot after `dot` symbols and the lookaheads `own`.
@@ -84,5 +87,40 @@ fn mark_rules(
     while i < count {
         mark_rule(rules, looks, first, nulls, reaches, i, masks);
         i += 1;
+    }
+}
+
+// The item of kernel line i.
+fn mark_line(kernels: &[u32], i: usize, nulls: &[u32], reaches: &[u32], masks: &mut [u32])
+    requires { ⌜ ((G : List Rule) × (ks : List Kernel) × ItemLinesIn G ks (now kernels) × (i < length ks))
+        × (length (now nulls) ≡ 576) × (length (now reaches) ≡ 576) × (length (now masks) ≡ 576) ⌝ }
+    ensures { λ _. ⌜ ((G : List Rule) (F : Sets) (R firsts : List ℕ) (ks : List Kernel) (items : List Core) → ItemLinesIn G ks (now (kernels .entry))
+        → i < length ks → SuffixesIn G F (now (nulls .entry)) firsts → ReachesIn G F R (now (reaches .entry)) → MarksIn G F R items (now (masks .entry))
+        → MarksIn G F R (itemOf ks i ∷ items) (now (masks .exit))) ⌝ }
+{
+    let rule = word(kernels, 5 * i + 1);
+    let dot = word(kernels, 5 * i + 2);
+    mark_item(nulls, reaches, rule, dot, kernels[5 * i + 4], masks);
+}
+
+// The items of the kernel lines from `first` up to `last`, the last line first.
+fn mark_lines(
+    kernels: &[u32],
+    first: usize,
+    last: usize,
+    nulls: &[u32],
+    reaches: &[u32],
+    masks: &mut [u32],
+)
+    requires { ⌜ ((G : List Rule) × (ks : List Kernel) × ItemLinesIn G ks (now kernels) × (last ≤ length ks)) × (first ≤ last)
+        × (length (now nulls) ≡ 576) × (length (now reaches) ≡ 576) × (length (now masks) ≡ 576) ⌝ }
+    ensures { λ _. ⌜ ((G : List Rule) (F : Sets) (R firsts : List ℕ) (ks : List Kernel) (items : List Core) → ItemLinesIn G ks (now (kernels .entry))
+        → last ≤ length ks → SuffixesIn G F (now (nulls .entry)) firsts → ReachesIn G F R (now (reaches .entry)) → MarksIn G F R items (now (masks .entry))
+        → MarksIn G F R (ofKernels (slice first last ks) ++ items) (now (masks .exit))) ⌝ }
+{
+    let mut i = last;
+    while i > first {
+        i -= 1;
+        mark_line(kernels, i, nulls, reaches, masks);
     }
 }

@@ -2,18 +2,19 @@
 ghost use mathlib.Core.Path.{_≡_};
 ghost use mathlib.Core.List.{List, [], _∷_, _++_};
 ghost use Prim.Native.Nat.{ℕ, _+_, _*_, _≤_, _<_};
-ghost use lib.ListN.{length, getD, set};
+ghost use lib.ListN.{length, getD, set, replicate};
 ghost use lib.Seq.{slice};
 ghost use Rattle.sets.specs.Sets.{union};
 ghost use Rattle.grammar.specs.Data.Symbol.{Rule, rightOf, after};
-ghost use Rattle.grammar.specs.Automaton.FirstSets.{Sets};
-ghost use Rattle.grammar.specs.Automaton.ReachSets.{reachWith};
-ghost use Rattle.grammar.specs.Data.Book.{Kernel};
-ghost use Rattle.grammar.specs.Automaton.CoreItems.{Core, ofRules, ofKernels};
+ghost use Rattle.grammar.specs.Automaton.FirstSets.{Sets, setsOf};
+ghost use Rattle.grammar.specs.Automaton.ReachSets.{reachSets, reachWith};
+ghost use Rattle.grammar.specs.Data.Book.{Book, Kernel};
+ghost use Rattle.grammar.specs.Automaton.CoreItems.{Core, ofRules, ofKernels, coreItems};
 ghost use Rattle.automaton.specs.Arrays.{SuffixesIn, ReachesIn};
 ghost use Rattle.attributes.specs.Marks.{MarksIn};
 ghost use Rattle.attributes.specs.MarkRules.{LooksIn};
 ghost use Rattle.attributes.specs.MarkLines.{ItemLinesIn, itemOf};
+ghost use Rattle.attributes.specs.StateMarks.{MarksHeld};
 use automaton::words::word;
 
 // What is reached by items of a rule, with the dot after `dot` symbols and the lookaheads `own`.
@@ -123,4 +124,42 @@ fn mark_lines(
         i -= 1;
         mark_line(kernels, i, nulls, reaches, masks);
     }
+}
+
+// Sets that have nothing.
+fn clear(masks: &mut [u32])
+    ensures { λ _. ⌜ now (masks .exit) ≡ replicate (length (now (masks .entry))) 0 ⌝ }
+{
+    let n = masks.len();
+    let mut i = 0;
+    while i < n {
+        masks[i] = 0;
+        i += 1;
+    }
+}
+
+// For each item of a state the terminals with which it is in a partial state: word 9 * P + D is of rule P with the dot after D symbols.
+pub fn masks(
+    rules: &[u32],
+    count: usize,
+    kernels: &[u32],
+    starts: &[u32],
+    closures: &[u32],
+    nulls: &[u32],
+    reaches: &[u32],
+    state: usize,
+    masks: &mut [u32],
+)
+    requires { ⌜ ((b : Book) × (firsts : List ℕ)
+        × MarksHeld b (now rules) (now kernels) (now starts) (now closures) (now nulls) firsts (now reaches)
+        × (count ≡ length (b .rules)) × (state < b .states)) × (length (now masks) ≡ 576) ⌝ }
+    ensures { λ _. ⌜ ((b : Book) (firsts : List ℕ) → MarksHeld b (now (rules .entry)) (now (kernels .entry)) (now (starts .entry)) (now (closures .entry))
+        (now (nulls .entry)) firsts (now (reaches .entry)) → count ≡ length (b .rules) → state < b .states
+        → MarksIn (b .rules) (setsOf (b .rules)) (reachSets (b .rules) (setsOf (b .rules))) (coreItems b (setsOf (b .rules)) state) (now (masks .exit))) ⌝ }
+{
+    clear(masks);
+    mark_rules(rules, count, closures, 32 * state, nulls, reaches, masks);
+    let first = word(starts, state);
+    let last = word(starts, state + 1);
+    mark_lines(kernels, first, last, nulls, reaches, masks);
 }

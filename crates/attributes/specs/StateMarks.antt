@@ -8,6 +8,7 @@ use lib.Seq.{slice}
 use Rattle.grammar.specs.Data.Book.{Book}
 use Rattle.grammar.specs.Conditions.MeaningLaws.{right-length, left-declared}
 use Rattle.grammar.specs.Automaton.FirstSets.{Sets, setsOf}
+use Rattle.grammar.specs.Automaton.ReachSets.{reachSets}
 use Rattle.grammar.specs.Automaton.ClosureSets.{closureSets}
 use Rattle.grammar.specs.Automaton.CoreItems.{ofKernels, ofRules, coreItems}
 use Rattle.book.specs.Held.{kernelAt}
@@ -21,6 +22,11 @@ use Rattle.attributes.specs.MarkLines.{ItemLinesIn}
 pub record MarksHeld (b : Book) (rules kernels starts closures nulls firsts reaches : List ℕ) : Type 0 where
   pub items-in : ItemsIn b (setsOf (b .rules)) rules kernels starts closures
   pub rests-in : RestSetsIn (b .rules) nulls firsts reaches
+
+-- the sets of a state's items
+abbrev pub StateMarksIn : Book → ℕ → List ℕ → Type 0
+StateMarksIn b S masks =
+    MarksIn (b .rules) (setsOf (b .rules)) (reachSets (b .rules) (setsOf (b .rules))) (coreItems b (setsOf (b .rules)) S) masks
 
 -- the sets of no items
 pub marks-cleared : (b : Book) (F : Sets) (R : List ℕ) (masks : List ℕ) {cleared : List ℕ} → length masks ≡ 576 → cleared ≡ replicate (length masks) 0
@@ -61,9 +67,9 @@ module _ {b : Book} {rules kernels starts closures nulls firsts reaches : List �
       range = rw (first-is, last-is) (state-range (H .items-in .states-in) S s)
 
       -- the rules' items, then those of the kernel lines
-      pub marks-state : {count : ℕ} {R masks : List ℕ} → count ≡ length (b .rules)
-          → MarksIn (b .rules) (setsOf (b .rules)) R
+      pub marks-state : {count : ℕ} {masks : List ℕ} → count ≡ length (b .rules)
+          → MarksIn (b .rules) (setsOf (b .rules)) (reachSets (b .rules) (setsOf (b .rules)))
           (ofKernels (slice first last (b .kernels)) ++ ofRules (b .rules) (closureSets b (setsOf (b .rules)) S) count) masks
-          → MarksIn (b .rules) (setsOf (b .rules)) R (coreItems b (setsOf (b .rules)) S) masks
+          → StateMarksIn b S masks
       unfolding coreItems
       marks-state c M = rw (range .lines-are, ← c) M

@@ -6,15 +6,15 @@ ghost use lib.ListN.{length, getD, set, replicate};
 ghost use lib.Seq.{slice};
 ghost use Rattle.sets.specs.Sets.{union};
 ghost use Rattle.grammar.specs.Data.Symbol.{Rule, rightOf, after};
-ghost use Rattle.grammar.specs.Automaton.FirstSets.{Sets, setsOf};
-ghost use Rattle.grammar.specs.Automaton.ReachSets.{reachSets, reachWith};
+ghost use Rattle.grammar.specs.Automaton.FirstSets.{Sets};
+ghost use Rattle.grammar.specs.Automaton.ReachSets.{reachWith};
 ghost use Rattle.grammar.specs.Data.Book.{Book, Kernel};
-ghost use Rattle.grammar.specs.Automaton.CoreItems.{Core, ofRules, ofKernels, coreItems};
+ghost use Rattle.grammar.specs.Automaton.CoreItems.{Core, ofRules, ofKernels};
 ghost use Rattle.automaton.specs.Arrays.{SuffixesIn, ReachesIn};
 ghost use Rattle.attributes.specs.Marks.{MarksIn};
 ghost use Rattle.attributes.specs.MarkRules.{LooksIn};
 ghost use Rattle.attributes.specs.MarkLines.{ItemLinesIn, itemOf};
-ghost use Rattle.attributes.specs.StateMarks.{MarksHeld};
+ghost use Rattle.attributes.specs.StateMarks.{MarksHeld, StateMarksIn};
 use automaton::words::word;
 
 // What is reached by items of a rule, with the dot after `dot` symbols and the lookaheads `own`.
@@ -155,7 +155,7 @@ pub fn masks(
         × (count ≡ length (b .rules)) × (state < b .states)) × (length (now masks) ≡ 576) ⌝ }
     ensures { λ _. ⌜ ((b : Book) (firsts : List ℕ) → MarksHeld b (now (rules .entry)) (now (kernels .entry)) (now (starts .entry)) (now (closures .entry))
         (now (nulls .entry)) firsts (now (reaches .entry)) → count ≡ length (b .rules) → state < b .states
-        → MarksIn (b .rules) (setsOf (b .rules)) (reachSets (b .rules) (setsOf (b .rules))) (coreItems b (setsOf (b .rules)) state) (now (masks .exit))) ⌝ }
+        → StateMarksIn b state (now (masks .exit))) ⌝ }
 {
     clear(masks);
     mark_rules(rules, count, closures, 32 * state, nulls, reaches, masks);

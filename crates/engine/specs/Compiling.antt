@@ -6,6 +6,7 @@ use mathlib.Core.Bool.{Bool, true, false}
 use mathlib.Core.List.{List}
 use mathlib.Core.Option.{Option, none, some}
 use native.Mathlib.Omega.{arith}
+use lib.ListN.{length}
 use Rattle.grammar.specs.Data.Book.{Book as Lines}
 use Rattle.grammar.specs.Format.Parse.{parseBook}
 use Rattle.grammar.specs.Format.ParseLaws.{print-parse}
@@ -14,9 +15,11 @@ use Rattle.grammar.specs.Automaton.Compiled.{statesRefusal}
 use Rattle.grammar.specs.Refusal.{bookRefusal, refusal}
 use Rattle.book.specs.declared.Book.{Book}
 use Rattle.book.specs.Spelling.{Arrays, Roomy, Spelling}
+use Rattle.conditions.specs.AskedLaws.{counted}
 use Rattle.conditions.specs.SpellingHeld.{spelled-got, misspelt-none, arrays-held}
+use Rattle.attributes.specs.OneFormula.{FormulasHeld, formulasRight}
 use Rattle.engine.specs.States.{tablesRefusal}
-use Rattle.engine.specs.StatesRefusal.{formulasRight, withFormulas, states-refusal}
+use Rattle.engine.specs.StatesRefusal.{withFormulas, states-refusal}
 use Rattle.engine.specs.Conditions.{
   BookKept,
   conditionsRefusal,
@@ -26,7 +29,7 @@ use Rattle.engine.specs.Conditions.{
   definitions-refused,
   conditions-met,
 }
-use Rattle.engine.specs.Prepared.{BookReady, orElse, orElse-none, preparedRefusal}
+use Rattle.engine.specs.Prepared.{BookReady, Prepared, orElse, orElse-none, preparedRefusal}
 
 -- a book's refusal r is told, and it is ready where there is none
 pub record Checked (r : ℕ) (numbers : Book) (inherited synthesized rules definitions kernels goes : List ℕ)
@@ -61,6 +64,68 @@ module _ (b : Lines) where
       go true w true d true o true f =
           let e : bookRefusal b ≡ statesRefusal b = rw (w, d, o, f, bookRefusal) in
           e ∙ states-refusal b ∙ ap (λ (m : ℕ). withFormulas m (formulasRight b)) (sym (orElse-none (tablesRefusal b) (conditions-met b w d o f)))
+
+-- 10 is not asked where another applies
+formulas-later : {refusal : ℕ} (right : Bool) → (refusal ≡ 0 → ⊥) → withFormulas refusal right ≡ refusal
+unfolding withFormulas
+formulas-later {refusal = zero} right n = absurd (n refl)
+formulas-later {refusal = suc m} right n = refl
+
+-- ---- the answer, by what the steps told
+
+module _ {numbers : Book} {inherited synthesized rules definitions kernels goes : List ℕ} {vanishes begins reached starts closures table actions : List ℕ}
+    {b : Lines} where
+  -- what the formulas are made of
+  pub asked-formulas : BookReady numbers inherited synthesized rules definitions kernels goes vanishes begins reached starts closures table actions b
+      → FormulasHeld b rules (numbers .rules) definitions (numbers .«inherited_definitions») kernels starts closures vanishes begins reached
+      (numbers .terminals) (numbers .states)
+  asked-formulas h = let n = counted b (h .numbers-are) in
+      record {
+        ordered = h .ordered;
+        owned = h .conditions-met .attributes;
+        defined = h .conditions-met .definitions;
+        kernel-rules = h .kernel-rules;
+        definitions-in = h .arrays-in .definitions-in;
+        marks-held = record {
+          items-in = record {
+            states-in = record {
+              grammar-in = record { limits = h .conditions-met .limits; declared = h .conditions-met .names; rules-in = h .arrays-in .rules-in };
+              kernels-in = h .arrays-in .kernels-in;
+              starts-in = h .tables-in .starts-in;
+            };
+            closures-in = h .tables-in .items-filled .closures-in;
+          };
+          rests-in = h .tables-in .items-filled .rests-in;
+        };
+        rules-counted = n .rules-are;
+        definitions-counted = n .inherited-definitions-are;
+        terminals-are = n .terminals-are;
+        states-are = n .states-are;
+      }
+
+  pub attributes-counted : BookReady numbers inherited synthesized rules definitions kernels goes vanishes begins reached starts closures table actions b
+      → numbers .inherited ≡ length (b .inheritedOwners)
+  attributes-counted h = counted b (h .numbers-are) .inherited-are
+
+  module _ {first : ℕ}
+      (p : Prepared first numbers inherited synthesized rules definitions kernels goes vanishes begins reached starts closures table actions b) where
+    pub checked-refused : (first ≡ 0 → ⊥)
+        → Checked first numbers inherited synthesized rules definitions kernels goes vanishes begins reached starts closures table actions b
+    checked-refused n = record { told = p .told ∙ sym (book-refusal b ∙ formulas-later (formulasRight b) (λ e. n (p .told ∙ e))); ready = λ z. absurd (n z) }
+
+    module _ (none : first ≡ 0) {right : Bool} (right-is : right ≡ formulasRight b) where
+      pub checked-formulas : right ≡ false
+          → Checked 10 numbers inherited synthesized rules definitions kernels goes vanishes begins reached starts closures table actions b
+      unfolding withFormulas
+      checked-formulas f = record {
+        told = sym (book-refusal b ∙ rw (sym (p .told) ∙ none, sym right-is ∙ f));
+        ready = λ z. absurd (omega arith);
+      }
+
+      pub checked-all : right ≡ true
+          → Checked 0 numbers inherited synthesized rules definitions kernels goes vanishes begins reached starts closures table actions b
+      unfolding withFormulas
+      checked-all f = record { told = sym (book-refusal b ∙ rw (sym (p .told) ∙ none, sym right-is ∙ f)); ready = λ z. p .ready none }
 
 -- ---- the refusal of a text
 

@@ -1,24 +1,29 @@
 // From the text of a book to its arrays and tables, or to the first of conditions 2 to 10 that applies.
 // A contract asks that the arrays hold some book, and says what it says of every book that they hold.
 ghost use mathlib.Core.Path.{_≡_};
-ghost use Prim.Native.Nat.{_≤_};
+ghost use mathlib.Core.List.{List};
+ghost use Prim.Native.Nat.{ℕ, _≤_};
 ghost use lib.ListN.{length};
 ghost use Rattle.text.specs.Reading.{Lent};
+ghost use Rattle.grammar.specs.Limits.{MAX-INHERITED};
 ghost use Rattle.grammar.specs.Data.Book.{Book as Lines};
 ghost use Rattle.book.specs.Expressions.{MAX-WAITING};
+ghost use Rattle.book.specs.Held.{OwnersIn};
 ghost use Rattle.book.specs.Spelling.{arrays, Roomy};
 ghost use Rattle.conditions.specs.Answers.{Some};
+ghost use Rattle.attributes.specs.OneFormula.{FormulasHeld, formulasRight};
 ghost use Rattle.engine.specs.States.{TablesRoom};
 ghost use Rattle.engine.specs.Conditions.{BookKept, conditionsRefusal};
 ghost use Rattle.engine.specs.Prepared.{Prepared};
 ghost use Rattle.engine.specs.Compiling.{Checked, Compiles};
+use super::states::tables;
+use attributes::one_formula::one_formula;
 use book::Book;
 use book::reading::spelling;
 use conditions::declared::declared;
 use conditions::defined::defined;
 use conditions::limits::within_limits;
 use conditions::owned::owned;
-use super::states::tables;
 
 // The first of 3, 4, 5 and 6 that applies, or 0.
 fn conditions(
@@ -37,7 +42,15 @@ fn conditions(
     if !within_limits(book, inherited, synthesized, rules, definitions, kernels) {
         return 3;
     }
-    if !declared(book, inherited, synthesized, rules, definitions, kernels, goes) {
+    if !declared(
+        book,
+        inherited,
+        synthesized,
+        rules,
+        definitions,
+        kernels,
+        goes,
+    ) {
         return 4;
     }
     if !owned(book, inherited, synthesized, rules, definitions) {
@@ -74,7 +87,15 @@ fn prepare(
         (now (goes .entry)) (now (vanishes .exit)) (now (begins .exit)) (now (reached .exit)) (now (starts .exit)) (now (lookaheads .exit))
         (now (table .exit)) (now (cells .exit)) b) ⌝ }
 {
-    let first = conditions(book, inherited, synthesized, rules, definitions, kernels, goes);
+    let first = conditions(
+        book,
+        inherited,
+        synthesized,
+        rules,
+        definitions,
+        kernels,
+        goes,
+    );
     if first != 0 {
         return first;
     }
@@ -94,6 +115,47 @@ fn prepare(
         lookaheads,
         table,
         cells,
+    )
+}
+
+// Whether each attribute has one formula in every partial state (10).
+fn formulas_right(
+    book: Book,
+    inherited: &[u32],
+    rules: &[u32],
+    definitions: &[u32],
+    kernels: &[u32],
+    starts: &[u32],
+    lookaheads: &[u32],
+    vanishes: &[u32],
+    reached: &[u32],
+) -> bool
+    requires { ⌜ ((b : Lines) × (begins : List ℕ) × FormulasHeld b (now rules) (book .rules) (now definitions) (book .«inherited_definitions») (now kernels)
+        (now starts) (now lookaheads) (now vanishes) begins (now reached) (book .terminals) (book .states)
+        × OwnersIn MAX-INHERITED (b .inheritedOwners) (now inherited) × (book .inherited ≡ length (b .inheritedOwners))) ⌝ }
+    ensures { λ r. ⌜ ((b : Lines) (begins : List ℕ) → FormulasHeld b (now (rules .entry)) (book .rules) (now (definitions .entry))
+        (book .«inherited_definitions») (now (kernels .entry)) (now (starts .entry)) (now (lookaheads .entry)) (now (vanishes .entry)) begins
+        (now (reached .entry)) (book .terminals) (book .states)
+        → OwnersIn MAX-INHERITED (b .inheritedOwners) (now (inherited .entry)) → book .inherited ≡ length (b .inheritedOwners) → r ≡ formulasRight b) ⌝ }
+{
+    let mut nodes = [0u32; 7680];
+    let mut nexts = [0u32; 1920];
+    one_formula(
+        inherited,
+        book.inherited,
+        rules,
+        book.rules,
+        definitions,
+        book.inherited_definitions,
+        kernels,
+        starts,
+        lookaheads,
+        vanishes,
+        reached,
+        book.terminals,
+        book.states,
+        &mut nodes,
+        &mut nexts,
     )
 }
 
@@ -122,7 +184,7 @@ fn check(
         (now (goes .entry)) (now (vanishes .exit)) (now (begins .exit)) (now (reached .exit)) (now (starts .exit)) (now (lookaheads .exit))
         (now (table .exit)) (now (cells .exit)) b) ⌝ }
 {
-    prepare(
+    let first = prepare(
         book,
         inherited,
         synthesized,
@@ -137,7 +199,24 @@ fn check(
         lookaheads,
         table,
         cells,
-    )
+    );
+    if first != 0 {
+        return first;
+    }
+    if !formulas_right(
+        book,
+        inherited,
+        rules,
+        definitions,
+        kernels,
+        starts,
+        lookaheads,
+        vanishes,
+        reached,
+    ) {
+        return 10;
+    }
+    0
 }
 
 // The refusal of a text, or 0, and the numbers of its book.

@@ -1,4 +1,5 @@
 // Formulas of partial states: interned nodes, and the one-formula check (10).
+pub mod alike;
 pub mod check;
 pub mod formulas;
 pub mod interning;

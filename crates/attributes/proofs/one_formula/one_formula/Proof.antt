@@ -9,7 +9,9 @@ use Rattle.attributes.proofs.one_formula.one_formula.Tie as tie
 
 -- the entry, as the place where the states are checked knows it
 abbrev entry : tie.After-states-right-arg2 → tie.Start
-entry c = let o = c .before .before .before .before .before .before .before .before in o .before .before .before .before .before .before .before .before .before .before .before .before
+entry c =
+    let o = c .before .before .before .before .before .before .before .before in
+    o .before .before .before .before .before .before .before .before .before .before .before .before
 
 slice-aggregate-owned : tie.Need-slice-aggregate-owned
 slice-aggregate-owned c = search needs

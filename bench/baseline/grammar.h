@@ -63,7 +63,7 @@ static bool all_defined(struct book *b)
 static void sort_rules(struct grammar *g)
 {
     const struct book *b = g->book;
-    for (uint32_t A = 1; A <= b->nonterminals; A++)
+    for (uint32_t A = 1; A <= MAX_NONTERMINALS; A++)
         g->with_inherited |= (uint32_t)(b->inherited.owned[A] > 0) << A;
     for (uint32_t P = 0; P < b->rules; P++) {
         const struct rule *r = &b->rule[P];

@@ -4,6 +4,7 @@
 
 #include "message_book.h"
 #include <inttypes.h>
+#include <stdbool.h>
 #include <stdio.h>
 #include <stdlib.h>
 

@@ -4,6 +4,7 @@
 #   make trials        runs them and compares their reports: as built, with sanitizers, under valgrind
 #   make bench         reading and evaluating, the engine beside the baseline
 #   make differ        the engine against the baseline (SECONDS=10 SEED=1)
+#   make stack         how much stack the calls need
 #   make conformance   the stored cases through the two calls
 #
 # BASELINE=1 puts the baseline in the place of the engine.
@@ -24,7 +25,7 @@ endif
 BUILD = mkdir -p $(@D) && $(CC) $(CFLAGS) $(NAMES)
 HEADERS = include/message_book.h $(wildcard host/*.h bench/*.h bench/baseline/*.h)
 
-.PHONY: host trials bench differ conformance books
+.PHONY: host trials bench differ stack conformance books
 host: $(OUT)/station $(OUT)/trials
 trials: host $(OUT)/station-sanitized $(OUT)/trials-sanitized
 	sh host/check.sh $(OUT)
@@ -32,6 +33,8 @@ bench: $(OUT)/bench
 	$< bench/books
 differ: $(OUT)/differ
 	$< bench/books $(SECONDS) $(SEED)
+stack: $(OUT)/stack
+	$< bench/books
 conformance: $(OUT)/conformance
 	$< crates/vectors/data/*.txt
 
@@ -47,7 +50,7 @@ $(OUT)/station $(OUT)/trials: $(OUT)/%: host/%.c $(ENGINE) $(HEADERS)
 	$(BUILD) $< $(ENGINE) -o $@
 $(OUT)/station-sanitized $(OUT)/trials-sanitized: $(OUT)/%-sanitized: host/%.c $(ENGINE) $(HEADERS)
 	$(BUILD) $(SANITIZERS) $< $(if $(BASELINE),bench/baseline.c,$(ENGINE)) -o $@
-$(OUT)/bench $(OUT)/differ: $(OUT)/%: bench/%.c $(OUT)/baseline.o $(ENGINE) $(HEADERS)
-	$(BUILD) $< $(sort $(OUT)/baseline.o $(ENGINE)) -o $@
+$(OUT)/bench $(OUT)/differ $(OUT)/stack: $(OUT)/%: bench/%.c $(OUT)/baseline.o $(ENGINE) $(HEADERS)
+	$(BUILD) $< $(sort $(OUT)/baseline.o $(ENGINE)) -pthread -o $@
 $(OUT)/conformance: tests/conformance/conformance.c $(ENGINE) $(HEADERS)
 	$(BUILD) $< $(ENGINE) -o $@

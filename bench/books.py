@@ -15,8 +15,8 @@ ROOT = Path(__file__).resolve().parent.parent
 sys.path[:0] = [str(ROOT / "tools"), str(ROOT / "tests")]
 import grammar as grammars  # noqa: E402
 import lr  # noqa: E402
-import named  # noqa: E402
 import states as maker  # noqa: E402
+from cases.named import S  # noqa: E402
 
 BOOKS = Path(__file__).resolve().parent / "books"
 LONGEST_TEXT = 65536
@@ -368,7 +368,7 @@ def messages(grammar, long_tokens, long_nodes):
 def main():
     """All files."""
     BOOKS.mkdir(exist_ok=True)
-    write("s", named.S, short=[(1, 100), (2, 5), (2, 7)], long=[(1, 100)] + [(2, value) for value in range(126)])
+    write("s", S, short=[(1, 100), (2, 5), (2, 7)], long=[(1, 100)] + [(2, value) for value in range(126)])
     middle, states, limits, formulas = grammars.read(MIDDLE), states_grammar(), limits_grammar(), formulas_grammar()
     write("middle", lalr_book(middle), **messages(middle, 120, 255))
     write("states", lalr_book(states), **messages(states, 120, 255))

@@ -76,25 +76,29 @@ static const uint8_t *unpack(const uint32_t *words, uint8_t *room)
     return room;
 }
 
+enum { BLOCK = 64 };
+
+/* Whether a block of words is zero, eight bytes at a time in four rows. */
+static bool block_is_zero(const uint32_t *words)
+{
+    uint64_t any[4] = {0, 0, 0, 0}, eight;
+    for (size_t i = 0; i < BLOCK; i += 8)
+        for (size_t j = 0; j < 4; j++) {
+            memcpy(&eight, words + i + 2 * j, sizeof eight);
+            any[j] |= eight;
+        }
+    return (any[0] | any[1] | any[2] | any[3]) == 0;
+}
+
 /* How many bytes stand before the zeros at the end. A zero among them is misspelt. */
 static size_t stored_length(const uint32_t *words)
 {
-    enum { BLOCK = 64 };
     size_t count = BOOK_WORDS;
-    while (count > 0) {
-        uint32_t any = 0;
-        for (size_t i = count - BLOCK; i < count; i++)
-            any |= words[i];
-        if (any != 0)
-            break;
+    while (count > 0 && block_is_zero(words + (count - BLOCK)))
         count -= BLOCK;
-    }
     while (count > 0 && words[count - 1] == 0)
         count--;
-    if (count == 0)
-        return 0;
-    uint32_t last = words[count - 1];
-    return 4 * count - (size_t)__builtin_clz(last) / 8;
+    return count == 0 ? 0 : 4 * count - (size_t)__builtin_clz(words[count - 1]) / 8;
 }
 
 uint32_t baseline_read(const uint8_t *text, size_t text_length, uint32_t *words, size_t words_length)

@@ -10,8 +10,7 @@ static inline const char *refusal_in_words(uint32_t number)
         "taken",
         "the text is longer than 65,536 bytes, or the lent words are not 16,384",
         "misspelt: a line's spelling, the order of the kinds of lines, or the order of lines of one kind",
-        "a limit is passed: terminals, nonterminals, states, attributes, rules, right symbols, definitions, nodes or "
-        "lines",
+        "a limit is passed: of terminals, states, attributes, rules, definitions, nodes or lines",
         "a name, rule, position or state is not declared, or stands where it may not",
         "an attribute is not its symbol's, val is of a nonterminal, or a definition reads what is not to its left",
         "a rule leaves an attribute without a definition",

@@ -37,7 +37,7 @@ struct lent {
     uint32_t high[GUARDS];
 };
 
-static void stop(const char *what, const char *path)
+static _Noreturn void stop(const char *what, const char *path)
 {
     fprintf(stderr, "conformance: %s: %s\n", path, what);
     exit(2);

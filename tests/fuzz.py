@@ -16,7 +16,7 @@ from pathlib import Path
 
 from cases.limits import edges
 from cases.messages import some_lists
-from engines import Desk, Library
+from engines import Desk, Library, add_options, engine_of
 from generate import damage, lists, shapes
 from generate.books import random_book
 from oracle import calls
@@ -117,14 +117,12 @@ def short(answer):
 def main():
     """The command."""
     parser = argparse.ArgumentParser(description="Run random cases against an engine.")
-    parser.add_argument("--desk", help="the desk program")
-    parser.add_argument("--library", help="a shared library with the two calls")
-    parser.add_argument("--prefix", default="message_book", help="what the names of the calls begin with")
+    add_options(parser)
     parser.add_argument("--seconds", type=float, default=60)
     parser.add_argument("--seed", type=int, default=None)
     options = parser.parse_args()
     seed = random.randrange(1 << 32) if options.seed is None else options.seed
-    engine = Library(options.library, options.prefix) if options.library else Desk(options.desk or "target/bin/desk")
+    engine = engine_of(options) or Desk("target/bin/desk")
     print(f"seed {seed}", flush=True)
     fuzz, end = Fuzz(engine, seed), time.monotonic() + options.seconds
     while time.monotonic() < end and fuzz.failures < MOST_FAILURES:

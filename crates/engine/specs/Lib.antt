@@ -4,3 +4,8 @@ pub mod PlacedLaws
 pub mod PackingLoops
 pub mod States
 pub mod StatesRefusal
+pub mod Conditions
+pub mod Prepared
+pub mod Compiling
+pub mod Readings
+pub mod Rooms

@@ -19,8 +19,11 @@ from cases.messages import some_lists
 from engines import Desk, Library, add_options, engine_of
 from generate import damage, lists, shapes
 from generate.books import random_book
+from generate.definitions import define, give_attributes
+from generate.grammars import grown
 from oracle import calls
 from oracle.answer import desk
+import states
 
 SAVED = Path("target/fuzz")
 MOST_FAILURES = 20
@@ -62,21 +65,29 @@ class Fuzz:
         self.compare("evaluate", expected, self.engine.evaluate(words, numbers, length), given)
 
     def book(self):
-        """A random book of some kind with its grammar."""
-        way = self.rng.random()
+        """A random book of some kind: its grammar, its text, and whether it has lists at the limits."""
+        rng, way = self.rng, self.rng.random()
+        if way < 0.05:
+            grammar, automaton = shapes.conflicting(rng)
+            give_attributes(rng, grammar, 1, 16, 32)
+            define(rng, grammar)
+            return grammar, states.book_text(grammar, automaton), False
+        if way < 0.055:
+            grammar = grown(rng, 31, 31, 64, 80, True)
+            return grammar, random_book(rng, grammar, 4, True)[2], False
         if way < 0.1:
-            return random_book(self.rng, shapes.two_dots(self.rng), 2, self.rng.random() < 0.5)
-        if way < 0.2:
-            return random_book(self.rng, self.rng.choice(shapes.GROWING)(), 2, True)
-        return random_book(self.rng, mended=self.rng.random() < 0.7)
+            grammar = rng.choice(shapes.GROWING)()
+            return grammar, random_book(rng, grammar, 2, True)[2], True
+        grammar, _, text = random_book(rng, shapes.two_dots(rng) if way < 0.2 else None, mended=rng.random() < 0.7)
+        return grammar, text, False
 
     def turn(self):
         """One book: its lists, its damaged texts, its words."""
         rng = self.rng
-        grammar, _, text = self.book()
+        grammar, text, at_limits = self.book()
         text = text.encode()
         many = list(some_lists(rng, grammar, 6, (1, 5, 10, 30, 100)))
-        many += [[(kind, place) for place, kind in enumerate(kinds)] for kinds in edges(rng, grammar).values()] if rng.random() < 0.1 else []
+        many += [[(kind, place) for place, kind in enumerate(kinds)] for kinds in edges(rng, grammar).values()] if at_limits else []
         for tokens in many:
             self.desk(text + lists.spelled(tokens).encode())
         for _ in range(12):

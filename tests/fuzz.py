@@ -69,7 +69,7 @@ class Fuzz:
         rng, way = self.rng, self.rng.random()
         if way < 0.05:
             grammar, automaton = shapes.conflicting(rng)
-            give_attributes(rng, grammar, 1, 16, 32)
+            give_attributes(rng, grammar, 1)
             define(rng, grammar)
             return grammar, states.book_text(grammar, automaton), False
         if way < 0.055:

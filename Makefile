@@ -4,3 +4,4 @@ test:
 	bash .ci/run
 
 include c.mk
+include tests.mk

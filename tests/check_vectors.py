@@ -1,22 +1,24 @@
 #!/usr/bin/env python3
-"""Runs the oracle over the stored cases, or a program with the desk program's input and output. Run: python3 tests/check_vectors.py [PROGRAM]"""
+"""Runs the oracle over the stored cases, or an engine if one is named.
 
-import subprocess
+    python3 tests/check_vectors.py [--desk PROGRAM | --library FILE --prefix NAME]
+"""
+
+import argparse
 import sys
 
 from cases.group import read
+from engines import add_options, engine_of
 from make_vectors import DATA
 from oracle.answer import desk
 
 
-def by_program(program):
-    """A program as a function from input to output."""
-    return lambda whole: subprocess.run([program], input=whole, capture_output=True, check=False).stdout
-
-
 def main():
     """Prints each case that fails, and the counts."""
-    answer = by_program(sys.argv[1]) if len(sys.argv) > 1 else desk
+    parser = argparse.ArgumentParser(description="Run the stored cases.")
+    add_options(parser)
+    engine = engine_of(parser.parse_args())
+    answer = engine.desk if engine else desk
     passed, failed = 0, 0
     for path in sorted(DATA.glob("*.txt")):
         for place, (whole, expected) in enumerate(read(path.read_bytes()), 1):

@@ -2,12 +2,27 @@
 
 import ctypes
 import subprocess
+from array import array
 
 from oracle.answer import cut, printed
 from oracle.spelling import Misspelt, read_tokens
 
 WORDS, ROW_WORDS = 16384, 5120
 GARBAGE = 0xA5A5A5A5
+
+
+def add_options(parser):
+    """The options that name an engine."""
+    parser.add_argument("--desk", help="the desk program")
+    parser.add_argument("--library", help="a shared library with the two calls")
+    parser.add_argument("--prefix", default="message_book", help="what the names of the calls begin with")
+
+
+def engine_of(options):
+    """The engine that the options name, or None."""
+    if options.library:
+        return Library(options.library, options.prefix)
+    return Desk(options.desk) if options.desk else None
 
 
 class Desk:
@@ -21,6 +36,11 @@ class Desk:
         return subprocess.run([self.program], input=whole, capture_output=True, check=False).stdout
 
 
+def address(words):
+    """Where an array of words lies; not NULL, also where it is empty."""
+    return ctypes.c_void_p(words.buffer_info()[0] or 64)
+
+
 class Library:
     """Reading and evaluating, called as C does (include/message_book.h). Lent results hold garbage before each call."""
 
@@ -32,28 +52,25 @@ class Library:
 
     def lent(self, length):
         """A buffer of garbage with one word more, which must stay as it is."""
-        return (ctypes.c_uint32 * (length + 1))(*[GARBAGE] * (length + 1))
+        return array("I", [GARBAGE]) * (length + 1)
 
     def taken_back(self, buffer):
         """The words of a buffer."""
-        words = list(buffer)
-        if words.pop() != GARBAGE:
+        if buffer.pop() != GARBAGE:
             raise AssertionError("a word behind the lent buffer was changed")
-        return words
+        return buffer.tolist()
 
     def read(self, text, words_length):
         """As oracle.calls.read."""
         words = self.lent(words_length)
-        number = self.read_call(text, ctypes.c_size_t(len(text)), words, ctypes.c_size_t(words_length))
+        number = self.read_call(text, ctypes.c_size_t(len(text)), address(words), ctypes.c_size_t(words_length))
         return number, self.taken_back(words)
 
     def evaluate(self, words, numbers, rows_length):
         """As oracle.calls.evaluate."""
-        stored = (ctypes.c_uint32 * max(1, len(words)))(*words)
-        tokens = (ctypes.c_uint32 * max(1, len(numbers)))(*numbers)
-        rows, count = self.lent(rows_length), ctypes.c_uint32(GARBAGE)
-        lengths = [ctypes.c_size_t(len(part)) for part in (words, numbers)] + [ctypes.c_size_t(rows_length)]
-        number = self.evaluate_call(stored, lengths[0], tokens, lengths[1], rows, lengths[2], ctypes.byref(count))
+        stored, tokens, rows, count = array("I", words), array("I", numbers), self.lent(rows_length), ctypes.c_uint32(GARBAGE)
+        given = [part for words in (stored, tokens) for part in (address(words), ctypes.c_size_t(len(words)))]
+        number = self.evaluate_call(*given, address(rows), ctypes.c_size_t(rows_length), ctypes.byref(count))
         return number, count.value, self.taken_back(rows)
 
     def desk(self, whole):

@@ -16,11 +16,14 @@ from pathlib import Path
 
 from cases.limits import edges
 from cases.messages import some_lists
-from engines import Desk, Library
+from engines import Desk, Library, add_options, engine_of
 from generate import damage, lists, shapes
 from generate.books import random_book
+from generate.definitions import define, give_attributes
+from generate.grammars import grown
 from oracle import calls
 from oracle.answer import desk
+import states
 
 SAVED = Path("target/fuzz")
 MOST_FAILURES = 20
@@ -62,21 +65,29 @@ class Fuzz:
         self.compare("evaluate", expected, self.engine.evaluate(words, numbers, length), given)
 
     def book(self):
-        """A random book of some kind with its grammar."""
-        way = self.rng.random()
+        """A random book of some kind: its grammar, its text, and whether it has lists at the limits."""
+        rng, way = self.rng, self.rng.random()
+        if way < 0.05:
+            grammar, automaton = shapes.conflicting(rng)
+            give_attributes(rng, grammar, 1)
+            define(rng, grammar)
+            return grammar, states.book_text(grammar, automaton), False
+        if way < 0.055:
+            grammar = grown(rng, 31, 31, 64, 80, True)
+            return grammar, random_book(rng, grammar, 4, True)[2], False
         if way < 0.1:
-            return random_book(self.rng, shapes.two_dots(self.rng), 2, self.rng.random() < 0.5)
-        if way < 0.2:
-            return random_book(self.rng, self.rng.choice(shapes.GROWING)(), 2, True)
-        return random_book(self.rng, mended=self.rng.random() < 0.7)
+            grammar = rng.choice(shapes.GROWING)()
+            return grammar, random_book(rng, grammar, 2, True)[2], True
+        grammar, _, text = random_book(rng, shapes.two_dots(rng) if way < 0.2 else None, mended=rng.random() < 0.7)
+        return grammar, text, False
 
     def turn(self):
         """One book: its lists, its damaged texts, its words."""
         rng = self.rng
-        grammar, _, text = self.book()
+        grammar, text, at_limits = self.book()
         text = text.encode()
         many = list(some_lists(rng, grammar, 6, (1, 5, 10, 30, 100)))
-        many += [[(kind, place) for place, kind in enumerate(kinds)] for kinds in edges(rng, grammar).values()] if rng.random() < 0.1 else []
+        many += [[(kind, place) for place, kind in enumerate(kinds)] for kinds in edges(rng, grammar).values()] if at_limits else []
         for tokens in many:
             self.desk(text + lists.spelled(tokens).encode())
         for _ in range(12):
@@ -117,14 +128,12 @@ def short(answer):
 def main():
     """The command."""
     parser = argparse.ArgumentParser(description="Run random cases against an engine.")
-    parser.add_argument("--desk", help="the desk program")
-    parser.add_argument("--library", help="a shared library with the two calls")
-    parser.add_argument("--prefix", default="message_book", help="what the names of the calls begin with")
+    add_options(parser)
     parser.add_argument("--seconds", type=float, default=60)
     parser.add_argument("--seed", type=int, default=None)
     options = parser.parse_args()
     seed = random.randrange(1 << 32) if options.seed is None else options.seed
-    engine = Library(options.library, options.prefix) if options.library else Desk(options.desk or "target/bin/desk")
+    engine = engine_of(options) or Desk("target/bin/desk")
     print(f"seed {seed}", flush=True)
     fuzz, end = Fuzz(engine, seed), time.monotonic() + options.seconds
     while time.monotonic() < end and fuzz.failures < MOST_FAILURES:

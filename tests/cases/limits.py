@@ -109,6 +109,16 @@ def counts_of_definitions(rng, group):
         group.add(text.encode() + lists.spelled(tokens).encode())
 
 
+def huge_formulas(group):
+    """Formulas far too long to be written out, where two are the same and where two are not."""
+    for same in (True, False):
+        grammar = full.huge_formulas(same)
+        text = states.book_text(grammar, lr.lalr(grammar)).encode()
+        assert compiled(text)[0] == (0 if same else 10)
+        group.base(text)
+        group.add_all(text + lists.spelled([(1, 5), (16, 0)] + [(kind, 0) for kind in more]).encode() for more in ((), (15, 14, 2), (2, 15)))
+
+
 def large_books(rng, group):
     """Random books with many symbols, rules and attributes."""
     for grammar in (keyed(rng, 31, 31, 64), grown(rng, 31, 31, 64, 120, True), grown(rng, 20, 10, 40, 120, False)):
@@ -134,5 +144,6 @@ def fill(rng, group):
     edge_lists(rng, group)
     counts_of_lines(group)
     counts_of_definitions(rng, group)
+    huge_formulas(group)
     large_books(rng, group)
     longest_text(group)

@@ -30,7 +30,7 @@ def conflicts(rng, group):
     """Books that only 9 turns back."""
     for _ in range(WANTED["conflict"]):
         grammar, automaton = shapes.conflicting(rng)
-        give_attributes(rng, grammar, rng.randint(0, 1), 16, 32)
+        give_attributes(rng, grammar, rng.randint(0, 1))
         define(rng, grammar)
         text = states.book_text(grammar, automaton).encode()
         if len(text) <= LONGEST:

@@ -2,7 +2,9 @@
 
 import copy
 
-from .grammars import fits
+import lr
+
+from .grammars import MOST_STATES, fits
 
 
 def variant(automaton):
@@ -72,7 +74,10 @@ def stray(rng, automaton):
     chosen = rng.sample(places, rng.randint(1, min(3, len(places))))
     kernel = {item: 1 << rng.randint(0, automaton.grammar.terminals) for item in sorted(chosen)}
     other = variant(automaton)
-    other.build(lambda kernel: frozenset(kernel.items()), 128, [kernel])
+    try:
+        other.build(lambda kernel: frozenset(kernel.items()), MOST_STATES, [kernel])
+    except lr.TooMany:
+        return automaton
     return other if right(other) else automaton
 
 
@@ -91,11 +96,7 @@ def shuffled(rng, automaton):
 def some_variant(rng, automaton):
     """A random make of the same states."""
     if rng.random() < 0.15:
-        try:
-            automaton = stray(rng, automaton)
-        except Exception as fault:
-            if type(fault).__name__ != "TooMany":
-                raise
+        automaton = stray(rng, automaton)
     if rng.random() < 0.4:
         automaton = larger(rng, automaton, rng.randint(1, 6))
     if rng.random() < 0.3:

@@ -20,7 +20,7 @@ def random_book(rng, grammar=None, most_each=None, mended=None):
         automaton = with_states(rng, chosen)
         if automaton is None:
             continue
-        give_attributes(rng, chosen, rng.randint(0, 3) if most_each is None else most_each, 16, 32)
+        give_attributes(rng, chosen, rng.randint(0, 3) if most_each is None else most_each)
         define(rng, chosen)
         if mended if mended is not None else rng.random() < 0.9:
             mend(rng, chosen, automaton)

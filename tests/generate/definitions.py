@@ -6,17 +6,16 @@ OPERATORS = ("add", "sub", "min", "max", "pick")
 NUMBERS = (0, 0, 1, 1, 2, 3, 7, 10, 100, 65535, 2147483648, 4294967294, 4294967295)
 
 
-def give_attributes(rng, grammar, most_each, most_inh, most_syn):
-    """Hand out attributes in random order, and take some back while there would be more than 128 definitions."""
+def give_attributes(rng, grammar, most_each):
+    """Hand out attributes in random order, and take the last ones back while there would be more than 128 definitions."""
     names = [f"n{k}" for k in range(1, grammar.nonterminals + 1)]
     inh = [name for name in names for _ in range(rng.randint(0, most_each))]
     syn = [name for name in names for _ in range(rng.randint(0, most_each))]
     rng.shuffle(inh)
     rng.shuffle(syn)
-    grammar.inh, grammar.syn = inh[:most_inh], syn[:most_syn]
+    grammar.inh, grammar.syn = inh[:16], syn[:32]
     while len(inherited_targets(grammar)) + len(synthesized_targets(grammar)) > 128:
-        (grammar.inh or grammar.syn).pop()
-        grammar.syn = grammar.syn[:-1]
+        (grammar.syn if len(grammar.syn) > len(grammar.inh) else grammar.inh).pop()
 
 
 def inherited_targets(grammar):

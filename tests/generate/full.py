@@ -61,3 +61,24 @@ def all_definitions(rng):
         deep = ["add", deep, str(4294967295 - number)]
     grammar.syndefs[1, 0] = deep
     return grammar
+
+
+def all_in_one(leaf, last):
+    """An expression of 15 nodes with 8 leaves, of which the last may be another."""
+    pair = ["add", leaf, leaf]
+    return ["sub", ["max", pair, pair], ["min", pair, ["sub", leaf, last]]]
+
+
+def huge_formulas(same):
+    """15 levels that read the one above 8 times, each by two rules: formulas that no machine can write out, equal or not in their last leaf."""
+    levels = range(2, 16)
+    rules = ["n0 n1", "n1 t1 n2"] + [f"n{k} n{k + 1}{end}" for k in levels for end in ("", f" t{k}")] + ["n16 t16"]
+    grammar = of_rules(16, 16, *rules)
+    grammar.inh, grammar.syn = [f"n{k}" for k in range(2, 17)], ["n16"]
+    grammar.inhdefs = {(1, 2, 0): ["val", "1"]}
+    for rule, (left, _) in enumerate(grammar.rules[2:-1], 2):
+        own = ["own", f"i{int(left[1:]) - 2}"]
+        last = own if same or rule < len(rules) - 2 else "0"
+        grammar.inhdefs[rule, 1, int(left[1:]) - 1] = all_in_one(own, last)
+    grammar.syndefs = {(len(rules) - 1, 0): ["own", "i14"]}
+    return grammar

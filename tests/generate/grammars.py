@@ -70,19 +70,15 @@ def grown(rng, terminals, nonterminals, rules, tries, merged):
 
 
 def keyed(rng, terminals, nonterminals, rules):
-    """Each nonterminal's rules start with terminals of their own, so that any size has states; some have an empty rule too."""
+    """Each nonterminal's rules start with terminals of their own, so that any size has states; some are empty."""
     while True:
         grammar = empty_grammar(terminals, nonterminals)
-        wanted = [which for which in range(1, nonterminals + 1)] * rules
-        used = {}
-        for which in wanted[: rules - 1]:
-            free = [k for k in range(1, terminals + 1) if k not in used.setdefault(which, [])]
-            if not free:
-                continue
-            key = rng.choice(free)
-            used[which].append(key)
-            tail = random_right(rng, grammar, nonterminals, 4)
-            grammar.rules.append((f"n{which}", [] if rng.random() < 0.15 else [f"t{key}"] + tail))
+        free = {which: rng.sample(range(1, terminals + 1), terminals) for which in range(1, nonterminals + 1)}
+        for place in range(rules - 1):
+            which = place % nonterminals + 1
+            if free[which]:
+                right = [f"t{free[which].pop()}"] + random_right(rng, grammar, nonterminals, 4)
+                grammar.rules.append((f"n{which}", [] if rng.random() < 0.15 else right))
         if states_of(grammar, False):
             return grammar
         rules = max(2, rules - 1)

@@ -70,10 +70,11 @@ class Automaton:
                 after.setdefault(right[dot], {})[rule, dot + 1] = lookaheads
         return dict(sorted(after.items(), key=lambda pair: (pair[0][0] == "n", int(pair[0][1:]))))
 
-    def build(self, key, most):
-        """Find all states from state 0. States with equal keys are one, whose lookaheads are put together."""
-        self.kernels, self.go = [{(0, 0): 1}], [{}]
-        numbers, todo = {key(self.kernels[0]): 0}, [0]
+    def build(self, key, most, more=()):
+        """Find all states from state 0, and from more kernels if wanted. States with equal keys are one, whose lookaheads are put together."""
+        self.kernels = [{(0, 0): 1}, *more]
+        self.go = [{} for _ in self.kernels]
+        numbers, todo = {key(kernel): state for state, kernel in enumerate(self.kernels)}, list(range(len(self.kernels)))
         while todo:
             state = todo.pop(0)
             for symbol, kernel in self.advanced(self.kernels[state]).items():

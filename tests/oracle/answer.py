@@ -3,8 +3,8 @@
 import sys
 from functools import lru_cache
 
-from . import machine
 from .conditions import check
+from .machine import Machine
 from .spelling import Misspelt, read_book, read_tokens
 from .trees import MANY, NONE, Forest
 
@@ -52,7 +52,7 @@ def evaluated(text, tokens):
     if any(not 1 <= kind <= book.terminals for kind, _ in tokens):
         return 14, []
     tree = by_tree(book, tokens)
-    run = machine.run(book, states, formulas, tokens)
+    run = Machine(states, formulas, tokens).run()
     if run != tree and not (tree[0] == 15 and run[0] in (16, 17)):
         raise Disagreement(f"tree says {tree}, evaluator {run}")
     return run

@@ -3,66 +3,86 @@
 from .values import inherited_of, meaning_of, operate, row_of, synthesized_of
 
 
-def formula_values(formulas, wanted, depth, inherited, synthesized):
-    """The values of a partial state's formulas over the stacks: attribute -> value."""
-    known = {}
+class Machine:
+    """The stacks and the rows so far. A cell is what stands with one symbol of the stack; cell 0 has no symbol."""
 
-    def value(number):
-        if number not in known:
-            match formulas.nodes[number]:
-                case ("number", constant):
-                    known[number] = constant
-                case ("inherited", offset, which):
-                    known[number] = inherited[depth + offset].get(which, 0)
-                case ("synthesized", offset, which):
-                    known[number] = synthesized[depth + offset].get(which, 0)
-                case (word, *operands):
-                    known[number] = operate(word, [value(operand) for operand in operands])
-        return known[number]
+    def __init__(self, states, formulas, tokens):
+        self.book, self.states, self.formulas, self.tokens = states.book, states, formulas, tokens
+        self.stack, self.inherited, self.synthesized, self.starts = [0], [{}], [{}], [0]
+        self.rows, self.at = [], 0
 
-    return {which: value(number) for which, number in wanted.items()}
+    def run(self):
+        """The answer: a refusal number and no rows, or 0 and the rows."""
+        while True:
+            a = self.next_kind()
+            action = next(iter(self.states.actions(self.stack[-1], a)), None)
+            if action is None:
+                return 15, []
+            if action[0] == "accept":
+                return 0, self.rows
+            length = 0 if action[0] == "shift" else len(self.book.rules[action[1]][1])
+            if len(self.rows) == 512:
+                return 16, []
+            if length == 0 and len(self.stack) - 1 == 128:
+                return 17, []
+            self.set_top(a)
+            if action[0] == "shift":
+                self.shift(a)
+            else:
+                self.reduce(action[1], len(self.stack) - 1 - length)
 
+    def next_kind(self):
+        """The next token's terminal, after the last one t0."""
+        return self.tokens[self.at][0] if self.at < len(self.tokens) else 0
 
-def reduced(book, rule, own, parts):
-    """The synthesized values of a rule's left side."""
+    def set_top(self, a):
+        """Set the top cell's inherited values by the partial state's formulas."""
+        known = {}
 
-    def leaf(kind, *rest):
-        return own.get(rest[0], 0) if kind == "own" else parts[rest[0] - 1][rest[1] if kind == "at" else "value"]
+        def value(number):
+            if number not in known:
+                match self.formulas.nodes[number]:
+                    case ("number", constant):
+                        known[number] = constant
+                    case ("inherited", offset, which):
+                        known[number] = self.inherited[offset - 1].get(which, 0)
+                    case ("synthesized", offset, which):
+                        known[number] = self.synthesized[offset - 1].get(which, 0)
+                    case (word, *operands):
+                        known[number] = operate(word, [value(operand) for operand in operands])
+            return known[number]
 
-    return {which: meaning_of(book.syndefs[rule, which], leaf) for which in synthesized_of(book, book.rules[rule][0])}
+        wanted = self.formulas.table[self.stack[-1], a]
+        self.inherited[-1] = {which: value(number) for which, number in wanted.items()}
 
+    def push(self, symbol, made, start):
+        """A symbol with its synthesized values, and the state that go gives."""
+        self.stack.append(self.book.goes[self.stack[-1], symbol])
+        self.inherited.append({})
+        self.synthesized.append(made)
+        self.starts.append(start)
 
-def run(book, states, formulas, tokens):
-    """The evaluator's answer: a refusal number and no rows, or 0 and the rows."""
-    stack, inherited, synthesized, starts, rows = [0], [{}], [None], [None], []
-    at = 0
-    while True:
-        a = tokens[at][0] if at < len(tokens) else 0
-        depth = len(stack) - 1
-        action = next(iter(states.actions(stack[-1], a)), None)
-        if action is None:
-            return 15, []
-        if action[0] == "accept":
-            return 0, rows
-        if len(rows) == 512:
-            return 16, []
-        length = 0 if action[0] == "shift" else len(book.rules[action[1]][1])
-        if length == 0 and depth == 128:
-            return 17, []
-        inherited[depth] = formula_values(formulas, formulas.table[stack[-1], a], depth, inherited, synthesized)
-        if action[0] == "shift":
-            symbol, made, start = ("t", a), {"value": tokens[at][1]}, at
-            rows.append(row_of(64 + a, at, [], [tokens[at][1]]))
-            at += 1
-        else:
-            rule, below = action[1], depth - length
-            left = book.rules[rule][0]
-            own = inherited[below]
-            made = reduced(book, rule, own, synthesized[below + 1 :])
-            symbol, start = ("n", left), at if length == 0 else starts[below + 1]
-            rows.append(row_of(rule, start, [own.get(k, 0) for k in inherited_of(book, left)], [made[k] for k in synthesized_of(book, left)]))
-            del stack[below + 1 :], inherited[below + 1 :], synthesized[below + 1 :], starts[below + 1 :]
-        stack.append(book.goes[stack[-1], symbol])
-        inherited.append({})
-        synthesized.append(made)
-        starts.append(start)
+    def shift(self, a):
+        """Take the next token."""
+        value = self.tokens[self.at][1]
+        self.rows.append(row_of(64 + a, self.at, [], [value]))
+        self.push(("t", a), {"value": value}, self.at)
+        self.at += 1
+
+    def reduce(self, rule, below):
+        """Put a rule's left side in the place of its right symbols, which stand above the cell with that number."""
+        left = self.book.rules[rule][0]
+        own, parts = self.inherited[below], self.synthesized[below + 1 :]
+        start = self.starts[below + 1] if parts else self.at
+
+        def leaf(word, *rest):
+            if word == "own":
+                return own.get(rest[0], 0)
+            return parts[rest[0] - 1].get(rest[1] if word == "at" else "value", 0)
+
+        made = {which: meaning_of(self.book.syndefs[rule, which], leaf) for which in synthesized_of(self.book, left)}
+        inherited = [own.get(which, 0) for which in inherited_of(self.book, left)]
+        self.rows.append(row_of(rule, start, inherited, list(made.values())))
+        for pile in (self.stack, self.inherited, self.synthesized, self.starts):
+            del pile[below + 1 :]
+        self.push(("n", left), made, start)

@@ -1,12 +1,8 @@
 """The cases that document 01 names, with its answers written by hand: S, K, the table's rows, the edges, two cases of document 003."""
 
-import sys
-from pathlib import Path
-
-sys.path.insert(0, str(Path(__file__).resolve().parent.parent / "tools"))
-import grammar as grammars  # noqa: E402
-import lr  # noqa: E402
-import states  # noqa: E402
+import grammar as grammars
+import lr
+import states
 
 S = """(book 2 2 6)
 (inh i0 n2)
@@ -163,3 +159,11 @@ def cases():
 def agrees(output, expected):
     """Whether an output is the expected one, or ends as it says."""
     return output.endswith(expected[3:]) if expected.startswith("...") else output == expected
+
+
+def fill(rng, group):
+    """The named cases; what the oracle says must be what 01 says."""
+    group.base(S.encode())
+    for name, given, expected in cases():
+        group.add(given.encode())
+        assert agrees(group.output.decode(), expected), name

@@ -1,0 +1,1 @@
+// The values of definitions over the machine's two stacks, and the cell that a move sets.

@@ -1,2 +1,4 @@
 pub mod Frames
 pub mod FramesLaws
+pub mod Leaves
+pub mod LeavesLaws

@@ -1,1 +1,2 @@
 // The values of definitions over the machine's two stacks, and the cell that a move sets.
+pub mod leaves;

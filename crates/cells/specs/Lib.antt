@@ -1,3 +1,5 @@
+pub mod DefinitionsAsked
+pub mod FrameValues
 pub mod Frames
 pub mod FramesLaws
 pub mod Leaves

@@ -1,3 +1,5 @@
+pub mod Cells
+pub mod CellsLaws
 pub mod DefinitionsAsked
 pub mod FrameValues
 pub mod Frames

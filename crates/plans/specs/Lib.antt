@@ -1,0 +1,4 @@
+pub mod Following
+pub mod PlanCell
+pub mod Planning
+pub mod PlanningLaws

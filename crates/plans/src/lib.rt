@@ -1,0 +1,1 @@
+// The plan of a partial state: which definitions set the top cell, and in what order.

@@ -23,6 +23,9 @@ knownIn (planning lines known) = doneIn known
 unfoldable pub linesOf : Planning → List ℕ
 linesOf (planning lines known) = lines
 
+unfoldable pub knownOf : Planning → List Bool
+knownOf (planning lines known) = known
+
 abbrev pub unplanned : Planning
 unplanned = planning [] (replicate MAX-INHERITED false)
 
@@ -54,5 +57,5 @@ module _ (b : Book) where
 
 -- opens every definition of this module
 unfoldable pub opens : Unit {0}
-unfolding knownIn linesOf applied planLine planned plan
+unfolding knownIn linesOf knownOf applied planLine planned plan
 opens = tt

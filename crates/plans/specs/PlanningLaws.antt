@@ -66,6 +66,12 @@ module _ (b : Book) (member : ℕ → ℕ → Bool) where
   planLine-by Q d lines known nothing sets =
       by-test (getD known (lineAt b d .attribute) true) _ _ Q (λ e. nothing) (λ e. by-test (dueIn b member known (lineAt b d)) _ _ Q (sets e) (λ h. nothing))
 
+  pub planLine-sets : (d : ℕ) (lines : List ℕ) (known : List Bool) → getD known (lineAt b d .attribute) true ≡ false
+      → dueIn b member known (lineAt b d) ≡ true
+      → planLine b member d (planning lines known) ≡ planning (lines ++ d ∷ []) (set known (lineAt b d .attribute) true)
+  unfolding planLine
+  planLine-sets d lines known e h = rw (planLine, e, h)
+
   pub planned-more : (d : ℕ) → d < definitions b → {lines : List ℕ} {known : List Bool} → Planned lines known
       → getD known (lineAt b d .attribute) true ≡ false → dueIn b member known (lineAt b d) ≡ true
       → Planned (lines ++ d ∷ []) (set known (lineAt b d .attribute) true)

@@ -4,17 +4,19 @@ use native.Mathlib.Numerals.{add-one}
 use native.Mathlib.Omega.{arith}
 use mathlib.Core.Path.{_≡_, refl, sym, ap, _∙_}
 use mathlib.Core.Logic.{inl, inr}
-use mathlib.Core.Bool.{Bool}
+use mathlib.Core.Bool.{Bool, true, false}
 use mathlib.Core.List.{List}
-use lib.ListN.{length}
+use lib.ListN.{length, getD-replicate}
+use Rattle.sets.specs.Sets.{empty}
+use Rattle.sets.specs.SetsLaws.{bit-empty}
 use Rattle.grammar.specs.Limits.{MAX-INHERITED}
 use Rattle.grammar.specs.Data.Book.{Book}
 use Rattle.grammar.specs.Formulas.Passes.{visits, passes, Larger, Keeps, visits-keep, passes-turn, passes-end}
-use Rattle.grammar.specs.Formulas.FormulaCheck.{doneIn, definitions}
+use Rattle.grammar.specs.Formulas.FormulaCheck.{definitions}
 use Rattle.grammar.specs.Formulas.FormulaCheckSteps.{done-length}
-use Rattle.plans.specs.Planning.{Planning, planning, knownIn, linesOf, knownOf, planLine}
-use Rattle.plans.specs.PlanningLaws.{Planned, Right, planning-growing}
-use Rattle.plans.specs.PlanRows.{PlanningIn}
+use Rattle.plans.specs.Planning.{Planning, planning, knownIn, linesOf, knownOf, unplanned, planLine, planned, plan}
+use Rattle.plans.specs.PlanningLaws.{Right, planning-growing, unplanned-right}
+use Rattle.plans.specs.PlanRows.{PlanRow, PlanningIn}
 
 module _ (b : Book) (member : ℕ → ℕ → Bool) where
   pub pass-start : (s : Planning) {row : List ℕ} {from known count : ℕ} → PlanningIn b member s row from known count
@@ -99,3 +101,19 @@ module _ (b : Book) (member : ℕ → ℕ → Bool) where
           by : {t : Planning} → Larger knownIn (P .now-at) t → knownIn t ≡ knownIn (P .now-at) → t ≡ P .now-at
           by (inl e) q = e
           by (inr l) q = absurd (omega arith)
+
+  -- The whole plan
+
+  -- where it begins
+  pub begun : {row : List ℕ} {from : ℕ} → from + MAX-INHERITED ≤ length row → PlanningIn b member unplanned row from 0 0
+  unfolding linesOf knownOf empty
+  begun room = record {
+    planned = unplanned-right b member;
+    room = room;
+    known-is = λ K h. bit-empty K ∙ sym (getD-replicate {A = Bool} 16 K false true h);
+    row-is = record { count-is = refl; line-is = λ i h. absurd (omega arith) };
+  }
+
+  pub ended : {row : List ℕ} {from known count : ℕ} → PlanningIn b member (end unplanned) row from known count → PlanRow (plan b member) row from count
+  unfolding plan planned
+  ended R = R .row-is

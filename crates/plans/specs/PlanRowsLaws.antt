@@ -112,8 +112,15 @@ module _ {b : Book} {definitions rules owned masks : List ℕ} (H : CheckHeld b 
       → bit known (getD definitions (49 * d + 2) 0) ≡ false → count < MAX-INHERITED
   count-low s R e =
       let more = done-more (knownOf s) (lineAt b d .attribute) (sym (known-word s R) ∙ e) in
-      omega (arith, more, done-length (set (knownOf s) (lineAt b d .attribute) true), length-set (knownOf s) (lineAt b d .attribute) true,
-      R .planned .known-long, R .planned .count-is, R .row-is .count-is)
+      omega (
+        arith,
+        more,
+        done-length (set (knownOf s) (lineAt b d .attribute) true),
+        length-set (knownOf s) (lineAt b d .attribute) true,
+        R .planned .known-long,
+        R .planned .count-is,
+        R .row-is .count-is,
+      )
 
   -- any other is planned
   pub visit-sets : (s : Planning) {row : List ℕ} {from known count : ℕ} → PlanningIn b member s row from known count

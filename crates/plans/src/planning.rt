@@ -104,7 +104,17 @@ fn passes(
 {
     loop {
         let before = p.count;
-        p = pass(definitions, lines, terminal, masks, rules, owned, row, from, p);
+        p = pass(
+            definitions,
+            lines,
+            terminal,
+            masks,
+            rules,
+            owned,
+            row,
+            from,
+            p,
+        );
         if p.count == before {
             return p;
         }
@@ -129,5 +139,15 @@ pub fn plan(
         × Elsewhere from (now (row .entry)) (now (row .exit)) ⌝ }
 {
     let p = Progress { known: 0, count: 0 };
-    passes(definitions, lines, terminal, masks, rules, owned, row, from, p).count
+    passes(
+        definitions,
+        lines,
+        terminal,
+        masks,
+        rules,
+        owned,
+        row,
+        from,
+        p,
+    ).count
 }

@@ -1,3 +1,4 @@
+pub mod CellFrames
 pub mod Cells
 pub mod CellsLaws
 pub mod DefinitionsAsked

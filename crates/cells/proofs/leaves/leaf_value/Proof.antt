@@ -33,7 +33,7 @@ enum-told : tie.Need-enum-told
 enum-told c = search needs
 
 sub-word : tie.Need-sub-word
-sub-word c = cell c .0
+sub-word c = omega (arith, cell c .0)
 
 word-requires : tie.Need-word-requires
 word-requires c κs = let q = c .before .before .before .before .before .before .before in (q .pre .0, omega (arith, q .pre .1), cell c .1)

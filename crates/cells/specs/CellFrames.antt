@@ -7,15 +7,13 @@ use native.Mathlib.Omega.{arith}
 use lib.ListN.{length, getD, set, take, drop, replicate, length-set, length-take, length-drop, List·getD-eq-default}
 use lib.Seq.{getD-take, getD-drop, drop-set-add, take-set-lt, ext-getD}
 use Rattle.grammar.specs.Limits.{MAX-INHERITED}
-use Rattle.grammar.specs.Data.Term.{eval}
 use Rattle.grammar.specs.Data.Book.{Book}
 use Rattle.grammar.specs.Evaluator.Machine.{Frame}
-use Rattle.grammar.specs.Formulas.FormulaCheck.{dotOf, lineAt}
+use Rattle.grammar.specs.Formulas.FormulaCheck.{lineAt}
 use Rattle.grammar.specs.Formulas.Plan.{valueAt, valueOf}
 use Rattle.plans.specs.Planning.{applied}
 use Rattle.cells.specs.Frames.{cellValue, FramesIn}
 use Rattle.cells.specs.FramesLaws.{Agree, agree-same, agree-set, agree-then, cell-word, cell-past, frames-kept}
-use Rattle.cells.specs.Values.{placeIn}
 use Rattle.cells.specs.FrameValues.{inherited-value}
 use Rattle.cells.specs.Cells.{cleared, LineAsked, lineSet, linesSet}
 use Rattle.cells.specs.CellsLaws.{cleared-long, cleared-at, cleared-before}
@@ -48,7 +46,8 @@ words-cleared n inherited h = ext-getD 0 (cellWords n (cleared (16 * n) 16 inher
     zeros (suc m) zero = refl
     zeros (suc m) (suc K) = zeros m K
 
-    same : (K : ℕ) → K < length (cellWords n (cleared (16 * n) 16 inherited)) → getD (cellWords n (cleared (16 * n) 16 inherited)) K 0 ≡ getD (replicate 16 0) K 0
+    same : (K : ℕ) → K < length (cellWords n (cleared (16 * n) 16 inherited))
+        → getD (cellWords n (cleared (16 * n) 16 inherited)) K 0 ≡ getD (replicate 16 0) K 0
     same K l =
         let low : K < 16 = omega (arith, words-long n (cleared (16 * n) 16 inherited) long) in
         getD-take 16 (drop (16 * n) (cleared (16 * n) 16 inherited)) K 0 low ∙ getD-drop (16 * n) (cleared (16 * n) 16 inherited) K 0
@@ -96,7 +95,8 @@ module _ (b : Book) {states synthesized starts : List ℕ} {st : List Frame} (de
   lines-set [] inherited F h asked = record { long = refl; below = agree-same; words = refl }
   lines-set (d ∷ ds) inherited F h asked =
       let next : List ℕ = lineSet b synthesized (length st) d inherited in
-      let kept : FramesIn states next synthesized starts st = frames-kept agree-same (line-below b synthesized (length st) inherited d) agree-same agree-same F in
+      let kept : FramesIn states next synthesized starts st =
+      frames-kept agree-same (line-below b synthesized (length st) inherited d) agree-same agree-same F in
       let S = lines-set ds next kept (omega (arith, line-long b synthesized (length st) inherited d)) (λ i l. asked (suc i) (omega arith)) in
       record {
         long = S .long ∙ line-long b synthesized (length st) inherited d;

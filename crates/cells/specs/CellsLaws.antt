@@ -1,14 +1,14 @@
 -- Laws of the cell that is set: the words that are cleared, and a loop over the lines of a plan. Assumes nothing.
-use Prim.Native.Nat.{ℕ, zero, suc, _+_, _*_, _-_, _≤_, _<_, zero-le}
-use mathlib.Core.Path.{_≡_, refl, sym, ap, _∙_}
-use mathlib.Core.List.{List, [], _∷_}
+use Prim.Native.Nat.{ℕ, zero, suc, _+_, _-_, _≤_, _<_, zero-le}
+use mathlib.Core.Path.{_≡_, refl, _∙_}
+use mathlib.Core.List.{List}
 use native.Mathlib.Decide.{ℕ-discrete}
 use native.Mathlib.Numerals.{add-one}
 use native.Mathlib.Omega.{arith}
 use lib.ListN.{length, getD, set, drop, length-set, drop-of-length-le}
 use lib.Seq.{getD-set-same, getD-set-other, drop-cons}
 use Rattle.grammar.specs.Data.Book.{Book}
-use Rattle.cells.specs.Cells.{cleared, PlanAsked, LineAsked, lineSet, linesSet}
+use Rattle.cells.specs.Cells.{cleared, lineSet, linesSet}
 
 pub cleared-more : (from count : ℕ) (words : List ℕ) → cleared from (count + 1) words ≡ set (cleared from count words) (from + count) 0
 unfolding cleared

@@ -1,7 +1,7 @@
 -- The cells of a book that is taken: a plan's lines may be asked for where the stack is as deep as their dots, and the cell that they set is the
 -- machine's. Assumes nothing.
 use Prim.Native.Nat.{ℕ, _≤_, _<_}
-use mathlib.Core.Path.{_≡_, refl, _∙_}
+use mathlib.Core.Path.{_≡_, _∙_}
 use mathlib.Core.Bool.{Bool}
 use mathlib.Core.List.{List, List·Memᴰ as Mem}
 use native.Mathlib.Omega.{arith}

@@ -21,7 +21,8 @@ same-length c = search needs
 returns : tie.Need-returns
 returns c = λ b lines A.
     let s = c .before .before .before .before .before .before .before .before .before .before .before .before in
-    c .before .before .set-lines .ensures b lines A ∙ ap (linesSet b (s .args .synthesized .now) (s .args .height) lines) (c .before .before .before .before .before .before .clear .ensures)
+    c .before .before .set-lines .ensures b lines A
+    ∙ ap (linesSet b (s .args .synthesized .now) (s .args .height) lines) (c .before .before .before .before .before .before .clear .ensures)
 
 pub set-cell-spec : {M : Type 1} → statement M
 set-cell-spec =

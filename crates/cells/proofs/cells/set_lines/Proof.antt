@@ -1,6 +1,6 @@
 -- `cells::set_lines` meets its contract: the loop keeps `SettingLines`, for every book and plan that the arrays hold.
 -- Assumes nothing.
-use Prim.Native.Nat.{ℕ, _+_, _-_, _<_, _≤_}
+use Prim.Native.Nat.{ℕ, _+_, _-_}
 use mathlib.Core.Path.{_≡_, sym, ap, _∙_}
 use mathlib.Core.List.{List}
 use native.Mathlib.Omega.{arith}
@@ -13,7 +13,8 @@ use Rattle.cells.proofs.cells.set_lines.Statement.{statement}
 use Rattle.cells.proofs.cells.set_lines.Tie as tie
 
 abbrev Inv-loop : tie.InvT-loop
-Inv-loop definitions plan from count height inherited₀ synthesized i₀ inherited i = ((b : Book) (lines : List ℕ) → PlanAsked b definitions plan from count height lines → SettingLines b synthesized height lines inherited₀ inherited i)
+Inv-loop definitions plan from count height inherited₀ synthesized i₀ inherited i =
+    ((b : Book) (lines : List ℕ) → PlanAsked b definitions plan from count height lines → SettingLines b synthesized height lines inherited₀ inherited i)
     × (length inherited ≡ 2064)
 
 abbrev μ-loop : tie.MeasureT-loop
@@ -49,8 +50,11 @@ cast-line : tie.Need-cast-line Inv-loop μ-loop
 cast-line c = let s = entry (c .before .before) in omega (arith, c .shared-slice-known4 .given (s .args .from + c .before .before .loop .i) .fits)
 
 set-attribute-requires : tie.Need-set-attribute-requires Inv-loop μ-loop
-set-attribute-requires c κs = let s = entry (c .before .before .before) in
-    (record { cells-long = c .before .before .before .loop .inv .1; records-long = s .pre .0 .0 .records-long }, s .pre .0 .1, (s .pre .1 .0, line-asked (c .before .before) (s .pre .1 .2)))
+set-attribute-requires c κs = let s = entry (c .before .before .before) in (
+  record { cells-long = c .before .before .before .loop .inv .1; records-long = s .pre .0 .0 .records-long },
+  s .pre .0 .1,
+  (s .pre .1 .0, line-asked (c .before .before) (s .pre .1 .2)),
+)
 
 add-i : tie.Need-add-i Inv-loop μ-loop
 add-i c = search needs
@@ -64,7 +68,8 @@ loop-again c = (
       let before = c .before .before .before .before .before .before in
       setting-turn (before .loop .inv .0 b lines A) (omega (arith, c .before .before .before .before .before .loop-test .taken, A .row-is .count-is))
       (c .before .before .set-attribute .ensures b (line-asked (c .before .before .before .before .before) A)
-      ∙ ap (λ d. lineSet b (entry before .args .synthesized .now) (entry before .args .height) d (before .loop .inherited)) (line-is (c .before .before .before .before .before) A)),
+      ∙ ap (λ d. lineSet b (entry before .args .synthesized .now) (entry before .args .height) d (before .loop .inherited))
+      (line-is (c .before .before .before .before .before) A)),
   c .before .inherited .given ∙ c .before .before .before .before .before .before .loop .inv .1,
 )
 

@@ -6,3 +6,5 @@ pub mod PlanRows
 pub mod PlanRowsLaws
 pub mod Planning
 pub mod PlanningLaws
+pub mod Plans
+pub mod PlansLaws

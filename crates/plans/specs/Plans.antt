@@ -9,6 +9,9 @@ use Rattle.grammar.specs.Automaton.FirstSets.{setsOf}
 use Rattle.grammar.specs.Automaton.ReachSets.{reachSets}
 use Rattle.grammar.specs.Formulas.PartialLaws.{partialAt}
 use Rattle.grammar.specs.Formulas.FormulaCheck.{listed}
+use Rattle.grammar.specs.Formulas.Slots.{attributes}
+use Rattle.attributes.specs.Owned.{OwnedIn}
+use Rattle.attributes.specs.OneFormula.{FormulasHeld}
 use Rattle.plans.specs.Planning.{plan}
 use Rattle.plans.specs.PlanRows.{PlanRow}
 
@@ -26,3 +29,12 @@ pub record PlansIn (b : Book) (counts lists : List ℕ) : Type 0 where
   pub counts-long : length counts ≡ 4096
   pub lists-long : length lists ≡ 65536
   pub plan-at : (S a : ℕ) → S < b .states → a < 32 → (getD counts (32 * S + a) 0 ≡ 0 → ⊥) → PlanAt (planOf b S a) counts lists (32 * S + a)
+
+-- what the plans ask of a book and of its arrays
+pub record PlansHeld (b : Book) (rules : List ℕ) (count : ℕ) (definitions : List ℕ) (lines : ℕ) (owned kernels starts closures nulls reaches : List ℕ) : Type 0
+  where
+    pub firsts : List ℕ
+    pub terminals : ℕ
+    pub states : ℕ
+    pub formulas-held : FormulasHeld b rules count definitions lines kernels starts closures nulls firsts reaches terminals states
+    pub owned-in : OwnedIn (b .inheritedOwners) (attributes b) owned

@@ -13,7 +13,6 @@ use Rattle.grammar.specs.Formulas.Slots.{attributes}
 use Rattle.attributes.specs.Owned.{OwnedIn}
 use Rattle.attributes.specs.OneFormula.{FormulasHeld}
 use Rattle.plans.specs.Planning.{plan}
-use Rattle.plans.specs.PlanRows.{PlanRow}
 
 -- the plan of the partial state (S, a)
 abbrev pub planOf : Book → ℕ → ℕ → List ℕ

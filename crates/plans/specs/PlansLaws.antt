@@ -3,7 +3,7 @@ use Prim.Native.Nat.{ℕ, suc, _+_, _*_, _<_, _≤_}
 use native.Mathlib.Numerals.{add-one}
 use native.Mathlib.Omega.{arith}
 use native.Mathlib.Decide.{ℕ-discrete, decLt}
-use mathlib.Core.Path.{_≡_, refl, sym, ap, _∙_}
+use mathlib.Core.Path.{_≡_, sym, ap, _∙_}
 use mathlib.Core.Bool.{Bool}
 use mathlib.Core.List.{List}
 use lib.ListN.{length, getD, set, replicate, length-set, length-replicate, getD-replicate}
@@ -82,9 +82,12 @@ module _ {b : Book} {counts lists new : List ℕ} (M : PlansIn b counts lists) (
       → PlanAt (planOf b S′ a′) (set counts place (n + 1)) new (32 * S′ + a′)
   more-there S′ a′ s′ low′ other P = record {
     count-is = getD-set-other counts place (32 * S′ + a′) (n + 1) 0 other ∙ P .count-is;
-    line-is = λ i h. by i (omega (arith, h, plan-short b (listed (partialAt b (setsOf (b .rules)) (reachSets (b .rules) (setsOf (b .rules))) S′ a′)))) (decLt (32 * S′ + a′) place) ∙ P .line-is i h;
+    line-is = λ i h. by i (omega (arith, h, few-lines)) (decLt (32 * S′ + a′) place) ∙ P .line-is i h;
   }
     where
+      few-lines : length (planOf b S′ a′) ≤ MAX-INHERITED
+      few-lines = plan-short b _
+
       by : (i : ℕ) → i < 16 → Dec (32 * S′ + a′ < place) → getD new (16 * (32 * S′ + a′) + i) 0 ≡ getD lists (16 * (32 * S′ + a′) + i) 0
       by i h (yes l) = E .before _ (omega arith)
       by i h (no m) = E .behind _ (omega (arith, other))

@@ -1,7 +1,6 @@
 -- `memory::planned` meets its contract: a plan that is known is told, any other is worked out from the sets of its state's items.
 -- Assumes nothing.
 use Prim.Native.Nat.{_≤_, _<_, _+_, _*_}
-use mathlib.Core.Path.{_≡_}
 use native.Mathlib.Omega.{arith}
 use borrow.Author.Needs.{needs}
 use Rattle.grammar.specs.Limits.{MAX-INHERITED}
@@ -63,7 +62,7 @@ plan-requires c κs =
     let (b, H, l, M) = s .pre .0 in
     let F = H .formulas-held in
     let marks = m .masks .ensures b (H .firsts) (F .marks-held) (F .rules-counted) l in
-    ((b, plans-check H (marks .long), F .definitions-counted), s .pre .1, omega (arith, place (asked m), M .lists-long))
+    ((b, plans-check H (marks .long), F .definitions-counted), omega (arith, s .pre .1), omega (arith, place (asked m), M .lists-long))
 
 cast-counts : tie.Need-cast-counts
 cast-counts c = omega (arith, few (c .before .before))

@@ -87,7 +87,7 @@ class Fuzz:
         grammar, text, at_limits = self.book()
         text = text.encode()
         many = list(some_lists(rng, grammar, 6, (1, 5, 10, 30, 100)))
-        many += [[(kind, place) for place, kind in enumerate(kinds)] for kinds in edges(rng, grammar).values()] if at_limits else []
+        many += [[(kind, place) for place, kind in enumerate(kinds)] for kinds in edges(rng, grammar, 60).values()] if at_limits else []
         for tokens in many:
             self.desk(text + lists.spelled(tokens).encode())
         for _ in range(12):

@@ -1,7 +1,5 @@
 """Lists and books at the limits, and one past them."""
 
-from collections import Counter
-
 import lr
 import states
 from generate import full, lists, shapes
@@ -10,8 +8,6 @@ from generate.grammars import grown, keyed
 from oracle.answer import compiled
 
 from .messages import some_lists
-
-EDGES = {"rows": 5, "rows past": 8, "symbols": 5, "symbols past": 8}
 
 
 def book_of(grammar):
@@ -30,6 +26,7 @@ def simple_lists(group):
         (shapes.left_list(), [254, 255, 256]),
         (shapes.longer_left_list(), [253, 254, 255]),
         (shapes.right_list(), [126, 127, 128, 255, 256]),
+        (shapes.right_list_of_tokens(), [127, 128, 129]),
         (shapes.empty_and_huge(3), [0, 1]),
         (shapes.empty_and_huge(12), [0, 1]),
     ):
@@ -41,11 +38,11 @@ def simple_lists(group):
     group.add_all(text + list_of(1, count, *more) for count in (1, 17, 18, 19, 60, 100) for more in ((2,), ()))
 
 
-def edges(rng, grammar):
+def edges(rng, grammar, tries):
     """Derivations whose trees lie just at or just past a limit, one of each kind."""
     source, found = lists.Derivations(grammar), {}
-    for _ in range(80 if source.exists() and source.growing else 0):
-        derived = source.random(rng, rng.randint(60, 520))
+    for _ in range(tries):
+        derived = source.random(rng, rng.choice((rng.randint(60, 500), rng.randint(500, 514))))
         if derived and len(derived[0]) <= 255:
             kinds, size, need = derived
             if 511 <= size <= 514 and need <= 128:
@@ -57,14 +54,12 @@ def edges(rng, grammar):
 
 def edge_lists(rng, group):
     """Such lists for shapes that grow in rows or in symbols, with random definitions."""
-    left = Counter(EDGES)
-    while +left:
-        grammar, _, text = random_book(rng, rng.choice(shapes.GROWING)(), rng.randint(1, 2), True)
-        for sort, kinds in edges(rng, grammar).items():
-            if left[sort] and compiled(text.encode())[0] == 0:
-                left[sort] -= 1
-                group.base(text.encode())
-                group.add(text.encode() + lists.spelled([(kind, place) for place, kind in enumerate(kinds)]).encode())
+    for shape in shapes.GROWING:
+        grammar, _, text = random_book(rng, shape(), rng.randint(1, 2), True)
+        group.base(text.encode())
+        for kinds in list(edges(rng, grammar, 300).values()) + list(edges(rng, grammar, 300).values()):
+            tokens = [(kind, place) for place, kind in enumerate(kinds)]
+            group.add(text.encode() + lists.spelled(tokens).encode())
 
 
 def pair(group, text, past):

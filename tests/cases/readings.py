@@ -2,7 +2,13 @@
 
 from .named import S, S_TOKENS, tokens
 
-DEEP = "(add " * 900 + "1" + " 1)" * 900
+
+def sums(times, inside):
+    """An expression with two nodes more for each time."""
+    return "(add " * times + inside + " 1)" * times
+
+
+DEEP = sums(900, "1")
 
 # (old, new, number): the first place of old in S is replaced. Number 0: the message is accepted.
 CHANGES = [
@@ -21,6 +27,18 @@ CHANGES = [
     ("(book 2 2 6)\n", "(book 2 2 4294967296)\n", 2),
     ("(book 2 2 6)\n", "(book 2 2 00000000006)\n", 2),
     ("(book 2 2 6)\n", "(Book 2 2 6)\n", 2),
+    ("(book 2 2 6)\n", "(book (2) 2 6)\n", 2),
+    ("(book 2 2 6)\n", "((book) 2 2 6)\n", 2),
+    ("(book 2 2 6)\n", "(book 2 2 6)(book 2 2 6)\n", 2),
+    ("(book 2 2 6)\n", "()\n(book 2 2 6)\n", 2),
+    ("(inh i0 n2)\n", "(inh (i0) n2)\n", 2),
+    ("(inh i0 n2)\n", "(inh i0 (n2))\n", 2),
+    ("(rule 1 n1 t1 n2)", "(rule 1 n1 (t1) n2)", 2),
+    ("(inhdef 1 2 i0 (val 1))\n", "(inhdef 1 2 i0 (val (val 1)))\n", 2),
+    ("(inhdef 1 2 i0 (val 1))\n", "(inhdef 1 2 i0 (at 1 (own i0)))\n", 2),
+    ("(inhdef 1 2 i0 (val 1))\n", "(inhdef 1 2 i0 ((val 1)))\n", 2),
+    ("(kernel 0 0 0 t0)", "(kernel 0 0 0 (t0))", 2),
+    ("(go 0 t1 1)", "(go 0 (t1) 1)", 2),
     ("(book 2 2 6)\n", "(book 2 2 4294967295)\n", 3),
     ("(book 2 2 6)\n", "(book 0 2 6)\n", 3),
     ("(book 2 2 6)\n", "(book 2 0 6)\n", 3),
@@ -32,6 +50,7 @@ CHANGES = [
     ("(book 2 2 6)\n", "(book 2 2 128)\n", 7),
     ("(book 2 2 6)\n", "(book 2 2 7)\n", 7),
     ("(book 2 2 6)\n", "(book 2 2 5)\n", 4),
+    ("(book 2 2 6)\n", "(book 2 2 1)\n", 4),
     ("(book 2 2 6)\n", "(book 1 2 6)\n", 4),
     ("(book 2 2 6)\n", "(book 2 1 6)\n", 4),
     ("(inh i0 n2)\n", "(inh s0 n2)\n", 2),
@@ -68,6 +87,7 @@ CHANGES = [
     ("(rule 0 n0 n1)", "(rule 0 n0 t1)", 4),
     ("(rule 0 n0 n1)", "(rule 0 n0 n0)", 4),
     (S[S.index("(rule 0") : S.index("(inhdef 1")], "", 3),
+    (S[S.index("(rule 1") : S.index("(inhdef 1")], "", 4),
     (S[S.index("(kernel 0") : S.index("(go 0")], "", 7),
     (S[S.index("(go 0") : S.index("(end)")], "", 8),
     (S[S.index("(inhdef 1") : S.index("(kernel 0")], "", 6),
@@ -94,6 +114,9 @@ CHANGES = [
     ("(inhdef 1 2 i0 (val 1))\n", "(inhdef 1 2 i0 (ratio 1 2))\n", 2),
     ("(inhdef 1 2 i0 (val 1))\n", f"(inhdef 1 2 i0 {DEEP[:-1]})\n", 2),
     ("(inhdef 1 2 i0 (val 1))\n", f"(inhdef 1 2 i0 {DEEP})\n", 3),
+    ("(inhdef 1 2 i0 (val 1))\n", f"(inhdef 1 2 i0 {sums(7, '1')})\n", 0),
+    ("(inhdef 1 2 i0 (val 1))\n", f"(inhdef 1 2 i0 {sums(6, '(pick 1 2 3)')})\n", 3),
+    ("(inhdef 1 2 i0 (val 1))\n", f"(inhdef 1 2 i0 {sums(5, '(pick 1 2 3)')})\n", 0),
     ("(inhdef 1 2 i0 (val 1))\n", "(inhdef 1 2 i0 (pick 0 1 (val 1)))\n", 0),
     ("(inhdef 1 2 i0 (val 1))\n", "(inhdef 1 2 i0 (pick (val 1) (val 1) 2))\n", 0),
     ("(inhdef 1 2 i0 (val 1))\n", "(inhdef 0 1 i0 5)\n(inhdef 1 2 i0 (val 1))\n", 5),
@@ -151,6 +174,8 @@ CHANGES = [
     ("(go 3 n2 5)\n", "(go 3 n2 5)\n" + "".join(f"(go 3 n{k} 0)\n" for k in range(3, 1022)), 3),
     ("(end)\n", "(end)", 2),
     ("(end)\n", "(end)\n(end)\n", 2),
+    ("(end)\n", "(end)\n(tok (1) 1)\n", 2),
+    ("(end)\n", "(end)\n(tok 1 1)(tok 1 1)\n", 2),
     ("(end)\n", "(end)\n\n", 2),
     ("(end)\n", "(end)\n(tok 1)\n", 2),
     ("(end)\n", "(end)\n(tok 01 1)\n", 2),
@@ -158,6 +183,20 @@ CHANGES = [
     ("(end)\n", "(tok 1 100)\n(end)\n", 2),
     ("(end)\n", "(end )\n", 2),
     ("(go 3 n2 5)\n(end)\n", "(end)\n(go 3 n2 5)\n", 2),
+]
+# (whole input, number)
+WHOLES = [
+    ("", 2),
+    ("\n", 2),
+    ("(end)\n", 2),
+    ("(book 1 1 1)\n(end)\n", 3),
+    ("(book 1 1 1)\n(rule 0 n0 n1)\n(end)\n", 7),
+    ("(book 1 1 1)\n(rule 0 n0 n1)\n(kernel 0 0 0 t0)\n(end)\n", 8),
+    ("(book 1 1 2)\n(rule 0 n0 n1)\n(kernel 0 0 0 t0)\n(kernel 1 0 1 t0)\n(go 0 n1 1)\n(end)\n", 15),
+    (S[: -len("(end)\n")], 2),
+    (S[:-1], 2),
+    (S.replace("\n", "\r\n"), 2),
+    (S.upper(), 2),
 ]
 # (token lines after S, number)
 LISTS = [
@@ -183,6 +222,7 @@ def cases():
     for old, new, number in CHANGES:
         assert S.count(old) == 1, old
         yield S.replace(old, new) + S_TOKENS, number
+    yield from WHOLES
     for lines, number in LISTS:
         yield S + lines, number
 

@@ -48,32 +48,37 @@ class Derivations:
         return growing if growing and rng.random() < 0.95 else rules
 
     def random(self, rng, nodes):
-        """A derivation that grows while it has fewer nodes than wanted: its kinds, its size and its need, or None if it grows beyond all use."""
-        kinds, stack = [], [(self.start, None)]
-        pending = self.least[self.start]
-        size = 0
-        piles = []  # finished nodes' needs, for nodes in progress
-        while stack:
-            symbol, length = stack.pop()
-            if length is not None:
-                needs = piles[len(piles) - length :]
-                del piles[len(piles) - length :]
-                piles.append(max([1] + [place + need for place, need in enumerate(needs)]))
-                continue
-            size += 1
-            if symbol[0] == "t":
-                kinds.append(int(symbol[1:]))
-                piles.append(1)
-                pending -= 1
-                continue
-            rule = rng.choice(self.choice(rng, symbol, size + pending, nodes))
+        """A derivation that grows while it has fewer nodes than wanted: its kinds, its size and its need, or None if it grows beyond all use.
+
+        The nonterminal to expand next is the first one, the last one or any, so that trees grow to the left, to the right or everywhere."""
+        parts = [[self.start, None]]  # a symbol, and the places of its children
+        waiting, least = [0], self.least[self.start]
+        pick = rng.choice((lambda: 0, lambda: -1, lambda: rng.randrange(len(waiting))))
+        while waiting:
+            part = parts[waiting.pop(pick())]
+            rule = rng.choice(self.choice(rng, part[0], least, nodes))
             right = self.grammar.rules[rule][1]
-            pending += self.cost(rule) - 1 - self.least[symbol]
-            stack.append((symbol, len(right)))
-            stack.extend((part, None) for part in reversed(right))
-            if size > 3000 or len(kinds) > 300:
+            least += self.cost(rule) - self.least[part[0]]
+            part[1] = list(range(len(parts), len(parts) + len(right)))
+            waiting += [len(parts) + place for place, symbol in enumerate(right) if symbol[0] == "n"]
+            parts += [[symbol, []] for symbol in right]
+            if least > 3000:
                 return None
-        return kinds, size, piles[0]
+        return measured(parts)
+
+
+def measured(parts):
+    """The kinds of a derivation's tokens from left to right, its size and its need. Children have higher places than their parent."""
+    needs = {}
+    for place in reversed(range(len(parts))):
+        needs[place] = max([1] + [before + needs[child] for before, child in enumerate(parts[place][1])])
+    kinds, todo = [], [0]
+    while todo:
+        symbol, children = parts[todo.pop()]
+        if symbol[0] == "t":
+            kinds.append(int(symbol[1:]))
+        todo += reversed(children)
+    return kinds, len(parts), needs[0]
 
 
 def with_values(rng, kinds):

@@ -80,6 +80,11 @@ def right_list():
     return of_rules(1, 1, "n0 n1", "n1", "n1 t1 n1")
 
 
+def right_list_of_tokens():
+    """The same without an empty node: k tokens need k."""
+    return of_rules(1, 1, "n0 n1", "n1 t1", "n1 t1 n1")
+
+
 def brackets():
     """t1 and t2 nest or follow each other."""
     return of_rules(3, 2, "n0 n1", "n1", "n1 n1 n2", "n2 t1 n1 t2", "n2 t3")
@@ -111,4 +116,4 @@ def deep_by_empty_nodes():
     return of_rules(2, 2, "n0 n1", "n1 t2", "n1 t1 n2 n2 n2 n2 n2 n2 n1", "n2")
 
 
-GROWING = (left_list, longer_left_list, right_list, brackets, items_in_steps, sums, nested_lists)
+GROWING = (left_list, longer_left_list, right_list, right_list_of_tokens, brackets, items_in_steps, sums, nested_lists)

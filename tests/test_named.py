@@ -5,6 +5,7 @@ import unittest
 from cases import named, readings
 from oracle import calls, trees
 from oracle.answer import compiled, desk
+from oracle.spelling import read_book
 
 
 class Named(unittest.TestCase):
@@ -48,8 +49,7 @@ class Ambiguous(unittest.TestCase):
 
     def count(self, rules, kinds):
         lines = ["(book 2 3 1)"] + [f"(rule {k} {rule})" for k, rule in enumerate(rules)] + ["(end)\n"]
-        book = trees_book("\n".join(lines))
-        return trees.Forest(book, [(kind, 0) for kind in kinds]).count
+        return trees.Forest(read_book("\n".join(lines)), [(kind, 0) for kind in kinds]).count
 
     def test_counts(self):
         twice = ["n0 n1", "n1 n1 n1", "n1 t1"]
@@ -58,13 +58,6 @@ class Ambiguous(unittest.TestCase):
         self.assertEqual(self.count(["n0 n1", "n1 n2 n1", "n1 t1", "n2"], [1]), "many")
         self.assertEqual(self.count(["n0 n1", "n1 t1 n2 n3", "n2", "n2 t2", "n3", "n3 t2"], [1, 2]), "many")
         self.assertEqual(self.count(["n0 n1", "n1 n1", "n1 t1", "n1 n2 t2"], [2]), "none")
-
-
-def trees_book(text):
-    """A book that is only spelled right."""
-    from oracle.spelling import read_book
-
-    return read_book(text)
 
 
 if __name__ == "__main__":

@@ -2,8 +2,6 @@
 
 import re
 
-OPERATORS = ("add", "sub", "min", "max", "pick")
-
 
 class Fault(Exception):
     """Something that these tools cannot read. The engine judges a book's spelling; here it is only a message."""

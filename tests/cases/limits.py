@@ -33,9 +33,10 @@ def simple_lists(group):
         text = book_of(grammar)
         group.base(text)
         group.add_all(text + list_of(1, count) for count in counts)
-    text = book_of(shapes.deep_by_empty_nodes())
-    group.base(text)
-    group.add_all(text + list_of(1, count, *more) for count in (1, 17, 18, 19, 60, 100) for more in ((2,), ()))
+    for grammar, counts in ((shapes.deep_by_empty_nodes(), [1, 17, 18, 19, 60, 100]), (shapes.right_list_with_an_end(), [126, 127, 128])):
+        text = book_of(grammar)
+        group.base(text)
+        group.add_all(text + list_of(1, count, *more) for count in counts for more in ((2,), ()))
 
 
 def edges(rng, grammar, tries):

@@ -85,6 +85,11 @@ def right_list_of_tokens():
     return of_rules(1, 1, "n0 n1", "n1 t1", "n1 t1 n1")
 
 
+def right_list_with_an_end():
+    """The same with t2 at the end, beside the last t1: k tokens need k."""
+    return of_rules(2, 1, "n0 n1", "n1 t1 t2", "n1 t1 n1")
+
+
 def brackets():
     """t1 and t2 nest or follow each other."""
     return of_rules(3, 2, "n0 n1", "n1", "n1 n1 n2", "n2 t1 n1 t2", "n2 t3")

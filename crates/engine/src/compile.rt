@@ -203,7 +203,7 @@ fn check(
     if first != 0 {
         return first;
     }
-    if !formulas_right(
+    if formulas_right(
         book,
         inherited,
         rules,
@@ -214,9 +214,9 @@ fn check(
         vanishes,
         reached,
     ) {
-        return 10;
+        return 0;
     }
-    0
+    10
 }
 
 // The refusal of a text, or 0, and the numbers of its book.

@@ -1,5 +1,4 @@
 -- `compile::check` meets its contract: the formulas are asked of a book that is ready. Assumes nothing.
-use borrow.Author.Tests.{not-true, not-false}
 use Rattle.engine.specs.Compiling.{asked-formulas, attributes-counted, checked-refused, checked-formulas, checked-all}
 use borrow.Author.Needs.{needs}
 use Rattle.engine.proofs.compile.check.Statement.{statement}
@@ -77,7 +76,7 @@ returns-2 c = λ b h.
     let P = prepare-at e .prepare .ensures b h in
     let R = P .ready (e .if1 .left) in
     let f = c .before .formulas-right .ensures b _ (asked-formulas R) (R .arrays-in .inherited-in) (attributes-counted R) in
-    checked-formulas P (e .if1 .left) f (not-true _ (c .if2 .taken))
+    checked-all P (e .if1 .left) f (c .if2 .taken)
 
 same-length-15 : tie.Need-same-length-15
 same-length-15 c = search needs
@@ -106,7 +105,7 @@ returns-3 c = λ b h.
     let P = prepare-at e .prepare .ensures b h in
     let R = P .ready (e .if1 .left) in
     let f = c .before .formulas-right .ensures b _ (asked-formulas R) (R .arrays-in .inherited-in) (attributes-counted R) in
-    checked-all P (e .if1 .left) f (not-false _ (c .if2 .left))
+    checked-formulas P (e .if1 .left) f (c .if2 .left)
 
 pub check-spec : {M : Type 1} → statement M
 check-spec =

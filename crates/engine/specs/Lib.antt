@@ -9,3 +9,5 @@ pub mod Prepared
 pub mod Compiling
 pub mod Readings
 pub mod Rooms
+pub mod Stored
+pub mod Tokens

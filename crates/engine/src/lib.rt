@@ -3,6 +3,8 @@ pub mod compile;
 pub mod packing;
 pub mod reading;
 pub mod states;
+pub mod stored;
+pub mod tokens;
 
 ghost use lib.ListN.{length};
 ghost use Rattle.grammar.specs.Engine.{readBook};

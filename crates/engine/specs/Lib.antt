@@ -11,3 +11,4 @@ pub mod Readings
 pub mod Rooms
 pub mod Stored
 pub mod Tokens
+pub mod Evaluations

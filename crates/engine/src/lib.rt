@@ -1,5 +1,6 @@
 // The two public calls: reading and evaluating.
 pub mod compile;
+pub mod evaluating;
 pub mod packing;
 pub mod reading;
 pub mod states;

@@ -12,3 +12,4 @@ pub mod Rooms
 pub mod Stored
 pub mod Tokens
 pub mod Evaluations
+pub mod Promises

@@ -1,0 +1,1 @@
+// The stack evaluator (01, "The stack evaluator") over arrays.

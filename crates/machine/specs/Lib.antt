@@ -1,2 +1,4 @@
+pub mod Action
 pub mod Lists
+pub mod Page
 pub mod Path

@@ -16,6 +16,8 @@ use Rattle.grammar.specs.Data.Book.{ownerAt}
 use Rattle.grammar.specs.Conditions.Decides.{count}
 use Rattle.grammar.specs.Evaluator.Decorated.{Values}
 use Rattle.grammar.specs.Evaluator.Rows.{ownedBelow, owned}
+use Rattle.book.specs.Layout.{writeAt}
+use Rattle.book.specs.LayoutLaws.{Writing, writing-turn, writing-done}
 use Rattle.book.specs.Held.{OwnersIn}
 
 -- the numbers below n of the attributes that A owns
@@ -239,6 +241,18 @@ module _ {lists : List ℕ} {A : ℕ} {source : List ℕ} {from : ℕ} (G : Gath
       getD-map (λ K. getD source (from + K) 0) (listAt lists A) j (omega (arith, list-length))
       ∙ ap (λ K. getD source (from + K) 0) (getD-take (getD lists (5 * A) 0) (drop (5 * A + 1) lists) j 0 l ∙ getD-drop (5 * A + 1) lists j 0)
 
+  -- a word more is written
+  pub gather-turn : {place : ℕ} {old out : List ℕ} {j n number : ℕ} → n ≡ getD lists (5 * A) 0 → j < n → number ≡ getD lists (5 * A + 1 + j) 0
+      → Writing place (gathered lists A source from) old j out
+      → Writing place (gathered lists A source from) old (j + 1) (set out (place + j) (getD source (from + number) 0))
+  gather-turn {place} {old} {out} {j} e l q w =
+      rw (q, ← gathered-word j (omega arith)) (writing-turn place (gathered lists A source from) old w (omega (arith, gathered-length)))
+
+  -- all are
+  pub gather-end : {place : ℕ} {old out : List ℕ} {j n : ℕ} → n ≡ getD lists (5 * A) 0 → n ≤ j
+      → Writing place (gathered lists A source from) old j out → out ≡ writeAt place (gathered lists A source from) old
+  gather-end {place} {old} e l w = writing-done place (gathered lists A source from) old w (omega (arith, gathered-length))
+
 module _ {owners lists : List ℕ} (L : ListsIn owners lists) {A : ℕ} (h : A < 32) where
   pub gathers : {source : List ℕ} {from : ℕ} → from + length owners ≤ length source → Gathers lists A source from
   gathers {source} {from} room = record {
@@ -279,8 +293,13 @@ module _ {room : ℕ} {owners array lists : List ℕ} {n i : ℕ} (O : Listable 
   turn-room =
       let A : ℕ = getD array i 0 in
       let e : ownerAt owners i ≡ A = sym (O .owners-in .owner-is i (omega (arith, O .counted))) in
-      omega (arith, ap (length {A = ℕ}) (numbers-is owners A i e), length-append (numbersBelow owners i A) (i ∷ []),
-      numbers-few owners (i + 1) A (λ K. K) (omega (arith, O .counted)), O .few A)
+      omega (
+        arith,
+        ap (length {A = ℕ}) (numbers-is owners A i e),
+        length-append (numbersBelow owners i A) (i ∷ []),
+        numbers-few owners (i + 1) A (λ K. K) (omega (arith, O .counted)),
+        O .few A,
+      )
 
   -- there is a word for one number more
   pub turn-count : getD lists (5 * getD array i 0) 0 < MAX-OWNED

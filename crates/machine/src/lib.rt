@@ -1,2 +1,5 @@
 // The stack evaluator (01, "The stack evaluator") over arrays.
+pub mod action;
 pub mod lists;
+pub mod rows;
+pub mod top;

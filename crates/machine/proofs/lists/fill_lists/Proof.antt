@@ -5,8 +5,8 @@ use mathlib.Core.Path.{_≡_}
 use mathlib.Core.List.{List, []}
 use native.Mathlib.Omega.{arith}
 use lib.ListN.{length, getD, length-set}
-use Rattle.machine.specs.Lists.{Listable, ListsBelow, lists-none, turn-owner, turn-there, turn-count, turn-listed, lists-done}
 use borrow.Author.Needs.{needs}
+use Rattle.machine.specs.Lists.{Listable, ListsBelow, lists-none, turn-owner, turn-there, turn-count, turn-listed, lists-done}
 use Rattle.machine.proofs.lists.fill_lists.Statement.{statement}
 use Rattle.machine.proofs.lists.fill_lists.Tie as tie
 

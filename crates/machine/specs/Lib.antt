@@ -1,4 +1,5 @@
 pub mod Action
+pub mod Firsts
 pub mod Lists
 pub mod Page
 pub mod Path

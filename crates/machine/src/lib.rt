@@ -1,5 +1,6 @@
 // The stack evaluator (01, "The stack evaluator") over arrays.
 pub mod action;
+pub mod firsts;
 pub mod lists;
 pub mod rows;
 pub mod top;

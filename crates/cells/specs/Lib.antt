@@ -1,3 +1,7 @@
+pub mod Cells
+pub mod CellsLaws
+pub mod DefinitionsAsked
+pub mod FrameValues
 pub mod Frames
 pub mod FramesLaws
 pub mod Leaves

@@ -1,5 +1,6 @@
 pub mod Action
 pub mod Firsts
 pub mod Lists
+pub mod NodeValues
 pub mod Page
 pub mod Path

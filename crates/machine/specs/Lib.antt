@@ -4,3 +4,4 @@ pub mod Lists
 pub mod NodeValues
 pub mod Page
 pub mod Path
+pub mod Records

@@ -93,8 +93,13 @@ module _ {b : Book} {definitions firsts : List ℕ} {P size : ℕ} (A : NodeAske
       let d : SynthesizedDefinition = synthesizedAt (b .synthesizedDefinitions) i in
       let there : i < length (b .synthesizedDefinitions) = omega (arith, next .within) in
       let rule-is : d .rule ≡ P =
-      omega (arith, line-rule i there, ap (ruleWord definitions) e, here .upper line l (omega (arith, next .within)),
-      next .lower line (omega arith) h) in
+      omega (
+        arith,
+        line-rule i there,
+        ap (ruleWord definitions) e,
+        here .upper line l (omega (arith, next .within)),
+        next .lower line (omega arith) h,
+      ) in
       let attribute-is : getD definitions (49 * line + 2) 0 ≡ d .attribute = rw e (A .definitions-in .synthesized-is i there .attribute-is) in
       let member : Mem d (b .synthesizedDefinitions) = at-member (b .synthesizedDefinitions) i _ there in
       let size-is : length (rightOf (b .rules) (d .rule)) ≡ size = rw rule-is (sym (A .size-is)) in
@@ -118,8 +123,10 @@ module _ {b : Book} {definitions firsts : List ℕ} {P size : ℕ} (A : NodeAske
     values-none e = record {
       long = ap (length {A = ℕ}) e ∙ length-replicate {A = ℕ} 33 0;
       no-token = ap (λ (l : List ℕ). getD l 0 0) e;
-      known = λ K l. inr (ap (λ (s : List ℕ). getD s (1 + K) 0) e ∙ getD-replicate {A = ℕ} 33 (1 + K) 0 0 (omega arith),
-          λ i h m (p, q). omega (arith, here .lower (length (b .inheritedDefinitions) + i) (omega arith) m, line-rule i h));
+      known = λ K l. inr (
+        ap (λ (s : List ℕ). getD s (1 + K) 0) e ∙ getD-replicate {A = ℕ} 33 (1 + K) 0 0 (omega arith),
+        λ i h m (p, q). omega (arith, here .lower (length (b .inheritedDefinitions) + i) (omega arith) m, line-rule i h),
+      );
     }
 
     -- the value of a line's definition in its word

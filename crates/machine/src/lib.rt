@@ -2,5 +2,6 @@
 pub mod action;
 pub mod firsts;
 pub mod lists;
+pub mod records;
 pub mod rows;
 pub mod top;

@@ -4,4 +4,5 @@ pub mod Lists
 pub mod NodeValues
 pub mod Page
 pub mod Path
+pub mod Pushes
 pub mod Records

@@ -66,7 +66,7 @@ pub record LineOf (b : Book) (definitions : List ℕ) (P size line : ℕ) : Type
   pub low : line < 128
 
 -- a line's place among the definitions
-member-at : (ds : List SynthesizedDefinition) {d : SynthesizedDefinition} → Mem d ds → (i : ℕ) × (i < length ds) × (synthesizedAt ds i ≡ d)
+pub member-at : (ds : List SynthesizedDefinition) {d : SynthesizedDefinition} → Mem d ds → (i : ℕ) × (i < length ds) × (synthesizedAt ds i ≡ d)
 member-at (d ∷ ds) (in-head e) = (0, omega arith, sym e)
 member-at (d ∷ ds) (in-tail m) = let (i, l, e) = member-at ds m in (suc i, omega arith, e)
 

@@ -29,10 +29,10 @@ module _ (T : Tables) where
   abbrev pub OnPath : Config → Type 0
   OnPath (config st S z p rs) = Path S st
 
-  abbrev PoppedPath : Popped → Type 0
+  abbrev pub PoppedPath : Popped → Type 0
   PoppedPath (popped S i q st cs) = Path S st
 
-  pop-path : (n : ℕ) {S : ℕ} (i : Values) (p : ℕ) {st : List Frame} (cs : List Result) → Path S st → PoppedPath (pop n S i p st cs)
+  pub pop-path : (n : ℕ) {S : ℕ} (i : Values) (p : ℕ) {st : List Frame} (cs : List Result) → Path S st → PoppedPath (pop n S i p st cs)
   unfolding pop
   pop-path zero i p cs q = q
   pop-path (suc n) i p cs bottom = bottom

@@ -1,0 +1,90 @@
+-- A shift in arrays is a shift of the machine. Assumes that the book is taken and that the top cell is set.
+use Prim.Native.Nat.{ℕ, suc, _+_, _*_, _≤_, _<_}
+use mathlib.Core.Path.{_≡_, refl, sym, ap, _∙_}
+use mathlib.Core.Logic.{_≢_}
+use mathlib.Core.Option.{Option, none, some}
+use mathlib.Core.List.{List, [], _∷_, _++_}
+use native.Mathlib.Omega.{arith}
+use lib.ListN.{length, getD, drop, set, replicate, length-append, length-drop}
+use lib.Seq.{getD-set-same, getD-set-other}
+use Rattle.grammar.specs.Limits.{MAX-ROWS, MAX-STACK}
+use Rattle.grammar.specs.Data.Symbol.{Symbol, terminal, nonterminal}
+use Rattle.grammar.specs.Data.ListLaws.{drop-step}
+use Rattle.grammar.specs.Data.Book.{Book}
+use Rattle.grammar.specs.Conditions.Meaning.{GoSymbol}
+use Rattle.grammar.specs.Automaton.States.{shift, goIn}
+use Rattle.grammar.specs.Evaluator.Tree.{Token, next}
+use Rattle.grammar.specs.Evaluator.Decorated.{Values, Result, token}
+use Rattle.grammar.specs.Evaluator.Rows.{Row, rowOfToken, page}
+use Rattle.grammar.specs.Evaluator.Machine.{Frame, frame, Config, config, Step, more, stop, refused, cell, step}
+use Rattle.grammar.specs.Evaluator.Moves.{shifted, shift-moves}
+use Rattle.grammar.specs.Evaluator.TakenPremises.{premises}
+use Rattle.grammar.specs.Engine.{tablesFrom, tablesOf}
+use Rattle.book.specs.Layout.{symbolCode}
+use Rattle.automaton.specs.Arrays.{targetCode, GoTableIn}
+use Rattle.automaton.specs.SymbolCodes.{terminal-code}
+use Rattle.cells.specs.Frames.{cellValue, FramesIn, a-frame}
+use Rattle.cells.specs.FramesLaws.{Agree, agree-same, agree-set, frames-kept}
+use Rattle.machine.specs.declared.top.Top.{Top}
+use Rattle.machine.specs.Page.{tokenStored, token-stored}
+use Rattle.machine.specs.Path.{above, path-state}
+use Rattle.machine.specs.Pushes.{Stacks, TokenPushed}
+use Rattle.machine.specs.Records.{Stored, token-in}
+use Rattle.machine.specs.Standing.{BookIn, Message, Standing, ConfigIn, CellSet}
+
+-- a target that is none of a go line, or that of one
+pub target-by : (x : Option ℕ) {t : ℕ} → t ≡ targetCode x → t ≢ 255 → x ≡ some t
+unfolding targetCode
+target-by none e n = absurd (n e)
+target-by (some M) e n = rw e
+
+module _ {b : Book} {ks : List Token} {states inherited synthesized starts rows : List ℕ} {top : Top} {st : List Frame} {S p : ℕ} {k : Token}
+    {z : List Token} {rs : List Row} (C : Standing b ks states inherited synthesized starts rows top st S (k ∷ z) p rs) where
+  -- a frame on the stacks, over those that stand
+  pub shift-stands : (room : length st < MAX-STACK) (line : length rs < MAX-ROWS) {target : ℕ} {next : Top} {states′ synthesized′ starts′ rows′ : List ℕ}
+      → Stacks states synthesized starts rows
+      → TokenPushed top target (k .kind) (k .value) states synthesized starts rows states′ synthesized′ starts′ rows′ next
+      → cell (tablesOf b) S (k .kind) st ≡ cellValue inherited (length st) → tablesOf b .go S (terminal (k .kind)) ≡ some target
+      → ConfigIn b ks states′ inherited synthesized′ starts′ rows′ next (shifted b (tablesOf b) k st S target z p rs)
+  unfolding rowOfToken
+  shift-stands room line {target} {next} {states′} {synthesized′} {starts′} {rows′} L P set-cell go = record {
+    frames-in = a-frame
+        (record {
+          state-is = below-next;
+          cell-is = set-cell;
+          result-is = token-in (length st) record-next (k .value) refl;
+          start-is = start-next;
+        })
+        (frames-kept (rw states-are (agree-set (length st + 1) target (omega arith))) agree-same (record-next .before)
+        (rw starts-are (agree-set (length st) p (omega arith))) (C .frames-in));
+    state-is = state-next;
+    rows-are = P .rows-are ∙ rw (C .count-is, C .position-is, C .rows-are) (token-stored rs line (k .kind) p (k .value));
+    left-is = sym (drop-step p ks (sym (C .left-is)));
+    depth-is = P .depth-is ∙ rw (C .depth-is) (omega arith);
+    count-is = P .count-is ∙ rw (C .count-is, length-append) (omega arith);
+    position-is = P .position-is ∙ rw (C .position-is) (omega arith);
+    depth-low = omega arith;
+    count-low = rw length-append (omega arith);
+    position-low = omega (arith, ap length (C .left-is), length-drop p ks);
+    path = above (C .path) go;
+  }
+    where
+      states-are : states′ ≡ set states (length st + 1) target
+      states-are = P .states-are ∙ ap (λ n. set states (n + 1) target) (C .depth-is)
+
+      starts-are : starts′ ≡ set starts (length st) p
+      starts-are = P .starts-are ∙ ap (λ n. set starts n (top .position)) (C .depth-is) ∙ ap (set starts (length st)) (C .position-is)
+
+      record-next : Stored (33 * length st) (set (replicate 33 0) 0 (k .value)) synthesized 33 synthesized′
+      record-next = rw (← C .depth-is) (P .record-is)
+
+      below-next : getD states′ (length st) 0 ≡ S
+      below-next = rw states-are (getD-set-other states (length st + 1) (length st) target 0 (λ e. omega arith) ∙ C .state-is)
+
+      start-next : getD starts′ (length st) 0 ≡ p
+      start-next = rw starts-are (getD-set-same starts (length st) p 0 (omega (arith, L .starts-long)))
+
+      state-next : getD states′ (suc (length st)) 0 ≡ target
+      state-next =
+          let e : suc (length st) ≡ length st + 1 = omega arith in
+          rw (e, states-are) (getD-set-same states (length st + 1) target 0 (omega (arith, L .states-long)))

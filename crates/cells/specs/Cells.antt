@@ -7,6 +7,7 @@ use lib.ListN.{length, getD, set}
 use Rattle.grammar.specs.Data.Term.{eval}
 use Rattle.grammar.specs.Data.Book.{Book}
 use Rattle.grammar.specs.Formulas.FormulaCheck.{dotOf, lineAt}
+use Rattle.plans.specs.PlanRows.{PlanRow}
 use Rattle.cells.specs.Values.{placeIn, Asked}
 
 -- `count` words from a place on are 0
@@ -23,6 +24,11 @@ module _ (b : Book) where
     pub position-low : 1 ≤ lineAt b d .position
     pub attribute-low : lineAt b d .attribute < 16
     pub deep : dotOf (lineAt b d) ≤ height
+
+  -- a plan of such lines, in a row of bytes
+  pub record PlanAsked (definitions plan : List ℕ) (from count height : ℕ) (lines : List ℕ) : Type 0 where
+    pub row-is : PlanRow lines plan from count
+    pub line-asked : (i : ℕ) → i < length lines → LineAsked definitions height (getD lines i 0)
 
   -- the top cell with the value of one definition, and of several
   module _ (synthesized : List ℕ) (height : ℕ) where

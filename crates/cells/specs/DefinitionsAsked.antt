@@ -1,11 +1,10 @@
 -- The definitions of a book that meets conditions 2 to 5 may be asked for: each stands in its line and reads what is in reach. Assumes nothing.
-use Prim.Native.Nat.{ℕ, suc, _+_, _-_, _≤_, _<_}
-use mathlib.Core.Path.{_≡_, refl, sym, ap}
+use Prim.Native.Nat.{ℕ, _+_, _-_, _<_}
+use mathlib.Core.Path.{_≡_, refl, ap}
 use mathlib.Core.List.{List, List·Memᴰ as Mem}
 use native.Mathlib.Omega.{arith}
 use lib.ListN.{length}
 use Rattle.grammar.specs.Data.Symbol.{rightOf}
-use Rattle.grammar.specs.Data.Term.{nodes, Leaves}
 use Rattle.grammar.specs.Data.LeavesLaws.{leaves-map, leaves-join}
 use Rattle.grammar.specs.Data.Book.{Place, own, at, val, InheritedDefinition, SynthesizedDefinition, Book, synthesizedExpr}
 use Rattle.grammar.specs.Data.DefinitionLaws.{synthesized-by}
@@ -15,7 +14,7 @@ use Rattle.grammar.specs.Conditions.Meaning.{WithinLimits, DeclaredPlace, Decla
 use Rattle.grammar.specs.Formulas.FormulaCheck.{dotOf, lineAt}
 use Rattle.book.specs.Held.{DefinitionsIn, synthesizedAt}
 use Rattle.automaton.specs.GoTable.{at-member}
-use Rattle.attributes.specs.Steps.{ExpressionIn, step-is, inherited-in}
+use Rattle.attributes.specs.Steps.{step-is, inherited-in}
 use Rattle.cells.specs.Values.{MayRead, Asked}
 
 -- what is declared in a rule is in reach: left of a position, or on the whole right side

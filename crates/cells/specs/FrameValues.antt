@@ -1,7 +1,7 @@
 -- The values of definitions over the stacks in arrays are those over the frames that the arrays hold: of an inherited attribute's definition on top of
 -- the frames, of a synthesized one's where its right side was popped. Assumes nothing.
 use Prim.Native.Nat.{ℕ, _+_, _-_, _≤_}
-use mathlib.Core.Path.{_≡_, refl, sym, ap, _∙_}
+use mathlib.Core.Path.{_≡_, sym, ap}
 use mathlib.Core.List.{List}
 use native.Mathlib.Omega.{arith}
 use lib.ListN.{length}
@@ -13,7 +13,7 @@ use Rattle.grammar.specs.Evaluator.Machine.{Frame, Popped, inheritedAt, resultA
 use Rattle.grammar.specs.Evaluator.Chains.{stackValue}
 use Rattle.grammar.specs.Formulas.FormulaCheck.{dotOf}
 use Rattle.grammar.specs.Formulas.Plan.{valueAt, valueOf}
-use Rattle.cells.specs.Frames.{cellValue, recordValue, tokenWord, ResultIn, FramesIn, PoppedIn}
+use Rattle.cells.specs.Frames.{cellValue, ResultIn, FramesIn, PoppedIn}
 use Rattle.cells.specs.FramesLaws.{inherited-below, result-below}
 use Rattle.cells.specs.Values.{placeIn, MayRead}
 

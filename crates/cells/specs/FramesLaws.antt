@@ -1,16 +1,16 @@
 -- Laws of the stacks in arrays: stores at a height or above it change nothing below it, and what lies so many symbols down stands in the cell and the
 -- record so far down. Assumes nothing.
 use Prim.Native.Nat.{ℕ, zero, suc, _+_, _*_, _-_, _≤_, _<_}
-use mathlib.Core.Path.{_≡_, refl, sym, ap, _∙_}
+use mathlib.Core.Path.{_≡_, refl, sym, _∙_}
 use mathlib.Core.List.{List, [], _∷_}
 use native.Mathlib.Decide.{decLt}
 use native.Mathlib.Omega.{arith}
 use lib.ListN.{length, getD, set}
 use lib.Seq.{getD-set-other}
 use borrow.Author.Tests.{lt-ltb, le-ltb}
-use Rattle.grammar.specs.Evaluator.Decorated.{Values, Result, token, childAt, synthesizedOf, tokenValueOf}
-use Rattle.grammar.specs.Evaluator.Machine.{Frame, frame, inheritedAt, resultAt, Popped, popped, pop}
-use Rattle.cells.specs.Frames.{cellValue, recordValue, tokenWord, ResultIn, FrameIn, FramesIn, no-frames, a-frame, PoppedIn}
+use Rattle.grammar.specs.Evaluator.Decorated.{Values, Result, childAt}
+use Rattle.grammar.specs.Evaluator.Machine.{Frame, inheritedAt, resultAt, Popped, pop}
+use Rattle.cells.specs.Frames.{cellValue, recordValue, ResultIn, FramesIn, no-frames, a-frame, PoppedIn}
 
 -- ---------------------------------------------------------------- words
 

@@ -1,3 +1,4 @@
+pub mod CellFrames
 pub mod Cells
 pub mod CellsLaws
 pub mod DefinitionsAsked
@@ -6,5 +7,6 @@ pub mod Frames
 pub mod FramesLaws
 pub mod Leaves
 pub mod LeavesLaws
+pub mod TakenCells
 pub mod Values
 pub mod ValuesLaws

@@ -1,7 +1,6 @@
 -- The value of a definition over the stacks in arrays: its leaves stand in the cell and in the records from a height on, which is as many symbols below
 -- the top as the dot says. Assumes nothing.
 use Prim.Native.Nat.{ℕ, _+_, _-_, _≤_, _<_}
-use mathlib.Core.Path.{_≡_}
 use mathlib.Core.List.{List}
 use lib.ListN.{getD}
 use Rattle.grammar.specs.Data.Term.{apply, choose, Leaves}

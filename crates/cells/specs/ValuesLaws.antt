@@ -9,7 +9,7 @@ use lib.Seq.{getD-set-same, getD-set-other, drop-cons}
 use Rattle.grammar.specs.Limits.{MAX-NODES}
 use Rattle.grammar.specs.Data.Term.{nodes, choose, eval, Leaves}
 use Rattle.grammar.specs.Data.Postfix.{Step, push, load, operate, select, postfix, evaluating, step, run, length-postfix, run-eval}
-use Rattle.grammar.specs.Data.Book.{Place, own, at, val, Expr}
+use Rattle.grammar.specs.Data.Book.{Place, at, Expr}
 use Rattle.book.specs.Held.{nodeAt}
 use Rattle.attributes.specs.PostfixLaws.{takes, Ready, Fits, fits, ready-takes}
 use Rattle.cells.specs.Values.{MayRead, stepValue}
@@ -113,7 +113,8 @@ module _ {ρ : Place → ℕ} {dot top i : ℕ} {e : Expr} {stack : List ℕ} (W
     running-turn {v} {k} s small q t w =
         let room : top - k < length stack = omega (arith, W .long, W .deep) in
         let r : Ready (MayRead dot) top s = rw q (here .0) in
-        let pushed : v ∷ stackWords stack (top - k) ≡ step (evaluating ρ) s (stackWords stack top) = rw (w, t) (sym (step-words ρ (MayRead dot) stack top s r)) in
+        let pushed : v ∷ stackWords stack (top - k) ≡ step (evaluating ρ) s (stackWords stack top) =
+        rw (w, t) (sym (step-words ρ (MayRead dot) stack top s r)) in
         record {
           within = omega arith;
           long = length-set stack (top - k) v ∙ W .long;

@@ -1,11 +1,11 @@
 -- `cells::set_attribute` meets its contract: the line's words are its position and its attribute.
 -- Assumes nothing.
 use Prim.Native.Nat.{ℕ, _+_, _*_, _-_}
-use mathlib.Core.Path.{_≡_, ap, _∙_}
+use mathlib.Core.Path.{ap}
 use mathlib.Core.List.{List}
 use lib.ListN.{getD, set}
 use Rattle.grammar.specs.Data.Book.{Book}
-use Rattle.grammar.specs.Formulas.FormulaCheck.{dotOf, lineAt}
+use Rattle.grammar.specs.Formulas.FormulaCheck.{lineAt}
 use Rattle.cells.specs.Values.{Asked}
 use Rattle.cells.specs.Cells.{LineAsked, lineSet}
 use borrow.Author.Needs.{needs}

@@ -1,6 +1,6 @@
 -- `leaves::leaf_value` meets its contract: each arm knows which leaf and which stack it has, and with them what may be read.
 -- Assumes nothing.
-use Prim.Native.Nat.{ℕ, _+_, _*_, _-_, _<_, _≤_}
+use Prim.Native.Nat.{_+_, _*_, _-_, _<_, _≤_}
 use mathlib.Core.Path.{_≡_, sym, ap, _∙_}
 use native.Mathlib.Omega.{arith}
 use lib.ListN.{getD}
@@ -11,10 +11,14 @@ use Rattle.cells.proofs.leaves.leaf_value.Tie as tie
 
 -- what may be read, where the leaf is known
 
-cell : (c : tie.After-enum-told) → (c .before .before .before .leaf .given .0 .1 .0 ≤ c .before .before .before .before .before .before .before .args .height) × (c .before .before .before .leaf .given .0 .1 .1 .0 < 16)
+cell : (c : tie.After-enum-told)
+    → (c .before .before .before .leaf .given .0 .1 .0 ≤ c .before .before .before .before .before .before .before .args .height)
+    × (c .before .before .before .leaf .given .0 .1 .1 .0 < 16)
 cell c = rw (c .before .before .before .leaf .given .1, c .enum-told .given .1) at (c .before .before .before .before .before .before .before .pre .2)
 
-attribute : (c : tie.After-enum-told2) → (c .before .before .before .leaf .given .0 .1 .0 < c .before .before .before .before .before .before .before .args .height) × (c .before .before .before .leaf .given .0 .1 .1 .0 < 32)
+attribute : (c : tie.After-enum-told2)
+    → (c .before .before .before .leaf .given .0 .1 .0 < c .before .before .before .before .before .before .before .args .height)
+    × (c .before .before .before .leaf .given .0 .1 .1 .0 < 32)
 attribute c = rw (c .before .before .before .leaf .given .1, c .enum-told2 .given .1) at (c .before .before .before .before .before .before .before .pre .2)
 
 token : (c : tie.After-enum-told4) → c .before .before .before .leaf2 .given .0 .1 .0 < c .before .before .before .before .before .before .before .args .height
@@ -33,7 +37,7 @@ enum-told : tie.Need-enum-told
 enum-told c = search needs
 
 sub-word : tie.Need-sub-word
-sub-word c = cell c .0
+sub-word c = omega (arith, cell c .0)
 
 word-requires : tie.Need-word-requires
 word-requires c κs = let q = c .before .before .before .before .before .before .before in (q .pre .0, omega (arith, q .pre .1), cell c .1)
@@ -51,7 +55,9 @@ add-word : tie.Need-add-word
 add-word c = search needs
 
 word-requires-2 : tie.Need-word-requires-2
-word-requires-2 c κs = let q = c .before .before .before .before .before .before .before in (q .pre .0, omega (arith, q .pre .1, attribute c .0), omega (arith, attribute c .1))
+word-requires-2 c κs =
+    let q = c .before .before .before .before .before .before .before in
+    (q .pre .0, omega (arith, q .pre .1, attribute c .0), omega (arith, attribute c .1))
 
 enum-known-leaf-2 : tie.Need-enum-known-leaf-2
 enum-known-leaf-2 c = search needs
@@ -97,7 +103,8 @@ returns-4 : tie.Need-returns-4
 returns-4 c = let q = c .before .before .before .before .before .before .before .before in
     let first = 33 * (q .args .height - 1 - c .before .before .before .before .leaf2 .given .0 .1 .0) in
     let place : first + 0 ≡ first = omega arith in
-    rw (c .before .before .before .before .leaf2 .given .1, c .before .enum-told4 .given .1) (c .word3 .ensures ∙ ap (λ n. getD (q .args .synthesized .now) n 0) place)
+    rw (c .before .before .before .before .leaf2 .given .1, c .before .enum-told4 .given .1)
+    (c .word3 .ensures ∙ ap (λ n. getD (q .args .synthesized .now) n 0) place)
 
 pub leaf-value-spec : {M : Type 1} → statement M
 leaf-value-spec =

@@ -1,11 +1,10 @@
 -- `leaves::word` meets its contract: the part is as long as its stack's parts are.
 -- Assumes nothing.
 use Prim.Native.Nat.{ℕ}
-use mathlib.Core.Path.{sym, ap, _∙_}
+use mathlib.Core.Path.{ap, _∙_}
 use mathlib.Core.List.{List}
 use native.Mathlib.Omega.{arith}
 use lib.ListN.{length, getD}
-use Rattle.cells.specs.Leaves.{partOf}
 use Rattle.cells.specs.LeavesLaws.{part-long, part-at, width-small}
 use borrow.Author.Needs.{needs}
 use Rattle.cells.proofs.leaves.word.Statement.{statement}

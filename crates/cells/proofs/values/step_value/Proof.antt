@@ -1,7 +1,7 @@
 -- `values::step_value` meets its contract: each arm knows which step it has, and with it what may be read and that the operands are there.
 -- Assumes nothing.
 use Prim.Native.Nat.{ℕ, _+_, _-_, _≤_, _<_}
-use mathlib.Core.Path.{_≡_, refl, ap, _∙_}
+use mathlib.Core.Path.{_≡_, ap, _∙_}
 use native.Mathlib.Omega.{arith}
 use Rattle.cells.specs.Frames.{recordValue, tokenWord}
 use borrow.Author.Needs.{needs}
@@ -13,10 +13,12 @@ use Rattle.cells.proofs.values.step_value.Tie as tie
 own : (c : tie.After-known-told2) → c .before .step2 .given .0 .0 < 16
 own c = rw (c .before .step2 .given .1) at (c .before .before .before .before .before .before .pre .1 .0)
 
-at : (c : tie.After-known-told3) → (1 ≤ c .before .step3 .given .0 .0) × (c .before .step3 .given .0 .0 ≤ c .before .before .before .before .before .before .args .dot) × (c .before .step3 .given .0 .1 .0 < 32)
+at : (c : tie.After-known-told3) → (1 ≤ c .before .step3 .given .0 .0)
+    × (c .before .step3 .given .0 .0 ≤ c .before .before .before .before .before .before .args .dot) × (c .before .step3 .given .0 .1 .0 < 32)
 at c = rw (c .before .step3 .given .1) at (c .before .before .before .before .before .before .pre .1 .0)
 
-val : (c : tie.After-known-told4) → (1 ≤ c .before .step4 .given .0 .0) × (c .before .step4 .given .0 .0 ≤ c .before .before .before .before .before .before .args .dot)
+val : (c : tie.After-known-told4) → (1 ≤ c .before .step4 .given .0 .0)
+    × (c .before .step4 .given .0 .0 ≤ c .before .before .before .before .before .before .args .dot)
 val c = rw (c .before .step4 .given .1) at (c .before .before .before .before .before .before .pre .1 .0)
 
 two : (c : tie.After-known-told5) → 2 ≤ c .before .before .before .before .before .before .args .top
@@ -45,7 +47,9 @@ sub-t18 : tie.Need-sub-t18
 sub-t18 c = at c .1
 
 leaf-value-requires-2 : tie.Need-leaf-value-requires-2
-leaf-value-requires-2 c κs = let q = c .before .before .before .before .before .before in (q .pre .0 .0, q .pre .0 .2, (omega (arith, at c .0, at c .1, q .pre .0 .1), at c .2))
+leaf-value-requires-2 c κs =
+    let q = c .before .before .before .before .before .before in
+    (q .pre .0 .0, q .pre .0 .2, (omega (arith, at c .0, at c .1, q .pre .0 .1), at c .2))
 
 enum-known-step-4 : tie.Need-enum-known-step-4
 enum-known-step-4 c = search needs
@@ -54,7 +58,9 @@ sub-t21 : tie.Need-sub-t21
 sub-t21 c = val c .1
 
 leaf-value-requires-3 : tie.Need-leaf-value-requires-3
-leaf-value-requires-3 c κs = let q = c .before .before .before .before .before .before in (q .pre .0 .0, q .pre .0 .2, omega (arith, val c .0, val c .1, q .pre .0 .1))
+leaf-value-requires-3 c κs =
+    let q = c .before .before .before .before .before .before in
+    (q .pre .0 .0, q .pre .0 .2, omega (arith, val c .0, val c .1, q .pre .0 .1))
 
 enum-known-step-5 : tie.Need-enum-known-step-5
 enum-known-step-5 c = search needs
@@ -124,7 +130,8 @@ returns-3 c = let q = c .before .before .before .before .before .before .before 
     let J = c .before .before .step3 .given .0 .0 in
     let place : q .args .height - 1 - (q .args .dot - J) ≡ q .args .height - q .args .dot + J - 1 =
     symbol (q .args .height) (q .args .dot) J (at (c .before) .0) (at (c .before) .1) (q .pre .0 .1) in
-    rw (c .before .before .step3 .given .1) (c .leaf-value2 .ensures ∙ ap (λ n. recordValue (q .args .synthesized .now) n (c .before .before .step3 .given .0 .1 .0)) place)
+    rw (c .before .before .step3 .given .1)
+    (c .leaf-value2 .ensures ∙ ap (λ n. recordValue (q .args .synthesized .now) n (c .before .before .step3 .given .0 .1 .0)) place)
 
 returns-4 : tie.Need-returns-4
 returns-4 c = let q = c .before .before .before .before .before .before .before in

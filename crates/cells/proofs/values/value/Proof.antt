@@ -1,6 +1,6 @@
 -- `values::value` meets its contract: the loop keeps `Running`, for every expression that may be asked for.
 -- Assumes nothing.
-use Prim.Native.Nat.{ℕ, _-_, _<_, _≤_}
+use Prim.Native.Nat.{_-_, _<_}
 use mathlib.Core.Path.{_≡_, sym, _∙_}
 use native.Mathlib.Omega.{arith}
 use borrow.Author.Needs.{needs}
@@ -14,7 +14,8 @@ use Rattle.cells.proofs.values.value.Statement.{statement}
 use Rattle.cells.proofs.values.value.Tie as tie
 
 abbrev Inv-loop : tie.InvT-loop
-Inv-loop definitions line dot height inherited synthesized first nodes stack₀ top₀ i₀ stack top i = (e : Expr) → Asked definitions line dot e → Running (placeIn (height - dot) inherited synthesized) dot e stack top i
+Inv-loop definitions line dot height inherited synthesized first nodes stack₀ top₀ i₀ stack top i =
+    (e : Expr) → Asked definitions line dot e → Running (placeIn (height - dot) inherited synthesized) dot e stack top i
 
 abbrev μ-loop : tie.MeasureT-loop
 μ-loop definitions line dot height inherited synthesized first nodes stack₀ top₀ i₀ stack top i = nodes - i
@@ -86,15 +87,21 @@ slice-aggregate-step-value c = sym (running (c .before .before .before) .long)
 
 step-value-requires : tie.Need-step-value-requires Inv-loop μ-loop
 step-value-requires c κs = let R = running (c .before .before .before) in
-    let s = entry (c .before .before .before) in
-    (s .pre .0, (rw (here (c .before) (asked s)) (running-ready R (left (c .before .before) (asked s))), omega (arith, R .long, R .deep, few (c .before .before))))
+    let s = entry (c .before .before .before) in (
+      s .pre .0,
+      (
+        rw (here (c .before) (asked s)) (running-ready R (left (c .before .before) (asked s))),
+        omega (arith, R .long, R .deep, few (c .before .before)),
+      ),
+    )
 
 operands-requires : tie.Need-operands-requires Inv-loop μ-loop
 operands-requires c κs = search needs
 
 sub-top : tie.Need-sub-top Inv-loop μ-loop
 sub-top c = let A = asked (entry (c .before .before .before .before .before)) in
-    rw (c .operands .ensures, here (c .before .before .before) A) (running-takes (running (c .before .before .before .before .before)) (left (c .before .before .before .before) A))
+    rw (c .operands .ensures, here (c .before .before .before) A)
+    (running-takes (running (c .before .before .before .before .before)) (left (c .before .before .before .before) A))
 
 mul-stack : tie.Need-mul-stack Inv-loop μ-loop
 mul-stack c = omega (arith, running (c .before .before .before .before .before) .deep, few (c .before .before .before .before))
@@ -113,7 +120,8 @@ loop-less c = search needs
 
 loop-again : tie.Need-loop-again Inv-loop μ-loop
 loop-again c = λ e A.
-    running-turn (c .before .before .before .before .before .loop .inv e A) (left (c .before .before .before .before) A) (stepOf (c .before .before .before .step-at .result)) (A .stands .few) (here (c .before .before .before) A) (c .operands .ensures)
+    running-turn (c .before .before .before .before .before .loop .inv e A) (left (c .before .before .before .before) A)
+    (stepOf (c .before .before .before .step-at .result)) (A .stands .few) (here (c .before .before .before) A) (c .operands .ensures)
     (c .before .step-value .ensures)
 
 array-read-result : tie.Need-array-read-result Inv-loop μ-loop

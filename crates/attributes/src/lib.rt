@@ -4,5 +4,6 @@ pub mod formulas;
 pub mod interning;
 pub mod masks;
 pub mod nodes;
+pub mod one_formula;
 pub mod owned;
 pub mod steps;

@@ -14,6 +14,7 @@ use Rattle.grammar.specs.Data.Book.{Book}
 use Rattle.grammar.specs.Formulas.Passes.{Larger, Keeps, Growing, passes-keep, passes-same}
 use Rattle.grammar.specs.Formulas.FormulaCheck.{dotOf, doneIn, definitions, lineAt}
 use Rattle.grammar.specs.Formulas.FormulaCheckSteps.{done-more, done-length}
+use Rattle.grammar.specs.Formulas.FormulaCheckAll.{SameItems}
 use Rattle.grammar.specs.Formulas.Plan.{readyIn, dueIn}
 use Rattle.plans.specs.Planning.{Planning, planning, knownIn, linesOf, unplanned, planLine, planned, plan}
 
@@ -132,8 +133,7 @@ module _ (b : Book) (member : ℕ → ℕ → Bool) where
       by (planning lines known) P = P .each-line
 
 -- tests that agree on the items of the definitions give the same plan
-module _ (b : Book) (member other : ℕ → ℕ → Bool)
-    (agree : (d : ℕ) → d < definitions b → member (lineAt b d .rule) (dotOf (lineAt b d)) ≡ other (lineAt b d .rule) (dotOf (lineAt b d))) where
+module _ (b : Book) (member other : ℕ → ℕ → Bool) (agree : SameItems b member other) where
   due-same : (d : ℕ) → d < definitions b → (known : List Bool) → dueIn b member known (lineAt b d) ≡ dueIn b other known (lineAt b d)
   unfolding dueIn
   due-same d l known = ap (λ t. elim t [ true ↦ readyIn b known (lineAt b d .rule) (dotOf (lineAt b d)) | false ↦ false ]) (agree d l)

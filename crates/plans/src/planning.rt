@@ -1,7 +1,7 @@
 // The plan of a partial state, by passes over the inherited attributes' definitions.
 // A contract asks that the arrays hold some book, and says its statement of every book that they hold.
 ghost use mathlib.Core.Path.{_≡_};
-ghost use Prim.Native.Nat.{ℕ, _+_, _<_, _≤_};
+ghost use Prim.Native.Nat.{_+_, _<_, _≤_};
 ghost use lib.ListN.{length};
 ghost use Rattle.grammar.specs.Data.Book.{Book};
 ghost use Rattle.grammar.specs.Formulas.FormulaCheck as grammar;

@@ -1,13 +1,10 @@
 -- `planning::visit` meets its contract: an attribute that is set or a definition that is not due is passed over, any other is planned.
 -- Assumes nothing.
 use Prim.Native.Nat.{_<_}
-use mathlib.Core.Path.{_≡_, sym, _∙_}
-use mathlib.Core.Bool.{false}
+use mathlib.Core.Path.{sym, _∙_}
 use native.Mathlib.Omega.{arith}
-use lib.ListN.{getD}
 use borrow.Author.Needs.{needs}
 use Rattle.grammar.specs.Limits.{MAX-INHERITED}
-use Rattle.sets.specs.Sets.{bit}
 use Rattle.attributes.specs.CheckingLaws.{attribute-low}
 use Rattle.plans.specs.Planning.{knownOf}
 use Rattle.plans.specs.DueLaws.{slotsFor}

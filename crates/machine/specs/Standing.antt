@@ -2,19 +2,20 @@
 -- position; and the arrays of a book that is taken. Assumes nothing.
 use Prim.Native.Nat.{ℕ, _+_, _*_, _≤_, _<_}
 use mathlib.Core.Path.{_≡_}
-use mathlib.Core.List.{List}
+use mathlib.Core.Option.{Option}
+use mathlib.Core.List.{List, [], _∷_}
 use lib.ListN.{length, getD, drop}
 use Rattle.grammar.specs.Limits.{MAX-ROWS, MAX-STACK, MAX-TOKENS}
 use Rattle.grammar.specs.Data.Book.{Book}
 use Rattle.grammar.specs.Format.Ordered.{Spelled}
-use Rattle.grammar.specs.Automaton.FirstSets.{setsOf}
+use Rattle.grammar.specs.Automaton.States.{Action}
 use Rattle.grammar.specs.Evaluator.Tree.{Token, next, TokensOf}
 use Rattle.grammar.specs.Evaluator.Rows.{Row, page}
-use Rattle.grammar.specs.Evaluator.Machine.{Frame, Config, config, cell}
+use Rattle.grammar.specs.Evaluator.Machine.{Frame, Config, config, more, cell, step}
 use Rattle.grammar.specs.Refusal.{Sound}
 use Rattle.grammar.specs.Engine.{tablesOf}
 use Rattle.book.specs.Held.{RulesIn, DefinitionsIn}
-use Rattle.automaton.specs.Arrays.{GoTableIn, ActionsIn}
+use Rattle.automaton.specs.Arrays.{GoTableIn}
 use Rattle.cells.specs.Frames.{cellValue, FramesIn}
 use Rattle.machine.specs.declared.top.Top.{Top}
 use Rattle.machine.specs.Firsts.{FirstsIn}
@@ -52,9 +53,33 @@ module _ (b : Book) (ks : List Token) (states inherited synthesized starts rows 
     pub position-low : p ≤ length ks
     pub path : Path (tablesOf b) S st
 
-  abbrev pub ConfigIn : Config → Type 0
-  ConfigIn (config st S z p rs) = Standing st S z p rs
+  pub data ConfigIn : Config → Type 0 where
+    stands : {st : List Frame} {S p : ℕ} {z : List Token} {rs : List Row} → Standing st S z p rs → ConfigIn (config st S z p rs)
 
-  -- the top cell is set
-  abbrev pub CellSet : Config → Type 0
-  CellSet (config st S z p rs) = cell (tablesOf b) S (next z) st ≡ cellValue inherited (length st)
+-- the top cell is set
+abbrev pub CellIn : Book → List ℕ → Config → Type 0
+CellIn b inherited (config st S z p rs) = cell (tablesOf b) S (next z) st ≡ cellValue inherited (length st)
+
+-- the state, the next token's kind and value, the action
+abbrev pub stateOf : Config → ℕ
+stateOf (config st S z p rs) = S
+
+abbrev pub kindOf : Config → ℕ
+kindOf (config st S z p rs) = next z
+
+abbrev pub firstValue : List Token → ℕ
+firstValue [] = 0
+firstValue (k ∷ z) = k .value
+
+abbrev pub valueOf : Config → ℕ
+valueOf (config st S z p rs) = firstValue z
+
+module _ (b : Book) where
+  abbrev pub actionOf : Config → Option Action
+  actionOf c = tablesOf b .act (stateOf c) (kindOf c)
+
+  -- a move goes on to a configuration that the arrays hold
+  pub record GoesOn (ks : List Token) (c : Config) (states inherited synthesized starts rows : List ℕ) (top : Top) : Type 0 where
+    pub then : Config
+    pub moves : step b (tablesOf b) c ≡ more then
+    pub holds : ConfigIn b ks states inherited synthesized starts rows top then

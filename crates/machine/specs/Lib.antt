@@ -8,5 +8,6 @@ pub mod Path
 pub mod Pushes
 pub mod Records
 pub mod Reductions
+pub mod Setting
 pub mod Shifting
 pub mod Standing

@@ -38,7 +38,7 @@ use Rattle.machine.specs.Page.{nodeStored, node-stored}
 use Rattle.machine.specs.Path.{Path, above, pop-path, deep, path-state}
 use Rattle.machine.specs.Pushes.{Stacks, NodePushed}
 use Rattle.machine.specs.Records.{Stored, values-in}
-use Rattle.machine.specs.Standing.{BookIn, Standing, ConfigIn, stands, CellIn, actionOf, GoesOn}
+use Rattle.machine.specs.Standing.{BookIn, LeftIn, Standing, ConfigIn, stands, CellIn, actionOf, GoesOn}
 
 -- an attribute of a nonterminal is one of the attributes
 owned-low : (owners : List ℕ) (K A : ℕ) → ownerAt owners K ≡ A → A < 32 → K < length owners
@@ -54,7 +54,7 @@ same-node : (P : ℕ) {r r′ start start′ : ℕ} {is is′ ss ss′ out out�
     → nodeStored r P start is ss out ≡ nodeStored r′ P start′ is′ ss′ out′
 same-node P e f g h i = cc
 
-module _ {b : Book} {rules definitions firsts down up table : List ℕ} (B : BookIn b rules definitions firsts down up table) (P : ℕ) where
+module _ {b : Book} {rules definitions table firsts down up : List ℕ} (B : BookIn b rules definitions table) (F : LeftIn b definitions firsts down up) (P : ℕ) where
   abbrev size : ℕ
   size = length (rightOf (b .rules) P)
 
@@ -137,7 +137,7 @@ module _ {b : Book} {rules definitions firsts down up table : List ℕ} (B : Boo
       down-row : gathered down owner inherited (16 * low) ≡ owned (b .inheritedOwners) (leftOf (b .rules) P) (taken-off .cell)
       down-row =
           let fits : 16 * low + length (b .inheritedOwners) ≤ length inherited = omega (arith, low-room, B .sound .limits .inherited-limit) in
-          rw owner-is (gathered-owned (B .down-in) left-low inherited (16 * low) fits
+          rw owner-is (gathered-owned (F .down-in) left-low inherited (16 * low) fits
           ∙ owned-same (b .inheritedOwners) (leftOf (b .rules) P) _ _ λ K o.
           let k : K < 16 = omega (arith, owned-low (b .inheritedOwners) K _ o left-low, B .sound .limits .inherited-limit) in
           sym (ap (λ f. f K) (taken-off .cell-is) ∙ cell-word inherited low K k))
@@ -146,7 +146,7 @@ module _ {b : Book} {rules definitions firsts down up table : List ℕ} (B : Boo
       up-row =
           let fits : 33 * low + 1 + length (b .synthesizedOwners) ≤ length synthesized′ =
           omega (arith, low-room, record-next .long, L .synthesized-long, B .sound .limits .synthesized-limit) in
-          rw owner-is (gathered-owned (B .up-in) left-low synthesized′ (33 * low + 1) fits
+          rw owner-is (gathered-owned (F .up-in) left-low synthesized′ (33 * low + 1) fits
           ∙ owned-same (b .synthesizedOwners) (leftOf (b .rules) P) _ _ λ K o.
           let k : K < 32 = omega (arith, owned-low (b .synthesizedOwners) K _ o left-low, B .sound .limits .synthesized-limit) in
           let i : 33 * low + 1 + K ≡ 33 * low + (1 + K) = omega arith in
@@ -240,7 +240,7 @@ module _ {b : Book} {rules definitions firsts down up table : List ℕ} (B : Boo
             limits = B .sound .limits;
             declared = B .sound .names;
             definitions-in = B .definitions-in;
-            firsts-in = B .firsts-in;
+            firsts-in = F .firsts-in;
             rule-there = x .there;
             size-is = size-is;
           };

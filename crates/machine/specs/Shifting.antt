@@ -87,7 +87,7 @@ module _ {b : Book} {ks : List Token} {states inherited synthesized starts rows 
 
 -- ---- the move
 
-module _ {b : Book} {rules definitions firsts down up table : List ℕ} (B : BookIn b rules definitions firsts down up table) where
+module _ {b : Book} {rules definitions table : List ℕ} (B : BookIn b rules definitions table) where
   state-low : {S : ℕ} {st : List Frame} → Path (tablesOf b) S st → S < b .states
   state-low q =
       path-state b (tablesOf b) (premises (B .spelled) (B .sound)) (B .sound .names) (omega (arith, B .sound .limits .states-limit .low)) q

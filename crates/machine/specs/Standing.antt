@@ -22,16 +22,19 @@ use Rattle.machine.specs.Firsts.{FirstsIn}
 use Rattle.machine.specs.Lists.{ListsIn}
 use Rattle.machine.specs.Path.{Path}
 
--- a book that is taken, in the arrays that a move reads
-pub record BookIn (b : Book) (rules definitions firsts down up table : List ℕ) : Type 0 where
+-- a book that is taken, in the arrays that every move reads
+pub record BookIn (b : Book) (rules definitions table : List ℕ) : Type 0 where
   pub spelled : Spelled b
   pub sound : Sound b
   pub rules-in : RulesIn (b .rules) rules
   pub definitions-in : DefinitionsIn (b .inheritedDefinitions) (b .synthesizedDefinitions) definitions
+  pub table-in : GoTableIn b table
+
+-- what a reduce reads of left sides: where their definitions begin, and which attributes they have
+pub record LeftIn (b : Book) (definitions firsts down up : List ℕ) : Type 0 where
   pub firsts-in : FirstsIn b definitions firsts
   pub down-in : ListsIn (b .inheritedOwners) down
   pub up-in : ListsIn (b .synthesizedOwners) up
-  pub table-in : GoTableIn b table
 
 -- the tokens of a message
 pub record Message (b : Book) (ks : List Token) : Type 0 where
@@ -60,7 +63,10 @@ module _ (b : Book) (ks : List Token) (states inherited synthesized starts rows 
 abbrev pub CellIn : Book → List ℕ → Config → Type 0
 CellIn b inherited (config st S z p rs) = cell (tablesOf b) S (next z) st ≡ cellValue inherited (length st)
 
--- the state, the next token's kind and value, the action
+-- the frames, the state, the next token's kind and value, the rows, the action
+abbrev pub framesOf : Config → List Frame
+framesOf (config st S z p rs) = st
+
 abbrev pub stateOf : Config → ℕ
 stateOf (config st S z p rs) = S
 
@@ -73,6 +79,9 @@ firstValue (k ∷ z) = k .value
 
 abbrev pub valueOf : Config → ℕ
 valueOf (config st S z p rs) = firstValue z
+
+abbrev pub rowsOf : Config → List Row
+rowsOf (config st S z p rs) = rs
 
 module _ (b : Book) where
   abbrev pub actionOf : Config → Option Action

@@ -5,4 +5,5 @@ pub mod lists;
 pub mod pushes;
 pub mod records;
 pub mod rows;
+pub mod setting;
 pub mod top;

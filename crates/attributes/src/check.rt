@@ -33,7 +33,7 @@ pub struct Progress {
 }
 
 // Whether the definition in a line may give its formula: its item is in the partial state, and does not wait for its left side.
-fn due(
+pub fn due(
     definitions: &[u32],
     line: usize,
     terminal: u32,

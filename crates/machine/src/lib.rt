@@ -1,0 +1,9 @@
+// The stack evaluator (01, "The stack evaluator") over arrays.
+pub mod action;
+pub mod firsts;
+pub mod lists;
+pub mod pushes;
+pub mod records;
+pub mod rows;
+pub mod setting;
+pub mod top;

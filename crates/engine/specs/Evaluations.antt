@@ -13,7 +13,7 @@ use Rattle.grammar.specs.Limits.{PAGE-WORDS, MAX-TOKENS}
 use Rattle.grammar.specs.Data.Book.{Book}
 use Rattle.grammar.specs.Conditions.Decides.{oneTo, oneTo-decides}
 use Rattle.grammar.specs.Evaluator.Tree.{Token, TokenOf, TokensOf, no-tokens, and-tokens}
-use Rattle.grammar.specs.Evaluator.Rows.{page}
+use Rattle.grammar.specs.Evaluator.Rows.{Row, page}
 use Rattle.grammar.specs.Evaluator.Machine.{Answer, refused, accepted, evaluate}
 use Rattle.grammar.specs.Engine.{
   tablesOf,
@@ -54,9 +54,8 @@ answers-refused n e = record { refused = λ _. e; taken = λ z. absurd (omega ar
 
 -- ---- the lengths and the kinds of a message
 
--- there is room for the rows, and the numbers are tokens of T terminals, not too many
-pub record Message (T : ℕ) (tokens : List ℕ) (lent : ℕ) : Type 0 where
-  pub all-rows : lent ≡ PAGE-WORDS
+-- the numbers are tokens of T terminals, not too many
+pub record Message (T : ℕ) (tokens : List ℕ) : Type 0 where
   pub list : List Token
   pub tokens-are : tokensOf tokens ≡ some list
   pub few : length list ≤ MAX-TOKENS
@@ -65,11 +64,12 @@ pub record Message (T : ℕ) (tokens : List ℕ) (lent : ℕ) : Type 0 where
 -- the first of 12, 13 and 14 that applies, or 0
 pub record Asked (T : ℕ) (tokens : List ℕ) (lent number : ℕ) : Type 0 where
   pub refused : (number ≡ 0 → ⊥) → (b : Book) → T ≡ b .terminals → evaluateBook b tokens lent ≡ turnedBack number lent
-  pub passed : number ≡ 0 → Message T tokens lent
+  pub all-rows : number ≡ 0 → lent ≡ PAGE-WORDS
+  pub passed : number ≡ 0 → Message T tokens
 
 module _ (T : ℕ) (tokens : List ℕ) (lent : ℕ) where
   first-asked : (n : ℕ) → ((b : Book) → T ≡ b .terminals → evaluateBook b tokens lent ≡ turnedBack (suc n) lent) → Asked T tokens lent (suc n)
-  first-asked n f = record { refused = λ _. f; passed = λ z. absurd (omega arith) }
+  first-asked n f = record { refused = λ _. f; all-rows = λ z. absurd (omega arith); passed = λ z. absurd (omega arith) }
 
   pub asked-rows : (lent ≡ PAGE-WORDS → ⊥) → Asked T tokens lent 12
   unfolding evaluateBook
@@ -99,8 +99,8 @@ module _ (T : ℕ) (tokens : List ℕ) (lent : ℕ) where
         asked-all f = tokens-even tokens even λ ks e l.
             record {
               refused = λ n. absurd (n refl);
+              all-rows = λ _. r;
               passed = λ _. record {
-                all-rows = r;
                 list = ks;
                 tokens-are = e;
                 few = omega (arith, h, l);
@@ -120,18 +120,34 @@ kinds-of b (k ∷ ks) e = go (oneTo (b .terminals) (k .kind)) refl (kinds-of b k
         and-tokens (record { not-end = o .low; declared = o .high }) (more rest)
     go false q _ = absurd (let w : false ≡ true = rw (q, kindsIn) at e in let z : _≡_ {A = ℕ} 0 1 = cc in omega arith)
 
-module _ (b : Book) {T : ℕ} {tokens : List ℕ} {lent : ℕ} (m : Message T tokens lent) (t : T ≡ b .terminals) where
+module _ (b : Book) {T : ℕ} {tokens : List ℕ} (m : Message T tokens) (t : T ≡ b .terminals) where
   -- the tokens are of the book
   pub message-tokens : TokensOf b (m .list)
   message-tokens = kinds-of b (m .list) (rw (← t) (m .kinds))
 
   -- the machine answers
-  pub message-run : evaluateBook b tokens lent ≡ evaluationOf (evaluate b (tablesOf b) (m .list)) lent
+  pub message-run : (lent : ℕ) → lent ≡ PAGE-WORDS → evaluateBook b tokens lent ≡ evaluationOf (evaluate b (tablesOf b) (m .list)) lent
   unfolding evaluateBook evaluateTokens
-  message-run =
+  message-run lent all =
       let k : kindsIn (b .terminals) (m .list) ≡ true = rw (← t) (m .kinds) in
-      rw (eq-eqb lent PAGE-WORDS (m .all-rows), evaluateBook)
+      rw (eq-eqb lent PAGE-WORDS all, evaluateBook)
       (rw (m .tokens-are) (rw (le-leb (length (m .list)) MAX-TOKENS (m .few), evaluateTokens) (rw k)))
+
+-- ---- the run
+
+-- how the machine's answer is told: 0, the rows and their number, or else the refusal
+pub record Ran (answer : Answer) (number count : ℕ) (rows : List ℕ) : Type 0 where
+  pub turned : (number ≡ 0 → ⊥) → answer ≡ refused number
+  pub taken : number ≡ 0 → (rs : List Row) × (answer ≡ accepted rs) × (rows ≡ page rs) × (count ≡ length rs)
+
+answers-ran : {evaluation : Evaluation} {answer : Answer} {lent number count : ℕ} {rows : List ℕ} → evaluation ≡ evaluationOf answer lent
+    → Ran answer number count rows → Answers evaluation lent number rows count
+unfolding evaluationOf
+answers-ran {answer = answer} {lent} e r = record {
+  refused = λ n. e ∙ ap (λ (a : Answer). evaluationOf a lent) (r .turned n);
+  taken = λ z. let (rs, a, p, l) = r .taken z in
+      rw (e ∙ ap (λ (x : Answer). evaluationOf x lent) a) (record { number-is = refl; rows-are = p; count-is = l });
+}
 
 -- ---- the book
 
@@ -143,3 +159,15 @@ module _ (words tokens : List ℕ) (lent : ℕ) where
   pub evaluate-book : (b : Book) → storedBook words ≡ some b → evaluateWords words tokens lent ≡ evaluateBook b tokens lent
   unfolding evaluateWords
   evaluate-book b e = rw (e, evaluateWords)
+
+  module _ {T number : ℕ} (b : Book) (e : storedBook words ≡ some b) (t : T ≡ b .terminals) (a : Asked T tokens lent number) where
+    pub answers-asked : {rows : List ℕ} {count : ℕ} → (number ≡ 0 → ⊥) → Answers (evaluateWords words tokens lent) lent number rows count
+    answers-asked n = record { refused = λ _. evaluate-book b e ∙ a .refused n b t; taken = λ z. absurd (n z) }
+
+    pub answers-run : {r count : ℕ} {rows : List ℕ} (z : number ≡ 0) → Ran (evaluate b (tablesOf b) (a .passed z .list)) r count rows
+        → Answers (evaluateWords words tokens lent) lent r rows count
+    answers-run z ran = answers-ran (evaluate-book b e ∙ message-run b (a .passed z) t lent (a .all-rows z)) ran
+
+  -- 11
+  pub answers-none : {rows : List ℕ} {count : ℕ} → storedBook words ≡ none → Answers (evaluateWords words tokens lent) lent 11 rows count
+  answers-none e = answers-refused 10 (evaluate-none e)

@@ -13,3 +13,4 @@ pub mod Stored
 pub mod Tokens
 pub mod Evaluations
 pub mod Promises
+pub mod Sides

@@ -12,9 +12,11 @@ use borrow.Author.Tests.{eq-eqb, ne-eqb}
 use Rattle.grammar.specs.Limits.{MAX-TEXT, BOOK-WORDS}
 use Rattle.grammar.specs.Data.Book.{Book as Lines}
 use Rattle.grammar.specs.Automaton.Fixpoint.{sameSets}
+use Rattle.grammar.specs.Format.Ordered.{Spelled}
 use Rattle.grammar.specs.Format.Packing.{pack, unpack}
 use Rattle.grammar.specs.Format.Parse.{parseBook}
-use Rattle.grammar.specs.Refusal.{bookRefusal, refusal}
+use Rattle.grammar.specs.Refusal.{Sound, bookRefusal, refusal}
+use Rattle.grammar.specs.StoredLaws.{found-stored}
 use Rattle.grammar.specs.Engine.{storedBook}
 use Rattle.book.specs.declared.Book.{Book}
 use Rattle.engine.specs.Words.{Placed}
@@ -32,13 +34,12 @@ pub record Found (words text : List ℕ) (filled : Bool) (count : ℕ) : Type 0 
   pub within : count ≤ MAX-TEXT
   pub text-is : filled ≡ true → take count text ≡ unpack words
 
--- 0 where a book is found, and it is ready; else 11
-pub record Stores (words : List ℕ) (r : ℕ) (numbers : Book) (inherited synthesized rules definitions kernels goes : List ℕ)
-    (vanishes begins reached starts closures table actions : List ℕ) : Type 0 where
-  pub refused : (r ≡ 0 → ⊥) → (r ≡ 11) × (storedBook words ≡ none)
-  pub ready : r ≡ 0
-      → (b : Lines) × (storedBook words ≡ some b)
-      × BookReady numbers inherited synthesized rules definitions kernels goes vanishes begins reached starts closures table actions b
+-- a book that is found is taken, and in the arrays
+pub record TakenBook (numbers : Book) (inherited synthesized rules definitions kernels goes : List ℕ)
+    (vanishes begins reached starts closures table actions : List ℕ) (b : Lines) : Type 0 where
+  pub ready : BookReady numbers inherited synthesized rules definitions kernels goes vanishes begins reached starts closures table actions b
+  pub spelled : Spelled b
+  pub sound : Sound b
 
 -- ---- the text in the words
 
@@ -86,35 +87,38 @@ module _ (words : List ℕ) where
         go none p = rw (f, storedBook) (rw p)
         go (some b) p = by b p (bookRefusal b) refl
 
-module _ {words : List ℕ} {numbers : Book} {inherited synthesized rules definitions kernels goes : List ℕ}
-    {vanishes begins reached starts closures table actions : List ℕ} where
-  pub stores-unfilled : {text : List ℕ} {filled : Bool} {count : ℕ} → Found words text filled count → filled ≡ false
-      → Stores words 11 numbers inherited synthesized rules definitions kernels goes vanishes begins reached starts closures table actions
-  stores-unfilled h e = record { refused = λ n. (refl, unfilled-none words (sym (h .told) ∙ e)); ready = λ z. absurd (omega arith) }
+-- where the words are no filling, or the text in them is refused
 
-  module _ {text : List ℕ} {filled : Bool} {count r : ℕ} (h : Found words text filled count) (e : filled ≡ true)
-      (c : Compiles (take count text) r numbers inherited synthesized rules definitions kernels goes
-      vanishes begins reached starts closures table actions) where
+pub unfilled : {words text : List ℕ} {filled : Bool} {count : ℕ} → Found words text filled count → filled ≡ false → storedBook words ≡ none
+unfilled {words} h e = unfilled-none words (sym (h .told) ∙ e)
+
+module _ {words text : List ℕ} {filled : Bool} {count : ℕ} (h : Found words text filled count) (e : filled ≡ true) {r : ℕ} {numbers : Book}
+    {inherited synthesized rules definitions kernels goes : List ℕ} {vanishes begins reached starts closures table actions : List ℕ}
+    (c : Compiles (take count text) r numbers inherited synthesized rules definitions kernels goes vanishes begins reached starts closures table actions)
+  where
     told : r ≡ refusal (unpack words)
     told = c .told ∙ ap refusal (h .text-is e)
 
-    pub stores-refused : (r ≡ 0 → ⊥)
-        → Stores words 11 numbers inherited synthesized rules definitions kernels goes vanishes begins reached starts closures table actions
-    stores-refused n = record {
-      refused = λ _. (refl, stored-none words (sym (h .told) ∙ e) (λ z. n (told ∙ z)));
-      ready = λ z. absurd (omega arith);
-    }
+    pub found-none : (r ≡ 0 → ⊥) → storedBook words ≡ none
+    found-none n = stored-none words (sym (h .told) ∙ e) (λ z. n (told ∙ z))
 
-    pub stores-book : r ≡ 0
-        → Stores words 0 numbers inherited synthesized rules definitions kernels goes vanishes begins reached starts closures table actions
-    stores-book z = record {
-      refused = λ n. absurd (n refl);
-      ready = λ _. taken-got (unpack words) (sym told ∙ z) λ b p. (
-        b,
-        stored-some words (sym (h .told) ∙ e) b p (sym (book-refused (unpack words) b p) ∙ sym told ∙ z),
-        c .ready z b (ap parseBook (h .text-is e) ∙ p),
-      );
-    }
+    taken : (b : Lines) → parseBook (unpack words) ≡ some b → r ≡ 0 → storedBook words ≡ some b
+    taken b p z = stored-some words (sym (h .told) ∙ e) b p (sym (book-refused (unpack words) b p) ∙ sym told ∙ z)
+
+    -- else there is a book
+    pub found-book : r ≡ 0
+        → (b : Lines) × (storedBook words ≡ some b)
+        × TakenBook numbers inherited synthesized rules definitions kernels goes vanishes begins reached starts closures table actions b
+    found-book z = taken-got (unpack words) (sym told ∙ z) λ b p.
+        let (s, same) = found-stored words b (taken b p z) in (
+          b,
+          taken b p z,
+          record {
+            ready = c .ready z b (ap parseBook (h .text-is e) ∙ p);
+            spelled = rw same at (s .its-book .spelled);
+            sound = rw same at (s .its-book .sound);
+          },
+        )
 
 -- opens every definition of this module
 unfoldable pub opens : Unit {0}

@@ -3,6 +3,7 @@ pub mod compile;
 pub mod evaluating;
 pub mod packing;
 pub mod reading;
+pub mod sides;
 pub mod states;
 pub mod stored;
 pub mod tokens;

@@ -2,6 +2,8 @@ pub mod Action
 pub mod Firsts
 pub mod Goes
 pub mod Lists
+pub mod Moving
+pub mod MovingLaws
 pub mod NodeValues
 pub mod Page
 pub mod Path
@@ -9,5 +11,6 @@ pub mod Pushes
 pub mod Records
 pub mod Reductions
 pub mod Setting
+pub mod ShiftMove
 pub mod Shifting
 pub mod Standing

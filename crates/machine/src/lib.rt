@@ -2,6 +2,7 @@
 pub mod action;
 pub mod firsts;
 pub mod lists;
+pub mod moves;
 pub mod pushes;
 pub mod records;
 pub mod rows;

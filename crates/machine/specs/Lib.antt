@@ -9,6 +9,7 @@ pub mod Page
 pub mod Path
 pub mod Pushes
 pub mod Records
+pub mod ReduceMove
 pub mod Reductions
 pub mod Setting
 pub mod ShiftMove

@@ -1,6 +1,7 @@
 // The stack evaluator (01, "The stack evaluator") over arrays.
 pub mod action;
 pub mod firsts;
+pub mod left;
 pub mod lists;
 pub mod moves;
 pub mod pushes;

@@ -1,6 +1,7 @@
 pub mod Action
 pub mod Firsts
 pub mod Goes
+pub mod LeftMove
 pub mod Lists
 pub mod Moving
 pub mod MovingLaws

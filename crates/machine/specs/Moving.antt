@@ -4,7 +4,6 @@ use mathlib.Core.Path.{_≡_}
 use mathlib.Core.Option.{some}
 use mathlib.Core.List.{List}
 use lib.ListN.{length}
-use Rattle.grammar.specs.Limits.{MAX-TOKENS}
 use Rattle.grammar.specs.Data.Book.{Book}
 use Rattle.grammar.specs.Automaton.States.{shift, reduce}
 use Rattle.grammar.specs.Evaluator.Tree.{Token}
@@ -15,7 +14,7 @@ use Rattle.machine.specs.declared.moves.Moved.{Moved}
 use Rattle.machine.specs.declared.moves.Moved.the-variants.{On, Accepted, Refused}
 use Rattle.machine.specs.declared.top.Top.{Top}
 use Rattle.machine.specs.Pushes.{Stacks}
-use Rattle.machine.specs.Standing.{BookIn, LeftIn, ConfigIn, stateOf, kindOf, valueOf, rowsOf, actionOf}
+use Rattle.machine.specs.Standing.{BookIn, Message, ConfigIn, stateOf, kindOf, valueOf, rowsOf, actionOf}
 
 -- the arrays that moves change, as they are lent
 pub record Rooms (states inherited synthesized starts rows sets : List ℕ) : Type 0 where
@@ -29,11 +28,11 @@ pub record Driven (b : Book) (rules : List ℕ) (count : ℕ) (definitions : Lis
     pub book-in : BookIn b rules definitions table
     pub plans-held : PlansHeld b rules count definitions lines owned kernels heads closures nulls reaches
 
--- a configuration of at most 255 tokens, in the arrays that moves change, with the plans that are worked out
+-- a configuration over a message, in the arrays that moves change, with the plans that are worked out
 pub record Here (b : Book) (ks : List Token) (c : Config) (states inherited synthesized starts rows counts lists : List ℕ) (top : Top) : Type 0 where
   pub config-in : ConfigIn b ks states inherited synthesized starts rows top c
   pub plans-in : PlansIn b counts lists
-  pub few : length ks ≤ MAX-TOKENS
+  pub message : Message b ks
 
 -- the state and the next token
 pub record Facing (c : Config) (state kind : ℕ) : Type 0 where

@@ -55,7 +55,7 @@ module _ {b : Book} {ks : List Token} {c : Config} {rules : List â„•} {count : â
     {state kind value : â„•} (D : Driven b rules count definitions lines owned kernels heads closures nulls reaches table)
     (H : Here b ks c states inherited synthesized starts rows counts lists top) (X : Shifts b c state kind value) where
   pub shift-low : ShiftLow b top state kind
-  shift-low = low-of (D .book-in) (H .few) (H .config-in) (X .action-is) (X .state-is) (X .kind-is)
+  shift-low = low-of (D .book-in) (H .message .few) (H .config-in) (X .action-is) (X .state-is) (X .kind-is)
 
   pub shift-asked : TopAsked b definitions inherited synthesized state (top .depth) states starts (framesOf c)
   shift-asked = config-asked (D .book-in) (H .config-in) (X .state-is) refl
@@ -75,5 +75,5 @@ module _ {b : Book} {ks : List Token} {c : Config} {rules : List â„•} {count : â
       record {
         then = on .then;
         moves = on .moves;
-        here = record { config-in = on .holds; plans-in = T .plans-in; few = H .few };
+        here = record { config-in = on .holds; plans-in = T .plans-in; message = H .message };
       }

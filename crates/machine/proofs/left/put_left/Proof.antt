@@ -4,7 +4,7 @@ use mathlib.Core.Path.{_≡_, refl, ap}
 use native.Mathlib.Omega.{arith}
 use lib.ListN.{length, getD}
 use borrow.Author.Needs.{needs}
-use Rattle.machine.specs.ReduceMove.{left-ready, left-deep, left-room, left-owner, left-state, left-asked, left-reducing, left-pushed}
+use Rattle.machine.specs.LeftMove.{left-ready, left-deep, left-room, left-owner, left-state, left-asked, left-reducing, left-pushed}
 use Rattle.machine.proofs.left.put_left.Statement.{statement}
 use Rattle.machine.proofs.left.put_left.Tie as tie
 

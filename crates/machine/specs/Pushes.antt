@@ -3,7 +3,7 @@ use Prim.Native.Nat.{ℕ, _+_, _*_, _-_, _≤_, _<_}
 use mathlib.Core.Path.{_≡_}
 use mathlib.Core.List.{List}
 use native.Mathlib.Omega.{arith}
-use lib.ListN.{length, set, replicate}
+use lib.ListN.{length, getD, set, replicate}
 use Rattle.machine.specs.declared.top.Top.{Top}
 use Rattle.machine.specs.Lists.{Gathers, gathered}
 use Rattle.machine.specs.Page.{tokenStored, nodeStored}
@@ -35,6 +35,11 @@ pub record Reducing (top : Top) (size owner : ℕ) (down inherited up synthesize
   pub rows-low : top .rows < 512
   pub down-in : Gathers down owner inherited (16 * (top .depth - size))
   pub up-in : Gathers up owner synthesized (33 * (top .depth - size) + 1)
+
+-- where a node of n children starts that stands over `below` symbols: an empty one at the position, any other where its first child does
+pub record StartOf (starts : List ℕ) (below n position start : ℕ) : Type 0 where
+  pub empty : n ≡ 0 → start ≡ position
+  pub filled : 1 ≤ n → start ≡ getD starts below 0
 
 -- the left side of a rule, in the place of the top `size` symbols
 pub record NodePushed (top : Top) (target rule size owner start : ℕ) (fresh down inherited up : List ℕ) (states synthesized starts rows : List ℕ)

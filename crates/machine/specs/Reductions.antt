@@ -7,7 +7,7 @@ use native.Mathlib.Omega.{arith}
 use native.Mathlib.Decide.{decLt}
 use lib.ListN.{length, getD, set, length-append}
 use lib.Seq.{getD-set-same, getD-set-other}
-use Rattle.grammar.specs.Limits.{MAX-OWNED, MAX-RULES, MAX-TOKENS, MAX-ROWS, MAX-STACK}
+use Rattle.grammar.specs.Limits.{MAX-OWNED, MAX-RULES, MAX-ROWS, MAX-STACK}
 use Rattle.grammar.specs.Data.Symbol.{nonterminal, leftOf, rightOf}
 use Rattle.grammar.specs.Data.Term.{Leaves, in-number, eval}
 use Rattle.grammar.specs.Data.Book.{SynthesizedDefinition, Book, ownerAt, synthesizedExpr}
@@ -36,7 +36,7 @@ use Rattle.machine.specs.Lists.{gathered, numbers-few, gathered-owned}
 use Rattle.machine.specs.NodeValues.{NodeAsked, NodeValues, member-at}
 use Rattle.machine.specs.Page.{nodeStored, node-stored}
 use Rattle.machine.specs.Path.{Path, above, pop-path, deep, path-state}
-use Rattle.machine.specs.Pushes.{Stacks, NodePushed}
+use Rattle.machine.specs.Pushes.{Stacks, StartOf, NodePushed}
 use Rattle.machine.specs.Records.{Stored, values-in}
 use Rattle.machine.specs.Standing.{BookIn, LeftIn, Standing, ConfigIn, stands, CellIn, actionOf, GoesOn}
 
@@ -209,32 +209,37 @@ module _ {b : Book} {rules definitions table firsts down up : List ℕ} (B : Boo
   state-low q =
       path-state b (tablesOf b) (premises (B .spelled) (B .sound)) (B .sound .names) (omega (arith, B .sound .limits .states-limit .low)) q
 
-  -- the words of a rule that is to be reduced
-  pub record RuleReady (top : Top) : Type 0 where
+  -- the words of the rule, and the state that its right side leaves on top
+  pub record RuleReady (ks : List Token) (states : List ℕ) (top : Top) : Type 0 where
     pub rule-low : P < MAX-RULES
-    pub size-is : getD rules (10 * P + 1) 0 ≡ length (rightOf (b .rules) P)
+    pub size-is : getD rules (10 * P + 1) 0 ≡ size
     pub owner-is : getD rules (10 * P) 0 ≡ leftOf (b .rules) P
     pub owner-low : getD rules (10 * P) 0 < 32
-    pub deep : getD rules (10 * P + 1) 0 ≤ top .depth
+    pub deep : size ≤ top .depth
     pub depth-low : top .depth ≤ 128
-    pub position-low : top .position ≤ 255
+    pub position-low : top .position ≤ length ks
+    pub state-low : getD states (top .depth - size) 0 < 128
     pub asked : NodeAsked b definitions firsts P (getD rules (10 * P + 1) 0)
 
   module _ {ks : List Token} {states inherited synthesized starts rows : List ℕ} {top : Top} where
-    pub rule-ready : length ks ≤ MAX-TOKENS → {c : Config} → ConfigIn b ks states inherited synthesized starts rows top c
-        → actionOf b c ≡ some (reduce P) → RuleReady top
-    rule-ready few (stands {S = S} {z = z} C) e =
+    pub rule-ready : {c : Config} → ConfigIn b ks states inherited synthesized starts rows top c → CellIn b inherited c → actionOf b c ≡ some (reduce P)
+        → RuleReady ks states top
+    unfolding low
+    rule-ready (stands {S = S} {z = z} C) s e =
         let x : Reduced (B .spelled) (B .sound) S (kind z) P = reduced (B .spelled) (B .sound) S (kind z) P e in
-        let size-is : getD rules (10 * P + 1) 0 ≡ length (rightOf (b .rules) P) = B .rules-in .size-is P (x .there) in
+        let size-is : getD rules (10 * P + 1) 0 ≡ size = B .rules-in .size-is P (x .there) in
         let owner-is : getD rules (10 * P) 0 ≡ leftOf (b .rules) P = B .rules-in .left-is P (x .there) in
+        let off = taken-off C e s in
+        let at : getD states (top .depth - size) 0 ≡ off .state = ap (λ n. getD states (n - size) 0) (C .depth-is) ∙ off .state-is in
         record {
           rule-low = omega (arith, x .there, B .sound .limits .rules-limit .high);
           size-is = size-is;
           owner-is = owner-is;
-          owner-low = omega (arith, B .sound .names .left-sides P (x .later) (x .there) .high, B .sound .limits .nonterminals-limit .high);
-          deep = omega (arith, deep b (tablesOf b) (premises (B .spelled) (B .sound)) (C .path) (length (rightOf (b .rules) P)) (x .complete), C .depth-is);
+          owner-low = omega (arith, left-low C e s);
+          deep = omega (arith, reduce-deep C e s, C .depth-is);
           depth-low = omega (arith, C .depth-is, C .depth-low);
           position-low = omega (arith, C .position-is, C .position-low);
+          state-low = omega (arith, state-low (path-off C e s), B .sound .limits .states-limit .high);
           asked = record {
             ordered = B .spelled .ordered;
             limits = B .sound .limits;
@@ -245,11 +250,6 @@ module _ {b : Book} {rules definitions table firsts down up : List ℕ} (B : Boo
             size-is = size-is;
           };
         }
-
-  -- where an empty node starts, and where one with children does
-  pub record StartOf (starts : List ℕ) (below n position start : ℕ) : Type 0 where
-    pub empty : n ≡ 0 → start ≡ position
-    pub filled : 1 ≤ n → start ≡ getD starts below 0
 
   module _ {ks : List Token} {states inherited synthesized starts rows : List ℕ} {top next : Top} {target owner start : ℕ} {fresh : List ℕ}
       {states′ synthesized′ starts′ rows′ : List ℕ} (L : Stacks states synthesized starts rows) (cells : length inherited ≡ 2064)

@@ -31,7 +31,7 @@ use Rattle.machine.specs.Page.{tokenStored, token-stored}
 use Rattle.machine.specs.Path.{Path, above, path-state}
 use Rattle.machine.specs.Pushes.{Stacks, TokenPushed}
 use Rattle.machine.specs.Records.{Stored, token-in}
-use Rattle.machine.specs.Standing.{BookIn, Standing, ConfigIn, stands, CellIn, kindOf, valueOf, actionOf, GoesOn}
+use Rattle.machine.specs.Standing.{BookIn, Standing, ConfigIn, stands, CellIn, stateOf, kindOf, valueOf, actionOf, GoesOn}
 
 module _ {b : Book} {ks : List Token} {states inherited synthesized starts rows : List ℕ} {top : Top} {st : List Frame} {S p : ℕ} {k : Token}
     {z : List Token} {rs : List Row} (C : Standing b ks states inherited synthesized starts rows top st S (k ∷ z) p rs) where
@@ -88,26 +88,25 @@ module _ {b : Book} {ks : List Token} {states inherited synthesized starts rows 
 -- ---- the move
 
 module _ {b : Book} {rules definitions table : List ℕ} (B : BookIn b rules definitions table) where
-  state-low : {S : ℕ} {st : List Frame} → Path (tablesOf b) S st → S < b .states
+  pub state-low : {S : ℕ} {st : List Frame} → Path (tablesOf b) S st → S < b .states
   state-low q =
       path-state b (tablesOf b) (premises (B .spelled) (B .sound)) (B .sound .names) (omega (arith, B .sound .limits .states-limit .low)) q
 
   module _ {ks : List Token} {states inherited synthesized starts rows : List ℕ} {top next : Top} {target kind value : ℕ}
       {states′ synthesized′ starts′ rows′ : List ℕ} (L : Stacks states synthesized starts rows)
       (push : TokenPushed top target kind value states synthesized starts rows states′ synthesized′ starts′ rows′ next) where
-    pub shift-on : {c : Config} → ConfigIn b ks states inherited synthesized starts rows top c → CellIn b inherited c → actionOf b c ≡ some shift
-        → kind ≡ kindOf c → value ≡ valueOf c → top .depth < 128 → top .rows < 512
-        → target ≡ getD table (64 * getD states (top .depth) 0 + kind) 0 → GoesOn b ks c states′ inherited synthesized′ starts′ rows′ next
-    shift-on (stands {S = S} {z = []} C) s e k v h l t = let g = shift-goes (B .spelled) (B .sound) S 0 e in absurd (omega (arith, g .low))
-    shift-on (stands {st = st} {S = S} {p = p} {z = x ∷ z} {rs = rs} C) s e k v h l t =
+    pub shift-on : {c : Config} {state : ℕ} → ConfigIn b ks states inherited synthesized starts rows top c → CellIn b inherited c → actionOf b c ≡ some shift
+        → state ≡ stateOf c → kind ≡ kindOf c → value ≡ valueOf c → top .depth < 128 → top .rows < 512
+        → target ≡ getD table (64 * state + kind) 0 → GoesOn b ks c states′ inherited synthesized′ starts′ rows′ next
+    shift-on (stands {S = S} {z = []} C) s e i k v h l t = let g = shift-goes (B .spelled) (B .sound) S 0 e in absurd (omega (arith, g .low))
+    shift-on {state = state} (stands {st = st} {S = S} {p = p} {z = x ∷ z} {rs = rs} C) s e i k v h l t =
         let g = shift-goes (B .spelled) (B .sound) S (x .kind) e in
         let low : x .kind < 32 = omega (arith, g .high, B .sound .limits .terminals-limit .high) in
         let room : length st < MAX-STACK = omega (arith, C .depth-is) in
         let line : length rs < MAX-ROWS = omega (arith, C .count-is) in
-        let here : getD states (top .depth) 0 ≡ S = ap (λ n. getD states n 0) (C .depth-is) ∙ C .state-is in
-        let place : 64 * getD states (top .depth) 0 + kind ≡ 64 * S + symbolCode (terminal (x .kind)) = omega (arith, terminal-code (x .kind) low) in
+        let place : 64 * state + kind ≡ 64 * S + symbolCode (terminal (x .kind)) = omega (arith, terminal-code (x .kind) low) in
         let same : g .target ≡ target =
-        sym (t ∙ ap (λ i. getD table i 0) place ∙ target-of (B .spelled) (B .sound) (B .table-in) (terminal (x .kind)) (state-low (C .path))
+        sym (t ∙ ap (λ n. getD table n 0) place ∙ target-of (B .spelled) (B .sound) (B .table-in) (terminal (x .kind)) (state-low (C .path))
         (record { low = g .low; high = g .high }) (g .goes)) in
         let go : tablesOf b .go S (terminal (x .kind)) ≡ some target = g .goes ∙ ap some same in
         record {

@@ -14,3 +14,4 @@ pub mod Tokens
 pub mod Evaluations
 pub mod Promises
 pub mod Sides
+pub mod Driving

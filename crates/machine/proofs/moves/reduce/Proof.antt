@@ -41,8 +41,7 @@ set-top-requires : tie.Need-set-top-requires
 set-top-requires c κs =
     let s = start (c .before .before .before .before .before .before .before .before) in
     let (b, ks, k, D, F, H, X) = s .pre .1 in
-    let R = s .pre .0 in
-    (
+    let R = s .pre .0 in (
       (record { cells-long = R .cells-long; records-long = R .stacks .synthesized-long }, low s .depth-low, low s .kind-low, R .sets-long),
       (b, _, _, _, reduce-asked D H X, low s .state-there, D .plans-held, H .plans-in),
     )

@@ -9,3 +9,9 @@ pub mod Prepared
 pub mod Compiling
 pub mod Readings
 pub mod Rooms
+pub mod Stored
+pub mod Tokens
+pub mod Evaluations
+pub mod Promises
+pub mod Sides
+pub mod Driving

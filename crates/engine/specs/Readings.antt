@@ -45,6 +45,15 @@ module _ (text : List ℕ) (lent : ℕ) where
       go true e = rw (e, readBook, readNumber)
       go false e = rw (e, readBook, readNumber)
 
+  -- as it is answered
+  pub read-number : {number : ℕ} → number ≡ (readBook text lent) .number → number ≡ readNumber text lent
+  unfolding readingOf
+  read-number e = e ∙ ap (λ (reading : Reading). reading .number) read-is ∙ go (readNumber text lent)
+    where
+      go : (n : ℕ) → (readingOf n text lent) .number ≡ n
+      go zero = refl
+      go (suc n) = refl
+
   pub read-taken : {number : ℕ} {words : List ℕ} → number ≡ readNumber text lent → number ≡ 0 → words ≡ pack lent text → Reads (readBook text lent) 0 words
   unfolding readingOf
   read-taken e z w = rw (read-is, sym e ∙ z) (record { number-is = refl; words-are = w })

@@ -1,8 +1,12 @@
 // The two public calls: reading and evaluating.
 pub mod compile;
+pub mod evaluating;
 pub mod packing;
 pub mod reading;
+pub mod sides;
 pub mod states;
+pub mod stored;
+pub mod tokens;
 
 ghost use lib.ListN.{length};
 ghost use Rattle.grammar.specs.Engine.{readBook};

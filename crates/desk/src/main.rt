@@ -1,0 +1,2 @@
+// The desk program: reads a book and a message's tokens from standard input, and writes the rows.
+fn main() {}

@@ -1,2 +1,4 @@
 pub mod Cases
 pub mod Desk
+pub mod Digits
+pub mod Output

@@ -1,2 +1,4 @@
 // The desk program: reads a book and a message's tokens from standard input, and writes the rows.
+mod output;
+
 fn main() {}

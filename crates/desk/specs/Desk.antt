@@ -104,8 +104,11 @@ answerTo (so-far (after-end text numbers) (b ∷ line)) = answer text none
 
 -- The output: "prints row words in order, then the count (or `(refused n)` alone)"
 
+unfoldable pub printWord : ℕ → Printer
+printWord w = literal " " · numeral w
+
 unfoldable pub printRow : List ℕ → Printer
-printRow words = literal "(row" · each (λ w. literal " " · numeral w) words · literal ")\n"
+printRow words = literal "(row" · each printWord words · literal ")\n"
 
 -- the first rows of a page
 unfoldable pub printRows : ℕ → List ℕ → Printer
@@ -121,5 +124,5 @@ deskOutput input = printAnswer (answerTo (allBytes nothingRead input)) []
 
 -- opens every definition of this module
 unfoldable pub opens : Unit {0}
-unfolding isEnd tokenLine spelledBy tokenOf joined oneLine oneByte allBytes answerOf answer answerTo printRow printRows printAnswer deskOutput
+unfolding isEnd tokenLine spelledBy tokenOf joined oneLine oneByte allBytes answerOf answer answerTo printWord printRow printRows printAnswer deskOutput
 opens = tt

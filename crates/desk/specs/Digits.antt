@@ -135,12 +135,12 @@ module _ (n at next : ℕ) (before : List ℕ) where
         let q : next ≡ at + ((next - (at + 1)) + 1) = omega (arith, f .to-come) in
         let b : (r : List ℕ) → numeral v (take (next - (at + 1)) (drop (at + 1) out) ++ r) ≡ numeral n r = rw e at (f .back) in
         let digits : take next (set out i d) ≡ take at before ++ (d ∷ take (next - (at + 1)) (drop (at + 1) out)) =
-            rw t (ap (λ (j : ℕ). take j (set out at d)) q ∙ rw (
-              take-add at ((next - (at + 1)) + 1) (set out at d),
-              take-set-le at out at d (omega arith),
-              f .front,
-              stored out at d (next - (at + 1)) l,
-            )) in
+        rw t (ap (λ (j : ℕ). take j (set out at d)) q ∙ rw (
+          take-add at ((next - (at + 1)) + 1) (set out at d),
+          take-set-le at out at d (omega arith),
+          f .front,
+          stored out at d (next - (at + 1)) l,
+        )) in
         record {
           text-is = λ r.
               rw (digits, z) (append-assoc (take at before) _ r ∙ ap (λ (l : List ℕ). take at before ++ l) (sym (small-digits v _ h) ∙ b r));

@@ -42,7 +42,7 @@ length-written (suc f) n r =
     (λ h. rw (written-large decimal f n r h, written-large decimal f n [] h)
     (omega (arith, length-written f (n / 10) ((48 + n % 10) ∷ r), length-written f (n / 10) ((48 + n % 10) ∷ []))))
 
-length-numeral : (n : ℕ) (r : List ℕ) → length (numeral n r) ≡ width n + length r
+pub length-numeral : (n : ℕ) (r : List ℕ) → length (numeral n r) ≡ width n + length r
 unfolding width write
 length-numeral n r = length-written (suc n) n r
 

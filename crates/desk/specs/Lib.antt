@@ -1,8 +1,12 @@
 pub mod Cases
 pub mod Desk
 pub mod Digits
+pub mod Holds
+pub mod HoldsLaws
+pub mod Kept
 pub mod Lines
 pub mod Output
 pub mod Printing
 pub mod Settled
+pub mod Stands
 pub mod Steps

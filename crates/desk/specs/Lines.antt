@@ -69,12 +69,18 @@ end-reads : spent (endLine (left (bytes "(end)\n"))) ≡ true
 unfolding spent endLine reading
 end-reads = refl
 
-pub end-is : (line : List ℕ) → isEnd line ≡ spent (endLine (left line))
+end-is : (line : List ℕ) → isEnd line ≡ spent (endLine (left line))
 unfolding isEnd
 end-is line =
     same-bool _ _
     (λ h. rw (sameSets-still line (bytes "(end)\n") h) end-reads)
     (λ h. spent-got _ h λ e. rw (end-was line e) (sameSets-self (bytes "(end)\n")))
+
+-- the step of the code
+pub end-steps : (line : List ℕ) (p : ℕ) → rest line p ≡ endLine (rest line 0) → eqb p (length line) ≡ isEnd line
+end-steps line p e =
+    let e₀ : rest line 0 ≡ left line = rest-in line 0 (omega arith) in
+    sym (spent-at line p) ∙ (ap spent (e ∙ ap endLine e₀) ∙ sym (end-is line))
 
 -- A token line
 

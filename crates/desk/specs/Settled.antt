@@ -43,14 +43,10 @@ Long : Input → Type 0
 Long (so-far (before-end text) line) = MAX-TEXT < length (text ++ line)
 Long (so-far (after-end text numbers) line) = MAX-TEXT < length text
 
-long-keeps : (i : Input) (b : ℕ) → Long i → Long (oneByte i b)
+-- a byte after a book text that is as long as it may be
+long-next : (text line : List ℕ) (b : ℕ) → MAX-TEXT ≤ length (text ++ line) → Long (oneByte (so-far (before-end text) line) b)
 unfolding Long
-long-keeps (so-far (after-end text numbers) line) b h = go (eqb b 10) refl
-  where
-    go : (t : Bool) → eqb b 10 ≡ t → Long (oneByte (so-far (after-end text numbers) line) b)
-    go true q = rw (byte-ends _ line b q, line-tokens text (line ▷ b) numbers) h
-    go false q = rw (byte-goes-on _ line b q) h
-long-keeps (so-far (before-end text) line) b h =
+long-next text line b h =
     go (eqb b 10) refl (isEnd (line ▷ b)) refl (omega (arith, length-append text line, length-append text (line ▷ b), length-more line b))
   where
     go : (t : Bool) → eqb b 10 ≡ t → (u : Bool) → isEnd (line ▷ b) ≡ u → MAX-TEXT < length (text ++ (line ▷ b))
@@ -58,6 +54,15 @@ long-keeps (so-far (before-end text) line) b h =
     go false q u p l = rw (byte-goes-on _ line b q) l
     go true q true p l = rw (byte-ends _ line b q, line-ends text (line ▷ b) p) l
     go true q false p l = rw (byte-ends _ line b q, line-goes-on text (line ▷ b) p) (omega (arith, length-append (text ++ (line ▷ b)) []))
+
+long-keeps : (i : Input) (b : ℕ) → Long i → Long (oneByte i b)
+unfolding Long
+long-keeps (so-far (before-end text) line) b h = long-next text line b (omega arith)
+long-keeps (so-far (after-end text numbers) line) b h = go (eqb b 10) refl
+  where
+    go : (t : Bool) → eqb b 10 ≡ t → Long (oneByte (so-far (after-end text numbers) line) b)
+    go true q = rw (byte-ends _ line b q, line-tokens text (line ▷ b) numbers) h
+    go false q = rw (byte-goes-on _ line b q) h
 
 too-long : (text : List ℕ) (numbers : Option (List ℕ)) → MAX-TEXT < length text → answer text numbers ≡ refused 1
 unfolding answer
@@ -69,9 +74,8 @@ long-ends (so-far (before-end text) line) h = too-long (text ++ line) (some []) 
 long-ends (so-far (after-end text numbers) []) h = too-long text numbers h
 long-ends (so-far (after-end text numbers) (b ∷ line)) h = too-long text none h
 
-pub long-settled : (text line : List ℕ) → MAX-TEXT < length (text ++ line) → Settled 1 (so-far (before-end text) line)
-unfolding Long
-long-settled text line h = settles Long long-keeps long-ends (so-far (before-end text) line) h
+pub long-settled : (text line : List ℕ) (b : ℕ) → MAX-TEXT ≤ length (text ++ line) → Settled 1 (oneByte (so-far (before-end text) line) b)
+long-settled text line b h = settles Long long-keeps long-ends (oneByte (so-far (before-end text) line) b) (long-next text line b h)
 
 -- 2
 

@@ -1,0 +1,48 @@
+-- What the code keeps of the input so far: the text of the book and the line at hand in one buffer, the tokens' numbers in another.
+-- Assumes nothing.
+use Prim.Native.Nat.{ℕ, _+_, _≤_}
+use mathlib.Core.Path.{_≡_}
+use mathlib.Core.Option.{some}
+use mathlib.Core.List.{List}
+use lib.ListN.{length}
+use Rattle.text.specs.Table.{table}
+use Rattle.grammar.specs.Limits.{MAX-TEXT}
+use Rattle.desk.specs.declared.input.Progress.{Progress}
+use Rattle.desk.specs.declared.input.Progress.the-variants.{Book, Tokens, Refused}
+use Rattle.desk.specs.Desk.{Input, so-far, before-end, after-end}
+use Rattle.desk.specs.Kept.{KEPT-NUMBERS, Kept}
+use Rattle.desk.specs.Lines.{TOKEN-BYTES}
+use Rattle.desk.specs.Settled.{Settled}
+use Rattle.desk.specs.Stands.{Stands}
+
+-- something is held
+abbrev pub Some : {A : Type 0} → (A → Type 0) → Type 0
+Some {A} H = (x : A) × H x
+
+-- the table of classes, and buffers that have room for a book's text with a token line and for the tokens' numbers
+pub record Buffers (classes text numbers : List ℕ) : Type 0 where
+  pub table-is : classes ≡ table
+  pub text-room : MAX-TEXT + TOKEN-BYTES ≤ length text
+  pub numbers-room : KEPT-NUMBERS ≤ length numbers
+
+pub record HoldsBook (text : List ℕ) (line at : ℕ) (i : Input) : Type 0 where
+  pub whole-lines : List ℕ
+  pub at-hand : List ℕ
+  pub input-is : i ≡ so-far (before-end whole-lines) at-hand
+  pub stands : Stands text whole-lines at-hand line at
+  pub short : at ≤ MAX-TEXT
+
+pub record HoldsTokens (text buffer : List ℕ) (book at count : ℕ) (i : Input) : Type 0 where
+  pub its-text : List ℕ
+  pub numbers : List ℕ
+  pub at-hand : List ℕ
+  pub input-is : i ≡ so-far (after-end its-text (some numbers)) at-hand
+  pub stands : Stands text its-text at-hand book at
+  pub short : book ≤ MAX-TEXT
+  pub line-short : at ≤ book + TOKEN-BYTES
+  pub kept : Kept buffer count numbers
+
+abbrev pub Holds : Progress → (text buffer : List ℕ) → Input → Type 0
+Holds (Book line at) text buffer i = HoldsBook text line at i
+Holds (Tokens book at count) text buffer i = HoldsTokens text buffer book at count i
+Holds (Refused n) text buffer i = Settled n i

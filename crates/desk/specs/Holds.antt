@@ -19,10 +19,14 @@ use Rattle.desk.specs.Stands.{Stands}
 abbrev pub Some : {A : Type 0} → (A → Type 0) → Type 0
 Some {A} H = (x : A) × H x
 
--- the table of classes, and buffers that have room for a book's text with a token line and for the tokens' numbers
+-- a book's text and a token line
+abbrev pub TEXT-ROOM : ℕ
+TEXT-ROOM = 65564
+
+-- the table of classes, and buffers that have room
 pub record Buffers (classes text numbers : List ℕ) : Type 0 where
   pub table-is : classes ≡ table
-  pub text-room : MAX-TEXT + TOKEN-BYTES ≤ length text
+  pub text-room : TEXT-ROOM ≤ length text
   pub numbers-room : KEPT-NUMBERS ≤ length numbers
 
 pub record HoldsBook (text : List ℕ) (line at : ℕ) (i : Input) : Type 0 where

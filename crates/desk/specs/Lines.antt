@@ -11,7 +11,8 @@ use native.Mathlib.Nat.{eq-or-lt-of-le}
 use lib.Dec.{eqb, ltb}
 use lib.ListN.{length, drop-of-length-le}
 use borrow.Author.Tests.{eq-eqb, ne-eqb, eqb-true, eqb-false, ltb-true, ltb-false}
-use Rattle.text.specs.Class.{space}
+use Rattle.text.specs.Class.{space, line-feed, classOf}
+use Rattle.text.specs.ClassLaws.{byteOf, marked}
 use Rattle.text.specs.Rest.{Rest, lost, left, rest, mark}
 use Rattle.text.specs.RestLaws.{left-is, rest-in, rest-at, rest-out}
 use Rattle.text.specs.Numeral.{decimal, letters, wordOf, write, spelled}
@@ -27,6 +28,17 @@ use Rattle.desk.specs.Desk.{isEnd, tokenLine, spelledBy, tokenOf}
 use Rattle.desk.specs.Digits.{width, length-numeral, width-most}
 
 -- Where a line ends
+
+same-bool : (s t : Bool) → (s ≡ true → t ≡ true) → (t ≡ true → s ≡ true) → s ≡ t
+same-bool true t f g = sym (f refl)
+same-bool false true f g = g refl
+same-bool false false f g = refl
+
+pub feed-is : (b : ℕ) → eqb (classOf b) line-feed ≡ eqb b 10
+unfolding classOf byteOf
+feed-is b = same-bool _ _
+    (λ h. eq-eqb b 10 (marked b line-feed (omega arith) (eqb-true (classOf b) line-feed h)))
+    (λ h. rw (eqb-true b 10 h))
 
 -- read to the end
 unfoldable pub spent : Rest → Bool
@@ -53,11 +65,6 @@ unfolding spent
 spent-got lost h k = absurd (let z : _≡_ {A = ℕ} 0 1 = cc in omega arith)
 spent-got (left []) h k = k refl
 spent-got (left (b ∷ bs)) h k = absurd (let z : _≡_ {A = ℕ} 0 1 = cc in omega arith)
-
-same-bool : (s t : Bool) → (s ≡ true → t ≡ true) → (t ≡ true → s ≡ true) → s ≡ t
-same-bool true t f g = sym (f refl)
-same-bool false true f g = g refl
-same-bool false false f g = refl
 
 -- The end line
 
@@ -88,6 +95,14 @@ end-steps line p e =
 unfoldable pub whenSpelled : Bool → List ℕ → Option (List ℕ)
 whenSpelled true numbers = some numbers
 whenSpelled false numbers = none
+
+pub when-true : {s : Bool} (numbers : List ℕ) → s ≡ true → whenSpelled s numbers ≡ some numbers
+unfolding whenSpelled
+when-true numbers e = rw e
+
+pub when-false : {s : Bool} (numbers : List ℕ) → s ≡ false → whenSpelled s numbers ≡ none
+unfolding whenSpelled
+when-false numbers e = rw e
 
 spelled-when : (numbers : List ℕ) (o : Rest) → spelledBy (parsed numbers o) ≡ whenSpelled (spent o) numbers
 unfolding spelledBy spent whenSpelled

@@ -50,3 +50,15 @@ abbrev pub Holds : Progress → (text buffer : List ℕ) → Input → Type 0
 Holds (Book line at) text buffer i = HoldsBook text line at i
 Holds (Tokens book at count) text buffer i = HoldsTokens text buffer book at count i
 Holds (Refused n) text buffer i = Settled n i
+
+-- where the variant is known
+
+module _ (text buffer : List ℕ) (i : Input) {p : Progress} where
+  pub held-book : {line at : ℕ} → p ≡ Book line at → Holds p text buffer i → HoldsBook text line at i
+  held-book e h = rw e at h
+
+  pub held-tokens : {book at count : ℕ} → p ≡ Tokens book at count → Holds p text buffer i → HoldsTokens text buffer book at count i
+  held-tokens e h = rw e at h
+
+  pub held-refused : {n : ℕ} → p ≡ Refused n → Holds p text buffer i → Settled n i
+  held-refused e h = rw e at h

@@ -10,3 +10,4 @@ pub mod Printing
 pub mod Settled
 pub mod Stands
 pub mod Steps
+pub mod Taking

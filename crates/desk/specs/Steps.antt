@@ -51,3 +51,9 @@ none-joined o = refl
 pub some-joined : (xs ys : List ℕ) → joined (some xs) (some ys) ≡ some (xs ++ ys)
 unfolding joined
 some-joined xs ys = refl
+
+-- bytes after bytes
+pub all-append : (i : Input) (xs ys : List ℕ) → allBytes i (xs ++ ys) ≡ allBytes (allBytes i xs) ys
+unfolding allBytes
+all-append i [] ys = refl
+all-append i (x ∷ xs) ys = all-append (oneByte i x) xs ys

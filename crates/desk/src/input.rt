@@ -7,7 +7,7 @@ ghost use lib.Dec.{eqb};
 ghost use lib.ListN.{length};
 ghost use Rattle.text.specs.Table.{table};
 ghost use Rattle.text.specs.Reading.{Lent};
-ghost use Rattle.desk.specs.Desk.{Input, isEnd, tokenOf, oneByte};
+ghost use Rattle.desk.specs.Desk.{Input, isEnd, tokenOf, oneByte, allBytes};
 ghost use Rattle.desk.specs.Lines.{whenSpelled};
 ghost use Rattle.desk.specs.Kept.{KEPT-NUMBERS, Kept};
 ghost use Rattle.desk.specs.Holds.{Some, TEXT-ROOM, Buffers, HoldsBook, HoldsTokens, Holds};
@@ -153,4 +153,32 @@ fn token_byte(
         at: book,
         count: kept,
     }
+}
+
+// One byte more.
+fn one_byte(t: &[u8; 256], progress: Progress, b: u8, text: &mut [u8], numbers: &mut [u32]) -> Progress
+    requires { ⌜ Buffers (now t) (now text) (now numbers) × Some (Holds progress (now text) (now numbers)) ⌝ }
+    ensures { λ r. ⌜ ((i : Input) → Holds progress (now (text .entry)) (now (numbers .entry)) i
+        → Holds r (now (text .exit)) (now (numbers .exit)) (oneByte i b)) ⌝ }
+{
+    match progress {
+        Progress::Book { line, at } => book_byte(t, line, at, b, text),
+        Progress::Tokens { book, at, count } => token_byte(t, book, at, count, b, text, numbers),
+        Progress::Refused(n) => Progress::Refused(n),
+    }
+}
+
+// As many bytes more as there are: what is held of some input is afterwards held of that input with these bytes after it.
+pub fn all_bytes(t: &[u8; 256], progress: Progress, bytes: &[u8], text: &mut [u8], numbers: &mut [u32]) -> Progress
+    requires { ⌜ Buffers (now t) (now text) (now numbers) × Some (Holds progress (now text) (now numbers)) ⌝ }
+    ensures { λ r. ⌜ ((i : Input) → Holds progress (now (text .entry)) (now (numbers .entry)) i
+        → Holds r (now (text .exit)) (now (numbers .exit)) (allBytes i (now (bytes .entry)))) ⌝ }
+{
+    let mut p = progress;
+    let mut k = 0;
+    while k < bytes.len() {
+        p = one_byte(t, p, bytes[k], text, numbers);
+        k += 1;
+    }
+    p
 }

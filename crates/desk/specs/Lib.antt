@@ -1,6 +1,7 @@
 pub mod Cases
 pub mod Desk
 pub mod Digits
+pub mod Figures
 pub mod Holds
 pub mod HoldsLaws
 pub mod Kept

@@ -1,3 +1,4 @@
+pub mod Answers
 pub mod Cases
 pub mod Desk
 pub mod Digits
@@ -8,6 +9,7 @@ pub mod Kept
 pub mod Lines
 pub mod Output
 pub mod Printing
+pub mod Run
 pub mod Settled
 pub mod Stands
 pub mod Steps

@@ -7,9 +7,9 @@ use native.Mathlib.Omega.{arith}
 use lib.ListN.{length, getD, take, drop, drop-of-length-le}
 use lib.Seq.{drop-drop}
 use Rattle.text.specs.RestLaws.{drop-more}
-use Rattle.grammar.specs.Format.Printer.{Printer, literal, numeral, each}
+use Rattle.grammar.specs.Format.Printer.{Printer, each}
 use Rattle.grammar.specs.Limits.{ROW-WORDS, MAX-ROWS, PAGE-WORDS}
-use Rattle.desk.specs.Desk.{Answer, answerOf, printWord, printRow, printRows, printAnswer}
+use Rattle.desk.specs.Desk.{Answer, refused, accepted, answerOf, printWord, printRow, printRows, printAnswer}
 use Rattle.desk.specs.Output.{Puts}
 
 -- `(row`, ten words of a space and up to ten digits, `)` and the line feed
@@ -75,16 +75,17 @@ pub printed : {answer : Answer} {before after : List ℕ} {next most : ℕ} → 
     → Printed answer after next
 printed {after = after} {next} p h = record { text-is = sym (append-nil (take next after)) ∙ p .text-is []; within = omega (arith, p .within) }
 
-module _ (number count : ℕ) (rows : List ℕ) where
-  pub refused-is : (number ≡ 0 → ⊥) → (r : List ℕ) → literal "(refused " (numeral number (literal ")\n" r)) ≡ printAnswer (answerOf number count rows) r
-  unfolding answerOf printAnswer
-  refused-is h r = go number h
-    where
-      go : (n : ℕ) → (n ≡ 0 → ⊥) → literal "(refused " (numeral n (literal ")\n" r)) ≡ printAnswer (answerOf n count rows) r
-      go zero h = absurd (h refl)
-      go (suc n) h = refl
+pub printed-same : {x y : Answer} {out : List ℕ} {next : ℕ} → x ≡ y → Printed x out next → Printed y out next
+printed-same e p = rw (← e) p
 
-  pub accepted-is : number ≡ 0 → (r : List ℕ)
-      → printRows count rows (literal "(accepted " (numeral count (literal ")\n" r))) ≡ printAnswer (answerOf number count rows) r
-  unfolding answerOf printAnswer
-  accepted-is h r = rw h
+pub refused-is : {number : ℕ} (count : ℕ) (rows : List ℕ) → (number ≡ 0 → ⊥) → refused number ≡ answerOf number count rows
+unfolding answerOf
+refused-is {number} count rows h = go number h
+  where
+    go : (n : ℕ) → (n ≡ 0 → ⊥) → refused n ≡ answerOf n count rows
+    go zero h = absurd (h refl)
+    go (suc n) h = refl
+
+pub accepted-is : {number : ℕ} (count : ℕ) (rows : List ℕ) → number ≡ 0 → accepted count rows ≡ answerOf number count rows
+unfolding answerOf
+accepted-is count rows h = rw h

@@ -48,7 +48,7 @@ module _ (bytes text₀ buffer₀ : List ℕ) (p₀ : Progress) where
           buffer-long = f ∙ t .buffer-long;
           holds = λ i h.
               let more : allBytes i (take (k + 1) bytes) ≡ oneByte (allBytes i (take k bytes)) (getD bytes k 0) =
-                  rw (add-one k, take-suc bytes k 0 l) (all-append i (take k bytes) (getD bytes k 0 ∷ [])) in
+              rw (add-one k, take-suc bytes k 0 l) (all-append i (take k bytes) (getD bytes k 0 ∷ [])) in
               rw more (step (allBytes i (take k bytes)) (t .holds i h));
         }
 

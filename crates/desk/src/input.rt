@@ -31,11 +31,7 @@ pub enum Progress {
     // The text of the book so far ends before `at`, and its last line begins at `line`.
     Book { line: usize, at: usize },
     // The text of the book ends before `book`, and the line at hand stands from there up to `at`; there are `count` tokens, or more if it is 256.
-    Tokens {
-        book: usize,
-        at: usize,
-        count: u32,
-    },
+    Tokens { book: usize, at: usize, count: u32 },
     // A refusal that no further input changes.
     Refused(u32),
 }
@@ -156,7 +152,13 @@ fn token_byte(
 }
 
 // One byte more.
-fn one_byte(t: &[u8; 256], progress: Progress, b: u8, text: &mut [u8], numbers: &mut [u32]) -> Progress
+fn one_byte(
+    t: &[u8; 256],
+    progress: Progress,
+    b: u8,
+    text: &mut [u8],
+    numbers: &mut [u32],
+) -> Progress
     requires { ⌜ Buffers (now t) (now text) (now numbers) × Some (Holds progress (now text) (now numbers)) ⌝ }
     ensures { λ r. ⌜ ((i : Input) → Holds progress (now (text .entry)) (now (numbers .entry)) i
         → Holds r (now (text .exit)) (now (numbers .exit)) (oneByte i b)) ⌝ }
@@ -169,7 +171,13 @@ fn one_byte(t: &[u8; 256], progress: Progress, b: u8, text: &mut [u8], numbers: 
 }
 
 // As many bytes more as there are: what is held of some input is afterwards held of that input with these bytes after it.
-pub fn all_bytes(t: &[u8; 256], progress: Progress, bytes: &[u8], text: &mut [u8], numbers: &mut [u32]) -> Progress
+pub fn all_bytes(
+    t: &[u8; 256],
+    progress: Progress,
+    bytes: &[u8],
+    text: &mut [u8],
+    numbers: &mut [u32],
+) -> Progress
     requires { ⌜ Buffers (now t) (now text) (now numbers) × Some (Holds progress (now text) (now numbers)) ⌝ }
     ensures { λ r. ⌜ ((i : Input) → Holds progress (now (text .entry)) (now (numbers .entry)) i
         → Holds r (now (text .exit)) (now (numbers .exit)) (allBytes i (now (bytes .entry)))) ⌝ }

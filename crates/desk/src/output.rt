@@ -5,10 +5,10 @@ ghost use Prim.Native.Nat.{_+_, _*_, _≤_, _<_};
 ghost use lib.ListN.{length};
 ghost use Rattle.grammar.specs.Limits.{ROW-WORDS};
 ghost use Rattle.grammar.specs.Format.Printer.{literal, numeral, each};
-ghost use Rattle.desk.specs.Desk.{answerOf, printWord, printRow, printRows};
+ghost use Rattle.desk.specs.Desk.{refused, answerOf, printWord, printRow, printRows};
 ghost use Rattle.desk.specs.Digits.{Wide};
 ghost use Rattle.desk.specs.Output.{Puts};
-ghost use Rattle.desk.specs.Printing.{ROW-BYTES, Printable, Printed};
+ghost use Rattle.desk.specs.Printing.{ROW-BYTES, OUTPUT-BYTES, Printable, Printed};
 
 fn put_bytes(out: &mut [u8], at: usize, bytes: &[u8]) -> usize
     requires { ⌜ at + length (now bytes) ≤ length (now out) ⌝ }
@@ -118,13 +118,21 @@ fn put_last(out: &mut [u8], at: usize, word: &[u8], n: u32) -> usize
     put_bytes(out, b, b")\n")
 }
 
+// The refusal alone.
+pub fn put_refused(out: &mut [u8], number: u32) -> usize
+    requires { ⌜ OUTPUT-BYTES ≤ length (now out) ⌝ }
+    ensures { λ r. ⌜ Printed (refused number) (now (out .exit)) r ⌝ }
+{
+    put_last(out, 0, b"(refused ", number)
+}
+
 // The whole answer: a refusal, or the rows and their count.
 pub fn put_answer(out: &mut [u8], number: u32, count: u32, rows: &[u32]) -> usize
     requires { ⌜ Printable number count (now rows) (now out) ⌝ }
     ensures { λ r. ⌜ Printed (answerOf number count (now (rows .entry))) (now (out .exit)) r ⌝ }
 {
     if number != 0 {
-        return put_last(out, 0, b"(refused ", number);
+        return put_refused(out, number);
     }
     let a = put_rows(out, 0, rows, count as usize);
     put_last(out, a, b"(accepted ", count)

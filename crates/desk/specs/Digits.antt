@@ -16,7 +16,7 @@ use Rattle.text.specs.Positional.{decimal-positional, written-small, written-la
 use Rattle.grammar.specs.Format.Printer.{numeral}
 use Rattle.desk.specs.Output.{Puts}
 
-by-ten : {C : Type 0} (n : ℕ) → (n < 10 → C) → (10 ≤ n → C) → C
+pub by-ten : {C : Type 0} (n : ℕ) → (n < 10 → C) → (10 ≤ n → C) → C
 by-ten {C} n f g = go (ltb n 10) refl
   where
     go : (t : Bool) → ltb n 10 ≡ t → C

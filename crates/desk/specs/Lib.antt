@@ -1,4 +1,5 @@
 pub mod Answers
+pub mod BookLines
 pub mod Cases
 pub mod Desk
 pub mod Digits
@@ -7,6 +8,7 @@ pub mod Holds
 pub mod HoldsLaws
 pub mod Kept
 pub mod Lines
+pub mod Meaning
 pub mod Output
 pub mod Printing
 pub mod Run
@@ -14,3 +16,5 @@ pub mod Settled
 pub mod Stands
 pub mod Steps
 pub mod Taking
+pub mod TokenLines
+pub mod Unfed

@@ -1,7 +1,7 @@
 -- The steps of the definition, a byte and a line, as laws.
 -- Assumes nothing.
 use Prim.Native.Nat.{ℕ, _+_}
-use mathlib.Core.Path.{_≡_, refl}
+use mathlib.Core.Path.{_≡_, refl, ap}
 use mathlib.Core.Bool.{true, false}
 use mathlib.Core.Option.{Option, none, some}
 use mathlib.Core.List.{List, [], _∷_, _++_}
@@ -57,3 +57,13 @@ pub all-append : (i : Input) (xs ys : List ℕ) → allBytes i (xs ++ ys) ≡ al
 unfolding allBytes
 all-append i [] ys = refl
 all-append i (x ∷ xs) ys = all-append (oneByte i x) xs ys
+
+-- one byte and then the rest
+module _ (lines : Lines) (line : List ℕ) (b : ℕ) (bs : List ℕ) where
+  pub taken-on : eqb b 10 ≡ false → allBytes (so-far lines line) (b ∷ bs) ≡ allBytes (so-far lines (line ▷ b)) bs
+  unfolding allBytes
+  taken-on q = ap (λ i. allBytes i bs) (byte-goes-on lines line b q)
+
+  pub taken-line : eqb b 10 ≡ true → allBytes (so-far lines line) (b ∷ bs) ≡ allBytes (so-far (oneLine lines (line ▷ b)) []) bs
+  unfolding allBytes
+  taken-line q = ap (λ i. allBytes i bs) (byte-ends lines line b q)

@@ -83,7 +83,7 @@ module _ {b : Book} {definitions rules owned masks : List ℕ} (H : CheckHeld b 
   left-below = omega (arith, left-word, H .left-low (lineAt b d .rule) (H .line-in d l .rule-there))
 
   module _ (slots : Slots) (a : ℕ) {rule position : ℕ} (r : rule ≡ getD definitions (49 * d) 0) (p : position ≡ getD definitions (49 * d + 1) 0) where
-    member-is : {t : Bool} → t ≡ bit (getD masks (9 * rule + position - 1) 0) a → memberOf masks a (lineAt b d .rule) (dotOf (lineAt b d)) ≡ t
+    pub member-is : {t : Bool} → t ≡ bit (getD masks (9 * rule + position - 1) 0) a → memberOf masks a (lineAt b d .rule) (dotOf (lineAt b d)) ≡ t
     member-is e =
         let place : 9 * lineAt b d .rule + (lineAt b d .position - 1) ≡ 9 * rule + position - 1 =
         omega (arith, rule-word, position-word, H .line-in d l .position-low) in

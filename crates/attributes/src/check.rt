@@ -17,6 +17,7 @@ ghost use Rattle.attributes.specs.Table.{ROOM};
 ghost use Rattle.attributes.specs.Meaning.{Means};
 ghost use Rattle.attributes.specs.Owned.{KnownIn};
 ghost use Rattle.attributes.specs.Checking.{memberOf, CheckHeld, ProgressIn, Reached, Room};
+use super::alike::alike;
 use super::formulas::formula_of;
 use super::interning::clear;
 use automaton::words::fill;
@@ -32,7 +33,7 @@ pub struct Progress {
 }
 
 // Whether the definition in a line may give its formula: its item is in the partial state, and does not wait for its left side.
-fn due(
+pub fn due(
     definitions: &[u32],
     line: usize,
     terminal: u32,
@@ -292,7 +293,7 @@ fn check(
     )
 }
 
-// 10, of the partial states of one state.
+// 10, of the partial states of one state: of those with the same items, the first is checked.
 pub fn check_state(
     definitions: &[u32],
     lines: usize,
@@ -312,8 +313,13 @@ pub fn check_state(
         → lines ≡ grammar.definitions b → terminals ≡ b .terminals
         → r ≡ allBelow (suc (b .terminals)) (λ a. grammar.check b (memberOf (now (masks .entry)) a))) ⌝ }
 {
+    let mut right = 0u32;
     let mut a = 0;
     while a <= terminals {
+        if sets::has(right, a) {
+            a += 1;
+            continue;
+        }
         if !check(
             definitions,
             lines,
@@ -329,6 +335,8 @@ pub fn check_state(
         ) {
             return false;
         }
+        let more = alike(definitions, lines, a, masks);
+        right = sets::union(right, more);
         a += 1;
     }
     true

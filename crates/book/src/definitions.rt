@@ -24,8 +24,8 @@ use super::spelling::S;
 use super::spelling::SYNDEF;
 use super::spelling::closing;
 use super::spelling::naming;
-use super::spelling::opening;
 use super::store::put_line;
+use lines::opening;
 
 // The words of a definition: rule, position, attribute, number of nodes, and 3 words for each of the nodes that a definition may have.
 pub const WORDS: usize = 4 + 3 * (Book::MAX_NODES as usize);

@@ -19,10 +19,10 @@ use super::order::Keyed;
 use super::order::ascends;
 use super::spelling::GO;
 use super::spelling::closing;
-use super::spelling::opening;
 use super::store::put_line;
 use super::symbol::code_of;
 use super::symbol::symbol;
+use lines::opening;
 
 // The key of a line: its state, then terminals before nonterminals, then the symbol's number.
 fn key_of(state: u32, terminal: bool, number: u32) -> Key

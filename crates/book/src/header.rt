@@ -5,7 +5,7 @@ ghost use Rattle.book.specs.Header.{header, numbersOf};
 ghost use Rattle.book.specs.Sections.{Gives};
 use super::spelling::BOOK;
 use super::spelling::closing;
-use super::spelling::opening;
+use lines::opening;
 
 // How many terminals, nonterminals and states the book has, and where the text goes on.
 pub struct HeaderRead {

@@ -22,8 +22,8 @@ use super::spelling::KERNEL;
 use super::spelling::T;
 use super::spelling::closing;
 use super::spelling::naming;
-use super::spelling::opening;
 use super::store::put_line;
+use lines::opening;
 
 // The lookaheads of a line: how many there are, the largest, the set of those below 32, and where the text goes on.
 struct LookaheadsRead {

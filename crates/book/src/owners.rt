@@ -17,8 +17,8 @@ use super::spelling::S;
 use super::spelling::SYN;
 use super::spelling::closing;
 use super::spelling::naming;
-use super::spelling::opening;
 use super::store::put_line;
+use lines::opening;
 
 // After the head, `iK nA)` with the letter and K given; the owner A goes to its place.
 fn owner_line(

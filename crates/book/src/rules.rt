@@ -14,10 +14,10 @@ use super::spelling::N;
 use super::spelling::RULE;
 use super::spelling::closing;
 use super::spelling::naming;
-use super::spelling::opening;
 use super::store::put_line;
 use super::symbol::code_of;
 use super::symbol::symbol;
+use lines::opening;
 
 // The codes of the right side's first symbols.
 fn right_side(t: &[u8; 256], text: &[u8], at: usize, out: &mut [u32]) -> Section

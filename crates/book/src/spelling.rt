@@ -1,8 +1,8 @@
-// What lines have in common: the head, the end, and the letters of names; and the last line, which has nothing else.
+// What lines have in common: their words, the end, and the letters of names; and the last line, which has nothing else.
 ghost use mathlib.Core.Path.{_≡_};
 ghost use Rattle.text.specs.Rest.{rest};
 ghost use Rattle.text.specs.Reading.{Lent};
-ghost use Rattle.grammar.specs.Format.Reader.{opening, closing, naming};
+ghost use Rattle.grammar.specs.Format.Reader.{closing, naming};
 ghost use Rattle.grammar.specs.Format.Parse.{endLine};
 
 // The words of lines and the letters of names, as numbers in base 32: a is 1, z is 26.
@@ -31,16 +31,6 @@ pub const N: u32 = 14;
 pub const I: u32 = 9;
 
 pub const S: u32 = 19;
-
-// `(word ` at the beginning of a line.
-pub fn opening(t: &[u8; 256], text: &[u8], at: usize, word: u32) -> usize
-    requires { ⌜ Lent (now t) (now text) ⌝ }
-    ensures { λ r. ⌜ rest (now (text .entry)) r ≡ opening word (rest (now (text .entry)) at) ⌝ }
-{
-    let a = text::mark(t, text, at, text::OPEN);
-    let b = text::keyword(t, text, a, word);
-    text::mark(t, text, b, text::SPACE)
-}
 
 // `)` and the line feed.
 pub fn closing(t: &[u8; 256], text: &[u8], at: usize) -> usize

@@ -15,10 +15,6 @@ use Rattle.desk.specs.Lines.{TOKEN-BYTES}
 use Rattle.desk.specs.Settled.{Settled}
 use Rattle.desk.specs.Stands.{Stands}
 
--- something is held
-abbrev pub Some : {A : Type 0} → (A → Type 0) → Type 0
-Some {A} H = (x : A) × H x
-
 -- a book's text and a token line
 abbrev pub TEXT-ROOM : ℕ
 TEXT-ROOM = 65564

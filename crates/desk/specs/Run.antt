@@ -5,10 +5,11 @@ use mathlib.Core.Path.{_≡_, refl, _∙_}
 use mathlib.Core.List.{List, [], _++_}
 use native.Mathlib.Omega.{arith}
 use lib.ListN.{length, take}
+use Rattle.conditions.specs.Answers.{Some}
 use Rattle.desk.specs.declared.input.Progress.{Progress}
 use Rattle.desk.specs.declared.input.Progress.the-variants.{Book}
 use Rattle.desk.specs.Desk.{Input, nothingRead, allBytes, answerTo, deskOutput}
-use Rattle.desk.specs.Holds.{Some, Buffers, Holds}
+use Rattle.desk.specs.Holds.{Buffers, Holds}
 use Rattle.desk.specs.Printing.{OUTPUT-BYTES, Printed}
 use Rattle.desk.specs.Stands.{stands-nothing}
 use Rattle.desk.specs.Steps.{all-append}

@@ -7,9 +7,10 @@ use native.Mathlib.Omega.{arith}
 use native.Mathlib.Numerals.{add-one}
 use lib.ListN.{length, getD, take}
 use lib.Seq.{take-suc, take-all}
+use Rattle.conditions.specs.Answers.{Some}
 use Rattle.desk.specs.declared.input.Progress.{Progress}
 use Rattle.desk.specs.Desk.{Input, oneByte, allBytes}
-use Rattle.desk.specs.Holds.{Some, Buffers, Holds}
+use Rattle.desk.specs.Holds.{Buffers, Holds}
 use Rattle.desk.specs.Steps.{all-append}
 
 -- from p₀, text₀ and buffer₀, after k of the bytes

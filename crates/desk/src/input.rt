@@ -7,15 +7,16 @@ ghost use lib.Dec.{eqb};
 ghost use lib.ListN.{length};
 ghost use Rattle.text.specs.Table.{table};
 ghost use Rattle.text.specs.Reading.{Lent};
+ghost use Rattle.conditions.specs.Answers.{Some};
 ghost use Rattle.desk.specs.Desk.{Input, isEnd, tokenOf, oneByte, allBytes};
 ghost use Rattle.desk.specs.Lines.{whenSpelled};
 ghost use Rattle.desk.specs.Kept.{KEPT-NUMBERS, Kept};
-ghost use Rattle.desk.specs.Holds.{Some, TEXT-ROOM, Buffers, HoldsBook, HoldsTokens, Holds};
+ghost use Rattle.desk.specs.Holds.{TEXT-ROOM, Buffers, HoldsBook, HoldsTokens, Holds};
 use book::Book;
 use book::spelling::closing;
 use book::spelling::end_line;
-use book::spelling::opening;
 use book::store::put_line;
+use lines::opening;
 
 // The word of a token line, as a number in base 32: a is 1, z is 26.
 const TOK: u32 = (20 * 32 + 15) * 32 + 11;

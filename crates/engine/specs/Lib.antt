@@ -4,3 +4,14 @@ pub mod PlacedLaws
 pub mod PackingLoops
 pub mod States
 pub mod StatesRefusal
+pub mod Conditions
+pub mod Prepared
+pub mod Compiling
+pub mod Readings
+pub mod Rooms
+pub mod Stored
+pub mod Tokens
+pub mod Evaluations
+pub mod Promises
+pub mod Sides
+pub mod Driving

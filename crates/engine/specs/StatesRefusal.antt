@@ -4,15 +4,10 @@ use Prim.Native.Nat.{ℕ, zero, suc}
 use mathlib.Core.Path.{_≡_, refl}
 use mathlib.Core.Bool.{Bool, true, false}
 use Rattle.grammar.specs.Data.Book.{Book}
-use Rattle.grammar.specs.Automaton.FirstSets.{setsOf}
-use Rattle.grammar.specs.Automaton.ReachSets.{reachSets}
 use Rattle.grammar.specs.Automaton.StatesCheck.{kernelRules}
-use Rattle.grammar.specs.Automaton.Compiled.{itemsTable, partsTable, oneFormula, statesRefusal}
+use Rattle.grammar.specs.Automaton.Compiled.{statesRefusal}
+use Rattle.attributes.specs.OneFormula.{formulasRight}
 use Rattle.engine.specs.States.{goesRight, actsRight, tablesRefusal, kernels-refused, goes-refused, acts-refused, none-refused}
-
--- in every partial state each attribute has one formula (10)
-abbrev pub formulasRight : Book → Bool
-formulasRight b = oneFormula b (partsTable b (setsOf (b .rules)) (reachSets (b .rules) (setsOf (b .rules))) (itemsTable b (setsOf (b .rules))))
 
 -- a refusal found so far, or else 10 where the formulas are not right
 unfoldable pub withFormulas : ℕ → Bool → ℕ

@@ -1,3 +1,21 @@
 // The two public calls: reading and evaluating.
+pub mod compile;
+pub mod evaluating;
 pub mod packing;
+pub mod reading;
+pub mod sides;
 pub mod states;
+pub mod stored;
+pub mod tokens;
+
+ghost use lib.ListN.{length};
+ghost use Rattle.grammar.specs.Engine.{readBook};
+ghost use Rattle.engine.specs.Readings.{Reads};
+
+// Reading, for callers in C: a slice comes as its pointer and its number of elements.
+#[no_mangle]
+pub extern "C" fn message_book_read(text: &[u8], words: &mut [u32]) -> u32
+    ensures { λ r. ⌜ Reads (readBook (now (text .entry)) (length (now (words .entry)))) r (now (words .exit)) ⌝ }
+{
+    reading::read(text, words)
+}

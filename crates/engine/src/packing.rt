@@ -12,10 +12,10 @@ pub fn clear(words: &mut [u32])
     ensures { λ _. ⌜ now (words .exit) ≡ replicate (length (now (words .entry))) 0 ⌝ }
 {
     let n = words.len();
-    let mut i = 0;
-    while i < n {
-        words[i] = 0;
-        i += 1;
+    let mut cleared = 0;
+    while cleared < n {
+        words[cleared] = 0;
+        cleared += 1;
     }
 }
 

@@ -1,47 +1,81 @@
 -- `check::check_state` meets its contract: the terminals passed have one formula for each attribute.
 -- Assumes nothing.
-use Prim.Native.Nat.{ℕ, suc, _+_, _-_, _≤_}
+use Prim.Native.Nat.{ℕ, suc, _+_, _-_, _<_, _≤_}
 use mathlib.Core.Path.{_≡_, refl, sym, _∙_}
 use mathlib.Core.Bool.{Bool, true}
 use native.Mathlib.Omega.{arith}
 use lib.ListN.{length}
 use borrow.Author.Needs.{needs}
+use borrow.Author.Tests.{not-false}
 use Rattle.grammar.specs.Conditions.Decides.{allBelow}
 use Rattle.grammar.specs.Data.Book.{Book}
 use Rattle.grammar.specs.Formulas.FormulaCheck as grammar
 use Rattle.attributes.specs.Checking.{memberOf, CheckHeld}
 use Rattle.attributes.specs.CheckLaws.{all-start, all-turn, one-fails}
+use Rattle.attributes.specs.Alike.{Right, right-start, right-more}
 use Rattle.attributes.proofs.check.check_state.Statement.{statement}
 use Rattle.attributes.proofs.check.check_state.Tie as tie
 
 abbrev Inv-loop : tie.InvT-loop
-Inv-loop definitions lines terminals masks rules owned slots₀ done₀ table₀ heads₀ nexts₀ a₀ slots done table heads nexts a =
+Inv-loop definitions lines terminals masks rules owned slots₀ done₀ table₀ heads₀ nexts₀ right₀ a₀ slots done table heads nexts right a =
     (a ≤ terminals + 1) × (length slots ≡ length slots₀) × (length done ≡ length done₀) × (length table ≡ length table₀)
     × (length heads ≡ length heads₀) × (length nexts ≡ length nexts₀)
     × ((b : Book) → CheckHeld b definitions rules owned masks → lines ≡ grammar.definitions b
     → allBelow a (λ c. grammar.check b (memberOf masks c)) ≡ true)
+    × ((b : Book) → CheckHeld b definitions rules owned masks → lines ≡ grammar.definitions b → Right b masks right)
 
 abbrev μ-loop : tie.MeasureT-loop
-μ-loop definitions lines terminals masks rules owned slots₀ done₀ table₀ heads₀ nexts₀ a₀ slots done table heads nexts a = terminals + 1 - a
+μ-loop definitions lines terminals masks rules owned slots₀ done₀ table₀ heads₀ nexts₀ right₀ a₀ slots done table heads nexts right a = terminals + 1 - a
 
--- Places: the entry, and the loop where a turn has checked its terminal
+-- Places: the entry, and the turn that has checked its terminal
 
 abbrev entry : tie.At-loop Inv-loop μ-loop → tie.Start Inv-loop μ-loop
 entry c = c .before .before .before .before .before .before .before .before .before .before
 
 abbrev turn : tie.After-check Inv-loop μ-loop → tie.In-loop Inv-loop μ-loop
-turn c = c .before .before .before .before .before .before
+turn c = c .before .before .before .before .before .before .before .before
 
 -- the check of a terminal
 abbrev answer : tie.At-loop Inv-loop μ-loop → Book → ℕ → Bool
 answer c b a = grammar.check b (memberOf (entry c .args .masks .now) a)
 
+-- the terminal of a turn
+low : (c : tie.In-loop Inv-loop μ-loop) → c .before .loop .a < 32
+low c = omega (arith, c .loop-test .taken, entry (c .before) .pre .1)
+
 loop-holds : tie.Need-loop-holds Inv-loop μ-loop
-loop-holds c = (omega arith, refl, refl, refl, refl, refl, λ b H e. all-start _)
+loop-holds c =
+    let s = c .before .before .before .before .before .before .before .before .before in
+    (omega arith, refl, refl, refl, refl, refl, λ b H e. all-start _, λ b H e. right-start b (s .args .masks .now))
+
+has-requires : tie.Need-has-requires Inv-loop μ-loop
+has-requires c κs = low c
+
+add-a : tie.Need-add-a Inv-loop μ-loop
+add-a c = omega (arith, low (c .before .before))
+
+loop-less : tie.Need-loop-less Inv-loop μ-loop
+loop-less c = search needs
+
+loop-again : tie.Need-loop-again Inv-loop μ-loop
+loop-again c =
+    let t = c .before .before in
+    let l = t .before in (
+      omega (arith, t .loop-test .taken),
+      l .loop .inv .1,
+      l .loop .inv .2,
+      l .loop .inv .3,
+      l .loop .inv .4,
+      l .loop .inv .5,
+      λ b H e.
+          all-turn (answer l b) (l .loop .a) (l .loop .inv .6 b H e)
+          (sym (l .loop .inv .7 b H e (l .loop .a) (low t) (sym (c .before .has .ensures) ∙ c .if1 .taken))) refl,
+      l .loop .inv .7,
+    )
 
 check-requires : tie.Need-check-requires Inv-loop μ-loop
 check-requires c κs =
-    let t = c .before .before .before .before .before in
+    let t = c .before .before .before .before .before .before .before in
     let at = t .before .loop in
     let g = entry (t .before) .pre in (
       g .0,
@@ -74,26 +108,42 @@ returns : tie.Need-returns Inv-loop μ-loop
 returns c = λ b H e t.
     let v = c .before .before .before .before .before .before .before .before .before .before .before in
     let l = turn v .before in
-    one-fails (answer l b) (l .loop .a) _ (omega (arith, turn v .loop-test .taken, t)) (v .check .ensures b H e) (c .if1 .taken)
+    one-fails (answer l b) (l .loop .a) _ (omega (arith, turn v .loop-test .taken, t)) (v .check .ensures b H e) (c .if2 .taken)
 
-add-a : tie.Need-add-a Inv-loop μ-loop
-add-a c = search needs
+alike-requires : tie.Need-alike-requires Inv-loop μ-loop
+alike-requires c κs =
+    let t = turn (c .before .before .before .before .before .before .before .before .before .before .before) in
+    let g = entry (t .before) .pre .0 in ((g .0, _, _, g .1, g .2), low t)
 
-loop-less : tie.Need-loop-less Inv-loop μ-loop
-loop-less c = search needs
+union-requires : tie.Need-union-requires Inv-loop μ-loop
+union-requires c κs = search needs
 
-loop-again : tie.Need-loop-again Inv-loop μ-loop
-loop-again c =
-    let v = c .before .before .before .before .before .before .before .before .before .before .before in
-    let l = turn v .before in (
+add-a-2 : tie.Need-add-a-2 Inv-loop μ-loop
+add-a-2 c = omega (arith, low (turn (c .before .before .before .before .before .before .before .before .before .before .before .before .before)))
+
+loop-less-2 : tie.Need-loop-less-2 Inv-loop μ-loop
+loop-less-2 c =
+    let t = turn (c .before .before .before .before .before .before .before .before .before .before .before .before .before) in
+    omega (arith, t .loop-test .taken)
+
+loop-again-2 : tie.Need-loop-again-2 Inv-loop μ-loop
+loop-again-2 c =
+    let v = c .before .before .before .before .before .before .before .before .before .before .before .before .before in
+    let l = turn v .before in
+    let o = c .before .before in
+    let s = entry l in (
       omega (arith, turn v .loop-test .taken),
-      search needs,
-      search needs,
-      search needs,
-      search needs,
-      search needs,
+      v .check .kept .1 .1 .1 .1 .1 .1 .0 ∙ l .loop .inv .1,
+      v .check .kept .1 .1 .1 .1 .1 .1 .1 .0 ∙ l .loop .inv .2,
+      v .check .kept .1 .1 .1 .1 .1 .1 .1 .1 .0 ∙ l .loop .inv .3,
+      v .check .kept .1 .1 .1 .1 .1 .1 .1 .1 .1 .0 ∙ l .loop .inv .4,
+      v .check .kept .1 .1 .1 .1 .1 .1 .1 .1 .1 .1 .0 ∙ l .loop .inv .5,
+      λ b H e. all-turn (answer l b) (l .loop .a) (l .loop .inv .6 b H e) (v .check .ensures b H e) (o .if2 .left),
       λ b H e.
-          all-turn (answer l b) (l .loop .a) (l .loop .inv .6 b H e) (v .check .ensures b H e) (c .if1 .left),
+          rw (c .union .ensures)
+          (right-more b (s .args .masks .now) (l .loop .right) (c .before .alike .result) (l .loop .a) (l .loop .inv .7 b H e)
+          (sym (v .check .ensures b H e) ∙ not-false (v .check .result) (o .if2 .left))
+          (c .before .alike .ensures b (s .args .rules .now) (s .args .owned .now) H e)),
     )
 
 same-length-6 : tie.Need-same-length-6 Inv-loop μ-loop
@@ -124,6 +174,10 @@ check-state-spec =
     Inv-loop
     μ-loop
     loop-holds
+    has-requires
+    add-a
+    loop-less
+    loop-again
     check-requires
     same-length
     same-length-2
@@ -131,9 +185,11 @@ check-state-spec =
     same-length-4
     same-length-5
     returns
-    add-a
-    loop-less
-    loop-again
+    alike-requires
+    union-requires
+    add-a-2
+    loop-less-2
+    loop-again-2
     same-length-6
     same-length-7
     same-length-8

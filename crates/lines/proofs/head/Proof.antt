@@ -1,7 +1,7 @@
 use Rattle.grammar.specs.Format.Reader.{opening}
 use borrow.Author.Needs.{needs}
-use Rattle.book.proofs.spelling.opening.Statement.{statement}
-use Rattle.book.proofs.spelling.opening.Tie as tie
+use Rattle.lines.proofs.head.Statement.{statement}
+use Rattle.lines.proofs.head.Tie as tie
 
 mark-requires : tie.Need-mark-requires
 mark-requires c κs = search needs
@@ -16,5 +16,5 @@ returns : tie.Need-returns
 unfolding opening
 returns c = cc
 
-pub opening-spec : {M : Type 1} → statement M
-opening-spec = tie.close (tie.spec mark-requires keyword-requires mark-requires-2 returns)
+pub head-spec : {M : Type 1} → statement M
+head-spec = tie.close (tie.spec mark-requires keyword-requires mark-requires-2 returns)

@@ -1,0 +1,68 @@
+-- `one_formula::state_right` meets its contract: the check by the sets is that of the state.
+-- Assumes nothing.
+use native.Mathlib.Omega.{arith}
+use mathlib.Core.Path.{_≡_, _∙_}
+use borrow.Author.Needs.{needs}
+use Rattle.attributes.specs.OneFormula.{terminals-low, held-check, state-told}
+use Rattle.attributes.proofs.one_formula.state_right.Statement.{statement}
+use Rattle.attributes.proofs.one_formula.state_right.Tie as tie
+
+-- the entry, as the place where the sets are made knows it
+abbrev entry : tie.After-masks-arg → tie.Start
+entry c = c .before .before .before .before .before .before .before .before .before .before .before .before .before .before .before
+
+masks-requires : tie.Need-masks-requires
+masks-requires c κs =
+    let s = entry c in
+    let g = s .pre .0 in ((g .0, g .1, g .3 .marks-held, g .3 .rules-counted, omega (arith, g .5, g .3 .states-are)), s .pre .1)
+
+check-state-requires : tie.Need-check-state-requires
+check-state-requires c κs =
+    let m = c .before .before .before .before .before .before .before .before in
+    let s = entry (m .before) in
+    let g = s .pre .0 in
+    let M = m .masks .ensures (g .0) (g .1) (g .3 .marks-held) (g .3 .rules-counted) (omega (arith, g .5, g .3 .states-are)) in (
+      (g .0, held-check (g .3) (g .4) (M .long), g .3 .definitions-counted),
+      terminals-low (g .3),
+      s .pre .2,
+    )
+
+same-length : tie.Need-same-length
+same-length c = search needs
+
+same-length-2 : tie.Need-same-length-2
+same-length-2 c = search needs
+
+same-length-3 : tie.Need-same-length-3
+same-length-3 c = search needs
+
+same-length-4 : tie.Need-same-length-4
+same-length-4 c = search needs
+
+same-length-5 : tie.Need-same-length-5
+same-length-5 c = search needs
+
+same-length-6 : tie.Need-same-length-6
+same-length-6 c = search needs
+
+returns : tie.Need-returns
+returns c = λ b firsts states H O l.
+    let v = c .before .before .before .before .before .before .before .before .before .before in
+    let m = v .before .before .before .before .before .before .before .before .before in
+    let M = m .masks .ensures b firsts (H .marks-held) (H .rules-counted) (omega (arith, l, H .states-are)) in
+    v .check-state .ensures b (held-check H O (M .long)) (H .definitions-counted) (H .terminals-are)
+    ∙ state-told H (entry (m .before) .args .state) M
+
+pub state-right-spec : {M : Type 1} → statement M
+state-right-spec =
+    tie.close
+    (tie.spec
+    masks-requires
+    check-state-requires
+    same-length
+    same-length-2
+    same-length-3
+    same-length-4
+    same-length-5
+    same-length-6
+    returns)

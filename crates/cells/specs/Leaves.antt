@@ -1,0 +1,49 @@
+-- The words that leaves read: "A formula leaf names a stack, and with it an offset and an attribute" (01), over the stacks in arrays.
+-- Assumes nothing.
+use Prim.Native.Nat.{ℕ, _+_, _*_, _-_, _≤_, _<_}
+use mathlib.Core.Path.{_≡_}
+use mathlib.Core.List.{List}
+use lib.ListN.{length, getD, take, drop}
+use Rattle.attributes.specs.declared.nodes.Stack.{Stack}
+use Rattle.attributes.specs.declared.nodes.Stack.the-variants.{Inherited, Synthesized}
+use Rattle.attributes.specs.declared.nodes.Leaf.{Leaf}
+use Rattle.attributes.specs.declared.nodes.Leaf.the-variants.{Attribute, TokenValue}
+use Rattle.cells.specs.Frames.{cellValue, recordValue, tokenWord}
+
+-- the two stacks have room for 129 cells and 128 records
+pub record Room (inherited synthesized : List ℕ) : Type 0 where
+  pub cells-long : length inherited ≡ 2064
+  pub records-long : length synthesized ≡ 4224
+
+-- the number n is that of a cell or a record of the stack
+abbrev pub Has : Stack → ℕ → Type 0
+Has Inherited n = n ≤ 128
+Has Synthesized n = n < 128
+
+-- the number of its words
+abbrev pub width : Stack → ℕ
+width Inherited = 16
+width Synthesized = 33
+
+-- the words of a stack's cell or record, and one of them
+abbrev pub partOf : Stack → List ℕ → List ℕ → ℕ → List ℕ
+partOf Inherited inherited synthesized n = take 16 (drop (16 * n) inherited)
+partOf Synthesized inherited synthesized n = take 33 (drop (33 * n) synthesized)
+
+abbrev pub wordOf : Stack → List ℕ → List ℕ → ℕ → ℕ → ℕ
+wordOf Inherited inherited synthesized n k = getD inherited (16 * n + k) 0
+wordOf Synthesized inherited synthesized n k = getD synthesized (33 * n + k) 0
+
+-- a leaf that can be read on a stack of `height` symbols
+abbrev pub Readable : ℕ → Leaf → Type 0
+Readable height (Attribute Inherited offset K) = (offset ≤ height) × (K < 16)
+Readable height (Attribute Synthesized offset K) = (offset < height) × (K < 32)
+Readable height (TokenValue Inherited offset) = Unit {0}
+Readable height (TokenValue Synthesized offset) = offset < height
+
+-- its value; no inherited value is a token's
+abbrev pub leafWord : List ℕ → List ℕ → ℕ → Leaf → ℕ
+leafWord inherited synthesized height (Attribute Inherited offset K) = cellValue inherited (height - offset) K
+leafWord inherited synthesized height (Attribute Synthesized offset K) = recordValue synthesized (height - 1 - offset) K
+leafWord inherited synthesized height (TokenValue Inherited offset) = 0
+leafWord inherited synthesized height (TokenValue Synthesized offset) = tokenWord synthesized (height - 1 - offset)

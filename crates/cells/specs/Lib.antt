@@ -1,0 +1,12 @@
+pub mod CellFrames
+pub mod Cells
+pub mod CellsLaws
+pub mod DefinitionsAsked
+pub mod FrameValues
+pub mod Frames
+pub mod FramesLaws
+pub mod Leaves
+pub mod LeavesLaws
+pub mod TakenCells
+pub mod Values
+pub mod ValuesLaws

@@ -1,0 +1,179 @@
+-- Where the synthesized attributes' definitions of each rule begin: the lines ascend by their rules, so those of one rule stand together.
+-- Assumes nothing.
+use Prim.Native.Nat.{ℕ, zero, suc, _+_, _*_, _-_, _≤_, _<_}
+use mathlib.Core.Path.{_≡_, refl, sym, _∙_}
+use mathlib.Core.List.{List, [], _∷_}
+use native.Mathlib.Omega.{arith}
+use native.Mathlib.Decide.{decLt}
+use lib.ListN.{length, getD, set, length-set}
+use lib.Seq.{getD-set-same, getD-set-other}
+use borrow.Author.Count.{below-more}
+use Rattle.grammar.specs.Limits.{MAX-RULES, MAX-DEFINITIONS}
+use Rattle.grammar.specs.Data.Book.{SynthesizedDefinition, Book}
+use Rattle.grammar.specs.Format.Ordered.{Before, before-less, before-same, Ascends, ascends-∷, synthesizedKey, Ordered}
+use Rattle.grammar.specs.Format.OrderLaws.{ascends-above}
+use Rattle.grammar.specs.Conditions.Meaning.{WithinLimits, Declared}
+use Rattle.book.specs.Held.{DefinitionsIn, synthesizedAt}
+use Rattle.automaton.specs.GoTable.{at-member}
+
+-- the rule of a definition, by its line
+abbrev pub ruleWord : List ℕ → ℕ → ℕ
+ruleWord definitions i = getD definitions (49 * i) 0
+
+-- of the lines from `from` up to `to`, those of rules below P stand before `at`, all others from it on
+pub record Cut (definitions : List ℕ) (from to P at : ℕ) : Type 0 where
+  pub above : from ≤ at
+  pub within : at ≤ to
+  pub lower : (i : ℕ) → from ≤ i → i < at → ruleWord definitions i < P
+  pub upper : (i : ℕ) → at ≤ i → i < to → P ≤ ruleWord definitions i
+
+-- the lines of rule P stand from word P up to word P + 1
+pub record FirstsIn (b : Book) (definitions firsts : List ℕ) : Type 0 where
+  pub long : length firsts ≡ MAX-RULES + 1
+  pub cut : (P : ℕ) → P ≤ length (b .rules)
+      → Cut definitions (length (b .inheritedDefinitions)) (length (b .inheritedDefinitions) + length (b .synthesizedDefinitions)) P (getD firsts P 0)
+
+-- the definitions of a book: the synthesized attributes' lines are those from `from` up to `to`
+pub record LinesIn (b : Book) (definitions : List ℕ) (from to rules : ℕ) : Type 0 where
+  pub ordered : Ordered b
+  pub limits : WithinLimits b
+  pub declared : Declared b
+  pub definitions-in : DefinitionsIn (b .inheritedDefinitions) (b .synthesizedDefinitions) definitions
+  pub from-is : from ≡ length (b .inheritedDefinitions)
+  pub to-is : to ≡ length (b .inheritedDefinitions) + length (b .synthesizedDefinitions)
+  pub rules-are : rules ≡ length (b .rules)
+
+-- ---- lines of one rule, from one line on
+
+pub record Run (definitions : List ℕ) (to rule first i : ℕ) : Type 0 where
+  pub above : first ≤ i
+  pub within : i ≤ to
+  pub all : (j : ℕ) → j < i → first ≤ j → ruleWord definitions j ≡ rule
+
+pub record Passes (definitions : List ℕ) (to rule first i : ℕ) : Type 0 where
+  pub run : Run definitions to rule first i
+  pub ends : i < to → ruleWord definitions i ≡ rule → ⊥
+
+module _ {definitions : List ℕ} {to rule first : ℕ} where
+  pub run-none : first ≤ to → Run definitions to rule first first
+  run-none h = record { above = omega arith; within = h; all = λ j p q. absurd (omega arith) }
+
+  pub run-more : {i : ℕ} → i < to → ruleWord definitions i ≡ rule → Run definitions to rule first i → Run definitions to rule first (i + 1)
+  run-more {i} h e r = record {
+    above = omega (arith, r .above);
+    within = omega arith;
+    all = below-more (λ j. first ≤ j → ruleWord definitions j ≡ rule) i (r .all) (λ p. e);
+  }
+
+-- ---- rule after rule
+
+-- words of rules that ascend
+pub record Sorted (definitions : List ℕ) (from to : ℕ) : Type 0 where
+  pub room : 49 * to ≤ length definitions
+  pub ascend : (i j : ℕ) → from ≤ i → i ≤ j → j < to → ruleWord definitions i ≤ ruleWord definitions j
+
+pub record Starting (definitions : List ℕ) (from to rules : ℕ) (firsts : List ℕ) (at p : ℕ) : Type 0 where
+  pub within : p ≤ rules
+  pub long : length firsts ≡ MAX-RULES + 1
+  pub here : getD firsts p 0 ≡ at
+  pub cuts : (P : ℕ) → P ≤ p → Cut definitions from to P (getD firsts P 0)
+
+pub starting-none : {definitions : List ℕ} {from to rules : ℕ} (firsts : List ℕ) → length firsts ≡ MAX-RULES + 1 → from ≤ to
+    → Starting definitions from to rules (set firsts 0 from) from 0
+starting-none {definitions} {from} {to} firsts long h = record {
+  within = omega arith;
+  long = length-set firsts 0 from ∙ long;
+  here = first;
+  cuts = λ P l.
+      let z : P ≡ 0 = omega arith in
+      rw (z, first) (record { above = omega arith; within = h; lower = λ i p q. absurd (omega arith); upper = λ i p q. omega arith });
+}
+  where
+    first : getD (set firsts 0 from) 0 0 ≡ from
+    first = getD-set-same firsts 0 from 0 (omega arith)
+
+module _ {definitions firsts : List ℕ} {from to rules at p : ℕ} (W : Sorted definitions from to) (few : rules ≤ MAX-RULES)
+    (D : Starting definitions from to rules firsts at p) where
+  pub starting-at : (from ≤ at) × (at ≤ to)
+  starting-at = let c = D .cuts p (omega arith) in (omega (arith, D .here, c .above), omega (arith, D .here, c .within))
+
+  cut-next : {next : ℕ} → Cut definitions from to p at → Passes definitions to p at next → Cut definitions from to (p + 1) next
+  cut-next {next} C R = record {
+    above = omega (arith, C .above, R .run .above);
+    within = R .run .within;
+    lower = λ i l h. by i l h (decLt i at);
+    upper = λ i h l.
+        let first : p ≤ ruleWord definitions next = C .upper next (R .run .above) (omega arith) in
+        let other : ruleWord definitions next ≡ p → ⊥ = R .ends (omega arith) in
+        omega (arith, W .ascend next i (omega (arith, C .above, R .run .above)) h l);
+  }
+    where
+      by : (i : ℕ) → from ≤ i → i < next → Dec (i < at) → ruleWord definitions i < p + 1
+      by i l h (yes b) = omega (arith, C .lower i l b)
+      by i l h (no b) = omega (arith, R .run .all i h (omega arith))
+
+  -- a rule more
+  pub starting-more : {next : ℕ} → p < rules → Passes definitions to p at next → Starting definitions from to rules (set firsts (p + 1) next) next (p + 1)
+  starting-more {next} h R = record {
+    within = omega arith;
+    long = length-set firsts (p + 1) next ∙ D .long;
+    here = last;
+    cuts = λ P l. by P l (decLt P (p + 1));
+  }
+    where
+      last : getD (set firsts (p + 1) next) (p + 1) 0 ≡ next
+      last = getD-set-same firsts (p + 1) next 0 (omega (arith, D .long))
+
+      by : (P : ℕ) → P ≤ p + 1 → Dec (P < p + 1) → Cut definitions from to P (getD (set firsts (p + 1) next) P 0)
+      by P l (yes b) = rw (getD-set-other firsts (p + 1) P next 0 (λ e. omega arith)) (D .cuts P (omega arith))
+      by P l (no b) =
+          let e : P ≡ p + 1 = omega arith in
+          rw (e, last) (cut-next (rw (D .here) at (D .cuts p (omega arith))) R)
+
+-- ---- of a book
+
+first-less : {x y : ℕ} {xs ys : List ℕ} → Before (x ∷ xs) (y ∷ ys) → x ≤ y
+first-less (before-less l) = omega arith
+first-less (before-same l) = omega arith
+
+key-rule : (x y : SynthesizedDefinition) → Before (synthesizedKey x) (synthesizedKey y) → x .rule ≤ y .rule
+unfolding synthesizedKey
+key-rule x y l = first-less l
+
+rules-ascend : {last : List ℕ} (ds : List SynthesizedDefinition) → Ascends synthesizedKey last ds → (i j : ℕ) → i ≤ j → j < length ds
+    → synthesizedAt ds i .rule ≤ synthesizedAt ds j .rule
+rules-ascend [] a i j h l = absurd (omega arith)
+rules-ascend (d ∷ ds) (ascends-∷ b a) zero zero h l = omega arith
+rules-ascend (d ∷ ds) (ascends-∷ b a) zero (suc j) h l =
+    key-rule d (synthesizedAt ds j) (ascends-above a (at-member ds j _ (omega arith)))
+rules-ascend (d ∷ ds) (ascends-∷ b a) (suc i) zero h l = absurd (omega arith)
+rules-ascend (d ∷ ds) (ascends-∷ b a) (suc i) (suc j) h l = rules-ascend ds a i j (omega arith) (omega arith)
+
+module _ {b : Book} {definitions : List ℕ} {from to rules : ℕ} (L : LinesIn b definitions from to rules) where
+  -- the rule of a line is that of its definition
+  pub line-rule : (i : ℕ) → i < length (b .synthesizedDefinitions)
+      → ruleWord definitions (length (b .inheritedDefinitions) + i) ≡ synthesizedAt (b .synthesizedDefinitions) i .rule
+  line-rule i h = L .definitions-in .synthesized-is i h .rule-is
+
+  pub lines-sorted : Sorted definitions from to
+  lines-sorted = record {
+    room = omega (arith, L .to-is, L .definitions-in .long, L .definitions-in .fits);
+    ascend = λ i j h m l.
+        let n : ℕ = length (b .inheritedDefinitions) in
+        let p : i ≡ n + (i - n) = omega (arith, L .from-is) in
+        let q : j ≡ n + (j - n) = omega (arith, L .from-is) in
+        let u : i - n < length (b .synthesizedDefinitions) = omega (arith, L .to-is) in
+        let v : j - n < length (b .synthesizedDefinitions) = omega (arith, L .to-is) in
+        rw (p, q, line-rule (i - n) u, line-rule (j - n) v)
+        (rules-ascend (b .synthesizedDefinitions) (L .ordered .synthesized) (i - n) (j - n) (omega arith) v);
+  }
+
+  pub lines-room : (from ≤ to) × (to ≤ MAX-DEFINITIONS) × (rules ≤ MAX-RULES)
+  lines-room =
+      (omega (arith, L .from-is, L .to-is), omega (arith, L .to-is, L .definitions-in .fits), omega (arith, L .rules-are, L .limits .rules-limit .high))
+
+  pub starting-done : {firsts : List ℕ} {at p : ℕ} → Starting definitions from to rules firsts at p → rules ≤ p → FirstsIn b definitions firsts
+  starting-done D h = record {
+    long = D .long;
+    cut = λ P l. rw (← L .to-is, ← L .from-is) (D .cuts P (omega (arith, L .rules-are)));
+  }

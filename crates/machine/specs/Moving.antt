@@ -1,0 +1,53 @@
+-- What a move over the arrays asks, and what it tells: the next configuration, or the answer with which the run stops. Assumes nothing.
+use Prim.Native.Nat.{ℕ, _+_, _≤_, _<_}
+use mathlib.Core.Path.{_≡_}
+use mathlib.Core.Option.{some}
+use mathlib.Core.List.{List}
+use lib.ListN.{length}
+use Rattle.grammar.specs.Data.Book.{Book}
+use Rattle.grammar.specs.Automaton.States.{shift, reduce}
+use Rattle.grammar.specs.Evaluator.Tree.{Token}
+use Rattle.grammar.specs.Evaluator.Machine.{Config, refused, accepted, more, stop, step}
+use Rattle.grammar.specs.Engine.{tablesOf}
+use Rattle.plans.specs.Plans.{PlansIn, PlansHeld}
+use Rattle.machine.specs.declared.moves.Moved.{Moved}
+use Rattle.machine.specs.declared.moves.Moved.the-variants.{On, Accepted, Refused}
+use Rattle.machine.specs.declared.top.Top.{Top}
+use Rattle.machine.specs.Pushes.{Stacks}
+use Rattle.machine.specs.Standing.{BookIn, Message, ConfigIn, stateOf, kindOf, valueOf, rowsOf, actionOf}
+
+-- the arrays that moves change, as they are lent
+pub record Rooms (states inherited synthesized starts rows sets : List ℕ) : Type 0 where
+  pub stacks : Stacks states synthesized starts rows
+  pub cells-long : length inherited ≡ 2064
+  pub sets-long : length sets ≡ 576
+
+-- a book that is taken, in the arrays that moves read
+pub record Driven (b : Book) (rules : List ℕ) (count : ℕ) (definitions : List ℕ) (lines : ℕ) (owned kernels heads closures nulls reaches table : List ℕ) : Type 0
+  where
+    pub book-in : BookIn b rules definitions table
+    pub plans-held : PlansHeld b rules count definitions lines owned kernels heads closures nulls reaches
+
+-- a configuration over a message, in the arrays that moves change, with the plans that are worked out
+pub record Here (b : Book) (ks : List Token) (c : Config) (states inherited synthesized starts rows counts lists : List ℕ) (top : Top) : Type 0 where
+  pub config-in : ConfigIn b ks states inherited synthesized starts rows top c
+  pub plans-in : PlansIn b counts lists
+  pub message : Message b ks
+
+-- the state and the next token
+pub record Facing (c : Config) (state kind : ℕ) : Type 0 where
+  pub state-is : state ≡ stateOf c
+  pub kind-is : kind ≡ kindOf c
+
+-- a move that goes on
+pub record MovedOn (b : Book) (ks : List Token) (c : Config) (states inherited synthesized starts rows counts lists : List ℕ) (top : Top) : Type 0 where
+  pub then : Config
+  pub moves : step b (tablesOf b) c ≡ more then
+  pub here : Here b ks then states inherited synthesized starts rows counts lists top
+
+-- what a move tells
+module _ (b : Book) (ks : List Token) (c : Config) (states inherited synthesized starts rows counts lists : List ℕ) where
+  abbrev pub Told : Moved → Type 0
+  Told (On top) = MovedOn b ks c states inherited synthesized starts rows counts lists top
+  Told Accepted = step b (tablesOf b) c ≡ stop (accepted (rowsOf c))
+  Told (Refused n) = step b (tablesOf b) c ≡ stop (refused n)

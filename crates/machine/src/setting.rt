@@ -1,0 +1,68 @@
+// The top cell of a move.
+// A contract asks that the arrays hold some book, and says its statement of every book that they hold.
+ghost use mathlib.Core.Path.{_≡_};
+ghost use mathlib.Core.List.{List};
+ghost use Prim.Native.Nat.{ℕ, _≤_, _<_};
+ghost use lib.ListN.{length};
+ghost use Rattle.grammar.specs.Data.Book.{Book};
+ghost use Rattle.grammar.specs.Evaluator.Machine.{Frame};
+ghost use Rattle.plans.specs.Plans.{PlansIn, PlansHeld};
+ghost use Rattle.cells.specs.Leaves.{Room};
+ghost use Rattle.machine.specs.Setting.{TopAsked, TopSet};
+use cells::cells::set_cell;
+use plans::memory::planned;
+
+// Sets the cell over `height` symbols by the plan of a state and a terminal.
+pub fn set_top(
+    rules: &[u32],
+    count: u32,
+    definitions: &[u32],
+    lines: u32,
+    owned: &[u32],
+    kernels: &[u32],
+    heads: &[u32],
+    closures: &[u32],
+    nulls: &[u32],
+    reaches: &[u32],
+    state: usize,
+    kind: u32,
+    height: usize,
+    sets: &mut [u32],
+    counts: &mut [u8],
+    lists: &mut [u8],
+    inherited: &mut [u32],
+    synthesized: &[u32],
+)
+    requires { ⌜ Room (now inherited) (now synthesized) × (height ≤ 128) × (kind < 32) × (length (now sets) ≡ 576) ⌝ }
+    requires { ⌜ ((b : Book) × (states : List ℕ) × (starts : List ℕ) × (st : List Frame)
+        × TopAsked b (now definitions) (now inherited) (now synthesized) state height states starts st × (state < b .states)
+        × PlansHeld b (now rules) count (now definitions) lines (now owned) (now kernels) (now heads) (now closures) (now nulls) (now reaches)
+        × PlansIn b (now counts) (now lists)) ⌝ }
+    ensures { λ _. ⌜ ((b : Book) (states starts : List ℕ) (st : List Frame)
+        → TopAsked b (now (definitions .entry)) (now (inherited .entry)) (now (synthesized .entry)) state height states starts st → state < b .states
+        → PlansHeld b (now (rules .entry)) count (now (definitions .entry)) lines (now (owned .entry)) (now (kernels .entry)) (now (heads .entry))
+        (now (closures .entry)) (now (nulls .entry)) (now (reaches .entry))
+        → PlansIn b (now (counts .entry)) (now (lists .entry))
+        → TopSet b (now (counts .exit)) (now (lists .exit)) (now (inherited .entry)) (now (inherited .exit)) (now (synthesized .entry)) state kind states
+        starts st) ⌝ }
+{
+    let n = planned(
+        rules,
+        count,
+        definitions,
+        lines,
+        owned,
+        kernels,
+        heads,
+        closures,
+        nulls,
+        reaches,
+        state,
+        kind,
+        sets,
+        counts,
+        lists,
+    );
+    let from = 16 * (32 * state + kind as usize);
+    set_cell(definitions, lists, from, n, height, inherited, synthesized);
+}

@@ -1,0 +1,11 @@
+pub mod DueLaws
+pub mod Following
+pub mod MemoryLaws
+pub mod PassLaws
+pub mod PlanCell
+pub mod PlanRows
+pub mod PlanRowsLaws
+pub mod Planning
+pub mod PlanningLaws
+pub mod Plans
+pub mod PlansLaws

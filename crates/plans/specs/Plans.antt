@@ -1,0 +1,39 @@
+-- The plans of all partial states of a book, and the memory of those that are worked out: for the partial state (S, a) byte 32 * S + a of the counts is 0,
+-- or one more than the number of the plan's lines, which then stand in the sixteen bytes of the lists from 16 * (32 * S + a) on. Assumes nothing.
+use Prim.Native.Nat.{ℕ, suc, _+_, _*_, _<_}
+use mathlib.Core.Path.{_≡_}
+use mathlib.Core.List.{List}
+use lib.ListN.{length, getD}
+use Rattle.grammar.specs.Data.Book.{Book}
+use Rattle.grammar.specs.Automaton.FirstSets.{setsOf}
+use Rattle.grammar.specs.Automaton.ReachSets.{reachSets}
+use Rattle.grammar.specs.Formulas.PartialLaws.{partialAt}
+use Rattle.grammar.specs.Formulas.FormulaCheck.{listed}
+use Rattle.grammar.specs.Formulas.Slots.{attributes}
+use Rattle.attributes.specs.Owned.{OwnedIn}
+use Rattle.attributes.specs.OneFormula.{FormulasHeld}
+use Rattle.plans.specs.Planning.{plan}
+
+-- the plan of the partial state (S, a)
+abbrev pub planOf : Book → ℕ → ℕ → List ℕ
+planOf b S a = plan b (listed (partialAt b (setsOf (b .rules)) (reachSets (b .rules) (setsOf (b .rules))) S a))
+
+-- a plan that is worked out, at a place of the memory
+pub record PlanAt (lines counts lists : List ℕ) (place : ℕ) : Type 0 where
+  pub count-is : getD counts place 0 ≡ suc (length lines)
+  pub line-is : (i : ℕ) → i < length lines → getD lists (16 * place + i) 0 ≡ getD lines i 0
+
+-- the memory
+pub record PlansIn (b : Book) (counts lists : List ℕ) : Type 0 where
+  pub counts-long : length counts ≡ 4096
+  pub lists-long : length lists ≡ 65536
+  pub plan-at : (S a : ℕ) → S < b .states → a < 32 → (getD counts (32 * S + a) 0 ≡ 0 → ⊥) → PlanAt (planOf b S a) counts lists (32 * S + a)
+
+-- what the plans ask of a book and of its arrays
+pub record PlansHeld (b : Book) (rules : List ℕ) (count : ℕ) (definitions : List ℕ) (lines : ℕ) (owned kernels starts closures nulls reaches : List ℕ) : Type 0
+  where
+    pub firsts : List ℕ
+    pub terminals : ℕ
+    pub states : ℕ
+    pub formulas-held : FormulasHeld b rules count definitions lines kernels starts closures nulls firsts reaches terminals states
+    pub owned-in : OwnedIn (b .inheritedOwners) (attributes b) owned

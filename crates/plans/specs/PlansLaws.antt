@@ -1,0 +1,109 @@
+-- Laws of the plans of a book: which tests give them, that they set the cells, and how the memory of them grows. Assumes nothing.
+use Prim.Native.Nat.{ℕ, suc, _+_, _*_, _<_, _≤_}
+use native.Mathlib.Numerals.{add-one}
+use native.Mathlib.Omega.{arith}
+use native.Mathlib.Decide.{ℕ-discrete, decLt}
+use mathlib.Core.Path.{_≡_, sym, ap, _∙_}
+use mathlib.Core.Bool.{Bool}
+use mathlib.Core.List.{List}
+use lib.ListN.{length, getD, set, replicate, length-set, length-replicate, getD-replicate}
+use lib.Seq.{getD-set-same, getD-set-other}
+use Rattle.grammar.specs.Limits.{MAX-INHERITED}
+use Rattle.grammar.specs.Data.Book.{Book}
+use Rattle.grammar.specs.Format.Ordered.{Ordered, Spelled}
+use Rattle.grammar.specs.Conditions.Meaning.{WithinLimits, Declared}
+use Rattle.grammar.specs.BookFacts.{small-book}
+use Rattle.grammar.specs.Refusal.{Sound}
+use Rattle.grammar.specs.Engine.{tablesOf}
+use Rattle.grammar.specs.Automaton.FirstSets.{setsOf}
+use Rattle.grammar.specs.Automaton.ReachSets.{reachSets}
+use Rattle.grammar.specs.Automaton.ItemsRightLaws.{book-items-right}
+use Rattle.grammar.specs.Evaluator.Machine.{Frame, cell}
+use Rattle.grammar.specs.Formulas.PartialLaws.{partialAt, partial-items}
+use Rattle.grammar.specs.Formulas.FormulaCheck.{dotOf, lineAt, listed}
+use Rattle.grammar.specs.Formulas.FormulaCheckLaws.{Tells}
+use Rattle.grammar.specs.Formulas.FormulaCheckAll.{listed-tells}
+use Rattle.attributes.specs.Checking.{memberOf}
+use Rattle.attributes.specs.StateMarks.{StateMarksIn}
+use Rattle.attributes.specs.Telling.{memberWithin, tells-same, within-same, within-tells}
+use Rattle.plans.specs.Planning.{applied, plan}
+use Rattle.plans.specs.PlanningLaws.{plan-short, plan-same}
+use Rattle.plans.specs.PlanCell.{planned-cell}
+use Rattle.plans.specs.PlanRows.{PlanRow, Elsewhere}
+use Rattle.plans.specs.Plans.{planOf, PlanAt, PlansIn}
+
+-- The plan of a partial state
+
+module _ {b : Book} (ordered : Ordered b) (limits : WithinLimits b) (declared : Declared b) (S a : ℕ) where
+  listed-tell : Tells b S a (listed (partialAt b (setsOf (b .rules)) (reachSets (b .rules) (setsOf (b .rules))) S a))
+  listed-tell = listed-tells _ (partial-items (book-items-right b (small-book ordered limits declared)) S a)
+
+  -- every test that tells the items gives the plan
+  pub plan-told : {member : ℕ → ℕ → Bool} → Tells b S a member → plan b member ≡ planOf b S a
+  plan-told {member} tells =
+      plan-same b member _ (λ d l. tells-same {b = b} {S = S} {a = a} tells listed-tell (lineAt b d .rule) (dotOf (lineAt b d)))
+
+  -- and so do the sets of terminals of the state's items
+  pub plan-marked : {masks : List ℕ} → StateMarksIn b S masks → a < 32 → plan b (memberOf masks a) ≡ planOf b S a
+  plan-marked {masks} H low =
+      sym (plan-same b (memberWithin masks a) (memberOf masks a) (within-same limits declared masks a))
+      ∙ plan-told (within-tells limits declared ordered S H a low)
+
+-- "Set the top cell's inherited values by the partial state's formulas, 0 where there is none"
+pub plan-sets-cell : {b : Book} → Spelled b → Sound b → (S a : ℕ) (st : List Frame) (K : ℕ)
+    → getD (applied b st (planOf b S a) (replicate MAX-INHERITED 0)) K 0 ≡ cell (tablesOf b) S a st K
+plan-sets-cell {b} spelled s S a =
+    planned-cell spelled s S a _ (listed-tell (spelled .ordered) (s .limits) (s .names) S a)
+
+-- The memory
+
+-- nothing is worked out
+pub plans-none : (b : Book) {counts lists : List ℕ} → counts ≡ replicate 4096 0 → length lists ≡ 65536 → b .states ≤ 128 → PlansIn b counts lists
+plans-none b {counts} {lists} e l few = record {
+  counts-long = ap (length {A = ℕ}) e ∙ length-replicate {A = ℕ} 4096 0;
+  lists-long = l;
+  plan-at = λ S a s low n.
+      absurd (n (ap (λ (c : List ℕ). getD c (32 * S + a) 0) e ∙ getD-replicate {A = ℕ} 4096 (32 * S + a) 0 0 (omega arith)));
+}
+
+-- one plan more
+module _ {b : Book} {counts lists new : List ℕ} (M : PlansIn b counts lists) (few : b .states ≤ 128) {S a n : ℕ} (s : S < b .states) (low : a < 32)
+    (E : Elsewhere (16 * (32 * S + a)) lists new) (R : PlanRow (planOf b S a) new (16 * (32 * S + a)) n) where
+  abbrev place : ℕ
+  place = 32 * S + a
+
+  pub more-here : PlanAt (planOf b S a) (set counts place (n + 1)) new place
+  more-here = record {
+    count-is = getD-set-same counts place (n + 1) 0 (omega (arith, M .counts-long)) ∙ add-one n ∙ ap suc (R .count-is);
+    line-is = R .line-is;
+  }
+
+  more-there : (S′ a′ : ℕ) → S′ < b .states → a′ < 32 → (32 * S′ + a′ ≡ place → ⊥) → PlanAt (planOf b S′ a′) counts lists (32 * S′ + a′)
+      → PlanAt (planOf b S′ a′) (set counts place (n + 1)) new (32 * S′ + a′)
+  more-there S′ a′ s′ low′ other P = record {
+    count-is = getD-set-other counts place (32 * S′ + a′) (n + 1) 0 other ∙ P .count-is;
+    line-is = λ i h. by i (omega (arith, h, few-lines)) (decLt (32 * S′ + a′) place) ∙ P .line-is i h;
+  }
+    where
+      few-lines : length (planOf b S′ a′) ≤ MAX-INHERITED
+      few-lines = plan-short b _
+
+      by : (i : ℕ) → i < 16 → Dec (32 * S′ + a′ < place) → getD new (16 * (32 * S′ + a′) + i) 0 ≡ getD lists (16 * (32 * S′ + a′) + i) 0
+      by i h (yes l) = E .before _ (omega arith)
+      by i h (no m) = E .behind _ (omega (arith, other))
+
+  pub plans-more : PlansIn b (set counts place (n + 1)) new
+  plans-more = record {
+    counts-long = length-set counts place (n + 1) ∙ M .counts-long;
+    lists-long = E .long ∙ M .lists-long;
+    plan-at = λ S′ a′ s′ low′ k. by S′ a′ s′ low′ k (ℕ-discrete (32 * S′ + a′) place);
+  }
+    where
+      by : (S′ a′ : ℕ) → S′ < b .states → a′ < 32 → (getD (set counts place (n + 1)) (32 * S′ + a′) 0 ≡ 0 → ⊥) → Dec (32 * S′ + a′ ≡ place)
+          → PlanAt (planOf b S′ a′) (set counts place (n + 1)) new (32 * S′ + a′)
+      by S′ a′ s′ low′ k (yes e) =
+          let same : S′ ≡ S = omega arith in
+          let also : a′ ≡ a = omega arith in
+          rw (same, also) more-here
+      by S′ a′ s′ low′ k (no m) =
+          more-there S′ a′ s′ low′ m (M .plan-at S′ a′ s′ low′ (λ z. k (getD-set-other counts place (32 * S′ + a′) (n + 1) 0 m ∙ z)))

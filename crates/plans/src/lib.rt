@@ -1,0 +1,3 @@
+// The plan of a partial state: which definitions set the top cell, and in what order.
+pub mod memory;
+pub mod planning;

@@ -1,0 +1,66 @@
+// The plans of partial states, each worked out when it is first asked for.
+// A contract asks that the arrays hold some book, and says its statement of every book that they hold.
+ghost use mathlib.Core.Path.{_≡_};
+ghost use Prim.Native.Nat.{_+_, _*_, _<_};
+ghost use lib.ListN.{length};
+ghost use Rattle.grammar.specs.Data.Book.{Book};
+ghost use Rattle.plans.specs.PlanRows.{PlanRow};
+ghost use Rattle.plans.specs.Plans.{planOf, PlansIn, PlansHeld};
+use super::planning::plan;
+use attributes::masks::masks;
+
+// The plan of a state and a terminal: how many lines it has. They stand in `lists` from byte 16 * (32 * state + terminal) on. `sets` is room for the state's
+// items.
+pub fn planned(
+    rules: &[u32],
+    count: u32,
+    definitions: &[u32],
+    lines: u32,
+    owned: &[u32],
+    kernels: &[u32],
+    starts: &[u32],
+    closures: &[u32],
+    nulls: &[u32],
+    reaches: &[u32],
+    state: usize,
+    terminal: u32,
+    sets: &mut [u32],
+    counts: &mut [u8],
+    lists: &mut [u8],
+) -> usize
+    requires { ⌜ ((b : Book) × PlansHeld b (now rules) count (now definitions) lines (now owned) (now kernels) (now starts) (now closures) (now nulls)
+        (now reaches) × (state < b .states) × PlansIn b (now counts) (now lists)) × (terminal < 32) × (length (now sets) ≡ 576) ⌝ }
+    ensures { λ r. ⌜ ((b : Book) → PlansHeld b (now (rules .entry)) count (now (definitions .entry)) lines (now (owned .entry)) (now (kernels .entry))
+        (now (starts .entry)) (now (closures .entry)) (now (nulls .entry)) (now (reaches .entry)) → state < b .states
+        → PlansIn b (now (counts .entry)) (now (lists .entry))
+        → PlansIn b (now (counts .exit)) (now (lists .exit)) × PlanRow (planOf b state terminal) (now (lists .exit)) (16 * (32 * state + terminal)) r) ⌝ }
+{
+    let place = 32 * state + terminal as usize;
+    let known = counts[place];
+    if known != 0 {
+        return known as usize - 1;
+    }
+    masks(
+        rules,
+        count as usize,
+        kernels,
+        starts,
+        closures,
+        nulls,
+        reaches,
+        state,
+        sets,
+    );
+    let n = plan(
+        definitions,
+        lines as usize,
+        terminal,
+        sets,
+        rules,
+        owned,
+        lists,
+        16 * place,
+    );
+    counts[place] = n as u8 + 1;
+    n
+}

@@ -7,7 +7,8 @@ use Rattle.corpus.proofs.mass.change.Statement.{statement}
 use Rattle.corpus.proofs.mass.change.Tie as tie
 
 abbrev Inv-loop : tie.InvT-loop
-Inv-loop text₀ at words₀ counts₀ k₀ text words counts k = (k ≤ 256) × (length text ≡ length text₀) × (length words ≡ length words₀) × (length counts ≡ length counts₀)
+Inv-loop text₀ at words₀ counts₀ k₀ text words counts k =
+    (k ≤ 256) × (length text ≡ length text₀) × (length words ≡ length words₀) × (length counts ≡ length counts₀)
 
 abbrev μ-loop : tie.MeasureT-loop
 μ-loop text₀ at words₀ counts₀ k₀ text words counts k = 256 - k

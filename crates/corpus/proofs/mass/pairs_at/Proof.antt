@@ -7,7 +7,8 @@ use Rattle.corpus.proofs.mass.pairs_at.Statement.{statement}
 use Rattle.corpus.proofs.mass.pairs_at.Tie as tie
 
 abbrev Inv-loop : tie.InvT-loop
-Inv-loop text₀ at words₀ counts₀ with₀ text words counts with = (with ≤ at) × (length text ≡ length text₀) × (length words ≡ length words₀) × (length counts ≡ length counts₀)
+Inv-loop text₀ at words₀ counts₀ with₀ text words counts with =
+    (with ≤ at) × (length text ≡ length text₀) × (length words ≡ length words₀) × (length counts ≡ length counts₀)
 
 abbrev μ-loop : tie.MeasureT-loop
 μ-loop text₀ at words₀ counts₀ with₀ text words counts with = at - with

@@ -7,7 +7,8 @@ use Rattle.corpus.proofs.mass.random.Statement.{statement}
 use Rattle.corpus.proofs.mass.random.Tie as tie
 
 abbrev Inv-loop : tie.InvT-loop
-Inv-loop text₀ turns words₀ counts₀ seed₀ k₀ text words counts seed k = (k ≤ turns) × (length text ≡ length text₀) × (length words ≡ length words₀) × (length counts ≡ length counts₀)
+Inv-loop text₀ turns words₀ counts₀ seed₀ k₀ text words counts seed k =
+    (k ≤ turns) × (length text ≡ length text₀) × (length words ≡ length words₀) × (length counts ≡ length counts₀)
 
 abbrev μ-loop : tie.MeasureT-loop
 μ-loop text₀ turns words₀ counts₀ seed₀ k₀ text words counts seed k = turns - k

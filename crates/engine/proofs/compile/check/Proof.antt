@@ -6,11 +6,17 @@ use Rattle.engine.proofs.compile.check.Tie as tie
 
 -- from each call back to the one before
 
+abbrev lent-at : tie.After-prepare → tie.After-slice-known7
+lent-at c = c .before .before .before .before .before .before .before .before
+
 abbrev start : tie.After-prepare → tie.Start
-start c = c .before .before .before .before .before .before .before .before .before .before .before .before .before .before .before .before .before .before .before .before .before
+start c = lent-at c .before .before .before .before .before .before .before .before .before .before .before .before .before
+
+abbrev prepared-of : tie.After-slice-known14 → tie.After-prepare
+prepared-of c = c .before .before .before .before .before .before .before .before .before .before .before .before .before .before
 
 abbrev prepare-at : tie.Else1 → tie.After-prepare
-prepare-at c = c .before .before .before .before .before .before .before .before .before .before .before .before .before .before .before
+prepare-at c = prepared-of (c .before)
 
 abbrev ready-at : tie.After-formulas-right → tie.Else1
 ready-at c = c .before .before .before .before .before
@@ -40,7 +46,7 @@ same-length-7 : tie.Need-same-length-7
 same-length-7 c = search needs
 
 returns : tie.Need-returns
-returns c = λ b h. checked-refused (c .before .before .before .before .before .before .before .before .before .before .before .before .before .before .before .prepare .ensures b h) (c .if1 .taken)
+returns c = λ b h. checked-refused (prepared-of (c .before) .prepare .ensures b h) (c .if1 .taken)
 
 formulas-right-requires : tie.Need-formulas-right-requires
 formulas-right-requires c κs = let e = c .before .before .before .before in

@@ -7,14 +7,23 @@ use Rattle.engine.proofs.compile.compile.Tie as tie
 
 -- from each call back to the one before
 
+abbrev lent-at : tie.After-spelling → tie.After-slice-known14
+lent-at c = c .before .before .before .before .before .before .before .before
+
 abbrev start : tie.After-spelling → tie.Start
-start c = c .before .before .before .before .before .before .before .before .before .before .before .before .before .before .before .before .before .before .before .before .before .before .before
+start c = lent-at c .before .before .before .before .before .before .before .before .before .before .before .before .before .before .before
+
+abbrev read-of : tie.After-struct-known → tie.After-spelling
+read-of c = c .before .before .before .before .before .before .before .before .before .before .before .before .before .before .before .before
 
 abbrev spelling-at : tie.Else1 → tie.After-spelling
-spelling-at c = c .before .before .before .before .before .before .before .before .before .before .before .before .before .before .before .before .before
+spelling-at c = read-of (c .before)
 
 abbrev read-at : tie.After-check → tie.Else1
 read-at c = c .before .before .before .before .before .before .before .before .before .before .before .before .before .before
+
+abbrev check-at : tie.After-slice-known28 → tie.After-check
+check-at c = c .before .before .before .before .before .before .before .before .before .before .before .before .before .before
 
 spelling-requires : tie.Need-spelling-requires
 spelling-requires c κs = search needs
@@ -41,7 +50,7 @@ same-length-7 : tie.Need-same-length-7
 same-length-7 c = search needs
 
 returns : tie.Need-returns
-returns c = compiles-misspelt (c .before .before .before .before .before .before .before .before .before .before .before .before .before .before .before .before .before .spelling .ensures) (not-true _ (c .if1 .taken))
+returns c = compiles-misspelt (read-of (c .before) .spelling .ensures) (not-true _ (c .if1 .taken))
 
 check-requires : tie.Need-check-requires
 check-requires c κs = let e = c .before .before .before .before .before .before .before .before .before .before .before .before .before in
@@ -49,16 +58,16 @@ check-requires c κs = let e = c .before .before .before .before .before .before
     (read-some (s .spelling .ensures) (start s .pre .0 .2) (not-false _ (e .if1 .left)), start s .pre .1)
 
 same-length-8 : tie.Need-same-length-8
-same-length-8 c = spelling-at (read-at (c .before .before .before .before .before .before .before .before .before .before .before .before .before .before)) .spelling .kept .1 .1 .0
+same-length-8 c = spelling-at (read-at (check-at c)) .spelling .kept .1 .1 .0
 
 same-length-9 : tie.Need-same-length-9
-same-length-9 c = spelling-at (read-at (c .before .before .before .before .before .before .before .before .before .before .before .before .before .before)) .spelling .kept .1 .1 .1 .0
+same-length-9 c = spelling-at (read-at (check-at c)) .spelling .kept .1 .1 .1 .0
 
 same-length-10 : tie.Need-same-length-10
-same-length-10 c = spelling-at (read-at (c .before .before .before .before .before .before .before .before .before .before .before .before .before .before)) .spelling .kept .1 .1 .1 .1 .0
+same-length-10 c = spelling-at (read-at (check-at c)) .spelling .kept .1 .1 .1 .1 .0
 
 same-length-11 : tie.Need-same-length-11
-same-length-11 c = spelling-at (read-at (c .before .before .before .before .before .before .before .before .before .before .before .before .before .before)) .spelling .kept .1 .1 .1 .1 .1 .0
+same-length-11 c = spelling-at (read-at (check-at c)) .spelling .kept .1 .1 .1 .1 .1 .0
 
 same-length-12 : tie.Need-same-length-12
 same-length-12 c = search needs
@@ -91,7 +100,7 @@ same-length-21 : tie.Need-same-length-21
 same-length-21 c = search needs
 
 returns-2 : tie.Need-returns-2
-returns-2 c = let k = c .before .before .before .before .before .before .before .before .before .before .before .before .before .before in
+returns-2 c = let k = check-at c in
     let e = read-at k in
     let s = spelling-at e in
     compiles-checked (s .spelling .ensures) (start s .pre .0 .2) (not-false _ (e .if1 .left)) (k .check .ensures)

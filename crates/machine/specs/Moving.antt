@@ -1,11 +1,9 @@
 -- What a move over the arrays asks, and what it tells: the next configuration, or the answer with which the run stops. Assumes nothing.
 use Prim.Native.Nat.{ℕ, _+_, _≤_, _<_}
 use mathlib.Core.Path.{_≡_}
-use mathlib.Core.Option.{some}
 use mathlib.Core.List.{List}
 use lib.ListN.{length}
 use Rattle.grammar.specs.Data.Book.{Book}
-use Rattle.grammar.specs.Automaton.States.{shift, reduce}
 use Rattle.grammar.specs.Evaluator.Tree.{Token}
 use Rattle.grammar.specs.Evaluator.Machine.{Config, refused, accepted, more, stop, step}
 use Rattle.grammar.specs.Engine.{tablesOf}
@@ -14,7 +12,7 @@ use Rattle.machine.specs.declared.moves.Moved.{Moved}
 use Rattle.machine.specs.declared.moves.Moved.the-variants.{On, Accepted, Refused}
 use Rattle.machine.specs.declared.top.Top.{Top}
 use Rattle.machine.specs.Pushes.{Stacks}
-use Rattle.machine.specs.Standing.{BookIn, Message, ConfigIn, stateOf, kindOf, valueOf, rowsOf, actionOf}
+use Rattle.machine.specs.Standing.{BookIn, Message, ConfigIn, rowsOf}
 
 -- the arrays that moves change, as they are lent
 pub record Rooms (states inherited synthesized starts rows sets : List ℕ) : Type 0 where
@@ -33,11 +31,6 @@ pub record Here (b : Book) (ks : List Token) (c : Config) (states inherited synt
   pub config-in : ConfigIn b ks states inherited synthesized starts rows top c
   pub plans-in : PlansIn b counts lists
   pub message : Message b ks
-
--- the state and the next token
-pub record Facing (c : Config) (state kind : ℕ) : Type 0 where
-  pub state-is : state ≡ stateOf c
-  pub kind-is : kind ≡ kindOf c
 
 -- a move that goes on
 pub record MovedOn (b : Book) (ks : List Token) (c : Config) (states inherited synthesized starts rows counts lists : List ℕ) (top : Top) : Type 0 where

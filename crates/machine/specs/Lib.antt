@@ -13,6 +13,7 @@ pub mod Records
 pub mod ReduceMove
 pub mod Reductions
 pub mod Running
+pub mod RunningLaws
 pub mod Setting
 pub mod ShiftMove
 pub mod Shifting

@@ -5,6 +5,7 @@ use mathlib.Core.List.{List}
 use lib.ListN.{length}
 use Rattle.grammar.specs.Data.Book.{Book}
 use Rattle.grammar.specs.Evaluator.Tree.{Token}
+use Rattle.grammar.specs.Evaluator.Rows.{page}
 use Rattle.grammar.specs.Evaluator.Machine.{Config, refused, accepted, more, stop, step}
 use Rattle.grammar.specs.Engine.{tablesOf}
 use Rattle.plans.specs.Plans.{PlansIn, PlansHeld}
@@ -38,9 +39,14 @@ pub record MovedOn (b : Book) (ks : List Token) (c : Config) (states inherited s
   pub moves : step b (tablesOf b) c ≡ more then
   pub here : Here b ks then states inherited synthesized starts rows counts lists top
 
+-- the machine accepts, and its rows stand in the lent words
+pub record Accepts (b : Book) (c : Config) (rows : List ℕ) : Type 0 where
+  pub stops : step b (tablesOf b) c ≡ stop (accepted (rowsOf c))
+  pub rows-are : rows ≡ page (rowsOf c)
+
 -- what a move tells
 module _ (b : Book) (ks : List Token) (c : Config) (states inherited synthesized starts rows counts lists : List ℕ) where
-  abbrev pub Told : Moved → Type 0
-  Told (On top) = MovedOn b ks c states inherited synthesized starts rows counts lists top
-  Told Accepted = step b (tablesOf b) c ≡ stop (accepted (rowsOf c))
-  Told (Refused n) = step b (tablesOf b) c ≡ stop (refused n)
+  pub data Told : Moved → Type 0 where
+    told-on : {top : Top} → MovedOn b ks c states inherited synthesized starts rows counts lists top → Told (On top)
+    told-accepted : Accepts b c rows → Told Accepted
+    told-refused : {n : ℕ} → step b (tablesOf b) c ≡ stop (refused n) → Told (Refused n)

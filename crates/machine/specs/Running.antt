@@ -11,7 +11,7 @@ use Rattle.grammar.specs.Automaton.FirstSets.{setsOf}
 use Rattle.grammar.specs.Automaton.States.{shift, accept, reduce}
 use Rattle.grammar.specs.Evaluator.Tree.{Token, next}
 use Rattle.grammar.specs.Evaluator.Rows.{page}
-use Rattle.grammar.specs.Evaluator.Machine.{Config, Answer, refused, accepted, stop, step}
+use Rattle.grammar.specs.Evaluator.Machine.{Config, refused, stop, step}
 use Rattle.grammar.specs.Engine.{tokensOf, tablesOf}
 use Rattle.automaton.specs.Arrays.{ActionsIn}
 use Rattle.machine.specs.declared.action.Move.the-variants.{Shift, Reduce, Accept}
@@ -19,7 +19,7 @@ use Rattle.machine.specs.declared.action.Action.{Action}
 use Rattle.machine.specs.declared.action.Action.the-variants.{Due, None}
 use Rattle.machine.specs.declared.top.Top.{Top}
 use Rattle.machine.specs.Action.{actionAt, meant, action-means}
-use Rattle.machine.specs.Moving.{Driven, Here}
+use Rattle.machine.specs.Moving.{Driven, Here, Accepts}
 use Rattle.machine.specs.MovingLaws.{none-refused, accept-stops}
 use Rattle.machine.specs.ReduceMove.{Reduces, next-declared}
 use Rattle.machine.specs.ShiftMove.{Shifts}
@@ -112,6 +112,10 @@ low-of M (stands C) = record {
   position-low = omega (arith, C .position-is, C .position-low, M .few);
 }
 
+rows-in : {b : Book} {ks : List Token} {c : Config} {states inherited synthesized starts rows : List ℕ} {top : Top}
+    → ConfigIn b ks states inherited synthesized starts rows top c → rows ≡ page (rowsOf c)
+rows-in (stands C) = C .rows-are
+
 module _ {b : Book} {ks : List Token} {c : Config} {rules : List ℕ} {count : ℕ} {definitions : List ℕ} {lines : ℕ}
     {owned kernels heads closures nulls reaches firsts down up table actions tokens : List ℕ}
     {states inherited synthesized starts rows counts lists : List ℕ} {top : Top}
@@ -138,9 +142,9 @@ module _ {b : Book} {ks : List Token} {c : Config} {rules : List ℕ} {count : �
     unfolding meant
     due-none e = none-refused b c (sym means ∙ ap meant e)
 
-    pub due-accept : x ≡ Due Accept → step b (tablesOf b) c ≡ stop (accepted (rowsOf c))
+    pub due-accept : x ≡ Due Accept → Accepts b c rows
     unfolding meant
-    due-accept e = accept-stops b c (sym means ∙ ap meant e)
+    due-accept e = record { stops = accept-stops b c (sym means ∙ ap meant e); rows-are = rows-in (H .config-in) }
 
     pub due-shift : x ≡ Due Shift → {value : ℕ} → value ≡ getD tokens (2 * top .position + 1) 0 → Shifts b c state kind value
     unfolding meant

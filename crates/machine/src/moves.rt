@@ -89,16 +89,7 @@ pub fn shift(
         synthesized,
     );
     let target = table[64 * state + kind as usize] as u32;
-    Moved::On(push_token(
-        top,
-        target,
-        kind,
-        value,
-        states,
-        synthesized,
-        starts,
-        rows,
-    ))
+    Moved::On(push_token(top, target, kind, value, states, synthesized, starts, rows))
 }
 
 // A reduce: the left side of a rule in the place of its right side.

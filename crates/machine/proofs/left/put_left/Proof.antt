@@ -71,8 +71,7 @@ node-values-requires : tie.Need-node-values-requires
 node-values-requires c κs =
     let w = c .before .before .before in
     let A = start w .pre .1 .3 in
-    let R = start w .pre .0 in
-    (
+    let R = start w .pre .0 in (
       (record { cells-long = R .1; records-long = R .0 .synthesized-long }, deep w, left-ready A .depth-low, refl),
       (start w .pre .1 .0, left-asked A (w .word2 .ensures) (w .before .word .ensures)),
     )

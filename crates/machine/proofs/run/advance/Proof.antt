@@ -5,6 +5,7 @@ use native.Mathlib.Omega.{arith}
 use lib.ListN.{getD}
 use borrow.Author.Needs.{needs}
 use Rattle.machine.specs.declared.action.Action.the-variants.{Due}
+use Rattle.machine.specs.Moving.{told-accepted, told-refused}
 use Rattle.machine.specs.Running.{TopLow, Facing, top-low, facing, due-none, due-accept, due-shift, due-reduce}
 use Rattle.machine.proofs.run.advance.Statement.{statement}
 use Rattle.machine.proofs.run.advance.Tie as tie
@@ -65,7 +66,7 @@ returns : tie.Need-returns
 returns c = λ b ks k R H.
     let a = c .before .before in
     let n = numbers-at a in
-    due-none R H (n .before .word .ensures) (n .number .ensures) (a .action-of .ensures) (c .enum-told .given .1)
+    told-refused (due-none R H (n .before .word .ensures) (n .number .ensures) (a .action-of .ensures) (c .enum-told .given .1))
 
 enum-told-2 : tie.Need-enum-told-2
 enum-told-2 c = search needs
@@ -174,7 +175,7 @@ returns-4 c = λ b ks k R H.
     let a = c .before .before .before .before .before in
     let n = numbers-at a in
     let e = c .before .before .before .action .given .1 ∙ ap Due (c .enum-told3 .given .1) in
-    due-accept R H (n .before .word .ensures) (n .number .ensures) (a .action-of .ensures) e
+    told-accepted (due-accept R H (n .before .word .ensures) (n .number .ensures) (a .action-of .ensures) e)
 
 pub advance-spec : {M : Type 1} → statement M
 advance-spec =

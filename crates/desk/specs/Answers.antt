@@ -7,8 +7,10 @@ use mathlib.Core.List.{List, [], _∷_}
 use native.Mathlib.Omega.{arith}
 use lib.ListN.{length, take, length-take}
 use Rattle.grammar.specs.Limits.{MAX-TEXT, BOOK-WORDS, MAX-ROWS, PAGE-WORDS}
-use Rattle.grammar.specs.Engine.{Evaluation}
-use Rattle.grammar.specs.Cases.Cases.{calls}
+use Rattle.grammar.specs.Engine.{Reading, readBook, Evaluation, turnedBack, evaluateWords}
+use Rattle.grammar.specs.Cases.Cases.{afterReading, calls}
+use Rattle.engine.specs.Readings.{Reads}
+use Rattle.engine.specs.Evaluations.{Evaluates}
 use Rattle.desk.specs.Desk.{Input, Answer, refused, accepted, answerOf, evaluated, answer, answerTo}
 use Rattle.desk.specs.Figures.{few-rows, calls-kept, answer-evaluated}
 use Rattle.desk.specs.Holds.{HoldsBook, HoldsTokens}
@@ -24,6 +26,33 @@ pub record Lengths (words rows : List ℕ) : Type 0 where
 -- the answer that a refusal or 0, a row count and the rows give is the evaluation's
 pub record Figured (e : Evaluation) (number count : ℕ) (rows : List ℕ) : Type 0 where
   pub answer-is : answerOf number count rows ≡ evaluated e
+
+module _ (text tokens : List ℕ) where
+  after-refused : (r : Reading) (n : ℕ) (rows : List ℕ) → n ≡ r .number → (n ≡ 0 → ⊥) → answerOf n 0 rows ≡ evaluated (afterReading r tokens)
+  unfolding afterReading turnedBack answerOf
+  after-refused r zero rows e h = absurd (h refl)
+  after-refused r (suc n) rows e h = rw (← e, afterReading)
+
+  after-taken : (r : Reading) → 0 ≡ r .number → afterReading r tokens ≡ evaluateWords (r .words) tokens PAGE-WORDS
+  unfolding afterReading
+  after-taken r e = rw (← e, afterReading)
+
+  -- reading refuses the text
+  pub figured-refused : {n lent : ℕ} {words : List ℕ} (rows : List ℕ) → lent ≡ BOOK-WORDS → Reads (readBook text lent) n words → (n ≡ 0 → ⊥)
+      → Figured (calls text tokens) n 0 rows
+  unfolding calls
+  figured-refused {n} rows l r h = record { answer-is = after-refused (readBook text BOOK-WORDS) n rows (rw l at (r .number-is)) h }
+
+  -- reading takes the text, and evaluating answers
+  pub figured-evaluated : {n lent page number count : ℕ} {words rows : List ℕ} → lent ≡ BOOK-WORDS → page ≡ PAGE-WORDS → Reads (readBook text lent) n words
+      → n ≡ 0 → Evaluates (evaluateWords words tokens page) number rows count → Figured (calls text tokens) number count rows
+  unfolding calls
+  figured-evaluated {page = page} {number} {count} {words} {rows} l p r z e =
+      let reading : Reading = readBook text BOOK-WORDS in
+      let w : words ≡ reading .words = rw l at (r .words-are) in
+      let taken : 0 ≡ reading .number = sym z ∙ rw l at (r .number-is) in
+      let said : calls text tokens ≡ evaluateWords words tokens page = after-taken reading taken ∙ rw (w, p) in
+      record { answer-is = rw (said, ← e .number-is, ← e .count-is, ← e .rows-are) }
 
 same-count : (m c n : ℕ) (rows : List ℕ) (k : ℕ) (page : List ℕ) → answerOf m c rows ≡ answerOf n k page → m ≡ 0 → (n ≡ 0) × (c ≡ k)
 unfolding answerOf

@@ -1,7 +1,6 @@
 -- 01's example, S with three tokens, and small inputs that tell the first end line from a later one and a misspelt token from a refused book.
 -- Assumes nothing.
-use mathlib.Core.Path.{_≡_, refl, ap, _∙_}
-use mathlib.Core.Option.{none, some}
+use mathlib.Core.Path.{_≡_, refl, ap}
 use mathlib.Core.List.{List, [], _∷_, _++_, map, List·Memᴰ·head, List·Memᴰ·tail}
 use Prim.Native.Nat.{ℕ}
 use Prim.Native.String.{String}
@@ -17,9 +16,9 @@ use Rattle.grammar.specs.Evaluator.Machine.{accepted}
 use Rattle.grammar.specs.Evaluator.Rows.{Row, token-row, node-row, opens as opens-rows}
 use Rattle.grammar.specs.Engine.{evaluationOf}
 use Rattle.grammar.specs.Cases.CaseBooks.{unlines, change, S, opens as opens-books}
-use Rattle.grammar.specs.Cases.Cases.{Case, calls, starred, table}
+use Rattle.grammar.specs.Cases.Cases.{calls, starred, table}
 use Rattle.grammar.specs.Cases.CasesProof.{cases}
-use Rattle.desk.specs.Desk.{so-far, before-end, after-end, nothingRead, allBytes, answer, evaluated, printAnswer, deskOutput}
+use Rattle.desk.specs.Desk.{evaluated, printAnswer, deskOutput}
 use Rattle.desk.specs.Desk.{opens as opens-desk}
 
 -- opens all that reading lines and printing rows compute with
@@ -32,10 +31,6 @@ message = 1 ∷ 100 ∷ 2 ∷ 5 ∷ 2 ∷ 7 ∷ []
 
 abbrev S-input : List String
 S-input = S ++ ("(tok 1 100)" ∷ "(tok 2 5)" ∷ "(tok 2 7)" ∷ [])
-
-S-read : allBytes nothingRead (unlines S-input) ≡ so-far (after-end (unlines S) (some message)) []
-unfolding opens
-S-read = refl
 
 -- what 01 shows for it
 abbrev S-output : List String

@@ -1,5 +1,5 @@
--- The desk program (01, "S, run by the desk program"), as a function from the bytes of standard input to the bytes of standard output.
--- Assumes nothing.
+-- The desk program (01, "S, run by the desk program"), as a function from the bytes of standard input to the bytes of standard output. Meaning.antt says
+-- what it gives for an input that is spelled right, Cases.antt computes 01's example. Assumes nothing.
 use Prim.Native.Nat.{ℕ, zero, suc}
 use mathlib.Core.Bool.{Bool, true, false}
 use mathlib.Core.Option.{Option, none, some}

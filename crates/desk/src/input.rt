@@ -27,6 +27,12 @@ const TOKEN_BYTES: usize = 28;
 // One token more than a message can have.
 const KEPT_TOKENS: u32 = 256;
 
+// The numbers of these tokens.
+pub const KEPT_NUMBERS: usize = 512;
+
+// The longest text of a book and the longest token line.
+pub const TEXT_ROOM: usize = 65564;
+
 // What has been read.
 pub enum Progress {
     // The text of the book so far ends before `at`, and its last line begins at `line`.

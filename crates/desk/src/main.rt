@@ -10,8 +10,13 @@ ghost use Rattle.desk.specs.Printing.{OUTPUT-BYTES};
 ghost use Rattle.desk.specs.Answers.{Lengths};
 ghost use Rattle.desk.specs.Run.{Reached, Ran};
 use answer::answer;
+use book::Book;
+use input::KEPT_NUMBERS;
 use input::Progress;
+use input::TEXT_ROOM;
 use input::all_bytes;
+use output::OUTPUT_BYTES;
+use output::PAGE_WORDS;
 
 // What was read, and whether that is all of the input.
 struct Taken {
@@ -75,11 +80,11 @@ fn run(
 fn main() {
     let t = text::classes();
     let mut chunk = [0u8; 65536];
-    let mut text = [0u8; 65564];
-    let mut numbers = [0u32; 512];
-    let mut words = [0u32; 16384];
-    let mut rows = [0u32; 5120];
-    let mut out = [0u8; 59414];
+    let mut text = [0u8; TEXT_ROOM];
+    let mut numbers = [0u32; KEPT_NUMBERS];
+    let mut words = [0u32; Book::BOOK_WORDS];
+    let mut rows = [0u32; PAGE_WORDS];
+    let mut out = [0u8; OUTPUT_BYTES];
     let n = run(
         &t,
         &mut chunk,

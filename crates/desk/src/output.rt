@@ -10,6 +10,12 @@ ghost use Rattle.desk.specs.Digits.{Wide};
 ghost use Rattle.desk.specs.Output.{Puts};
 ghost use Rattle.desk.specs.Printing.{ROW-BYTES, OUTPUT-BYTES, Printable, Printed};
 
+// Words of all rows.
+pub const PAGE_WORDS: usize = 5120;
+
+// The longest answer: 512 rows of 116 bytes, and the last line.
+pub const OUTPUT_BYTES: usize = 59414;
+
 fn put_bytes(out: &mut [u8], at: usize, bytes: &[u8]) -> usize
     requires { ⌜ at + length (now bytes) ≤ length (now out) ⌝ }
     ensures { λ r. ⌜ Puts (λ s. now (bytes .entry) ++ s) (length (now (bytes .entry))) (now (out .entry)) at (now (out .exit)) r ⌝ }

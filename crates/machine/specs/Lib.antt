@@ -1,4 +1,5 @@
 pub mod Action
+pub mod Answers
 pub mod Firsts
 pub mod Goes
 pub mod LeftMove
@@ -6,6 +7,7 @@ pub mod Lists
 pub mod Moving
 pub mod MovingLaws
 pub mod NodeValues
+pub mod Owners
 pub mod Page
 pub mod Path
 pub mod Pushes

@@ -22,10 +22,10 @@ pub record Rooms (states inherited synthesized starts rows sets : List ℕ) : Ty
   pub sets-long : length sets ≡ 576
 
 -- a book that is taken, in the arrays that moves read
-pub record Driven (b : Book) (rules : List ℕ) (count : ℕ) (definitions : List ℕ) (lines : ℕ) (owned kernels heads closures nulls reaches table : List ℕ) : Type 0
-  where
-    pub book-in : BookIn b rules definitions table
-    pub plans-held : PlansHeld b rules count definitions lines owned kernels heads closures nulls reaches
+pub record Driven (b : Book) (rules : List ℕ) (count : ℕ) (definitions : List ℕ) (lines : ℕ)
+    (owned kernels heads closures nulls reaches table : List ℕ) : Type 0 where
+  pub book-in : BookIn b rules definitions table
+  pub plans-held : PlansHeld b rules count definitions lines owned kernels heads closures nulls reaches
 
 -- a configuration over a message, in the arrays that moves change, with the plans that are worked out
 pub record Here (b : Book) (ks : List Token) (c : Config) (states inherited synthesized starts rows counts lists : List ℕ) (top : Top) : Type 0 where

@@ -71,10 +71,14 @@ member-at (d ∷ ds) (in-head e) = (0, omega arith, sym e)
 member-at (d ∷ ds) (in-tail m) = let (i, l, e) = member-at ds m in (suc i, omega arith, e)
 
 module _ {b : Book} {definitions firsts : List ℕ} {P size : ℕ} (A : NodeAsked b definitions firsts P size) where
-  here : Cut definitions (length (b .inheritedDefinitions)) (length (b .inheritedDefinitions) + length (b .synthesizedDefinitions)) P (getD firsts P 0)
+  abbrev CutAt : ℕ → Type 0
+  CutAt R =
+      Cut definitions (length (b .inheritedDefinitions)) (length (b .inheritedDefinitions) + length (b .synthesizedDefinitions)) R (getD firsts R 0)
+
+  here : CutAt P
   here = A .firsts-in .cut P (omega (arith, A .rule-there))
 
-  next : Cut definitions (length (b .inheritedDefinitions)) (length (b .inheritedDefinitions) + length (b .synthesizedDefinitions)) (P + 1) (getD firsts (P + 1) 0)
+  next : CutAt (P + 1)
   next = A .firsts-in .cut (P + 1) (omega (arith, A .rule-there))
 
   pub last-within : (getD firsts (P + 1) 0 ≤ 128) × (P + 1 < length firsts)

@@ -54,7 +54,8 @@ same-node : (P : ℕ) {r r′ start start′ : ℕ} {is is′ ss ss′ out out�
     → nodeStored r P start is ss out ≡ nodeStored r′ P start′ is′ ss′ out′
 same-node P e f g h i = cc
 
-module _ {b : Book} {rules definitions table firsts down up : List ℕ} (B : BookIn b rules definitions table) (F : LeftIn b definitions firsts down up) (P : ℕ) where
+module _ {b : Book} {rules definitions table firsts down up : List ℕ} (B : BookIn b rules definitions table) (F : LeftIn b definitions firsts down up)
+    (P : ℕ) where
   abbrev size : ℕ
   size = length (rightOf (b .rules) P)
 

@@ -79,7 +79,8 @@ pub record Facing (b : Book) (c : Config) (top : Top) (state kind value : ℕ) :
   pub kind-low : kind < 32
 
 facing-of : {b : Book} {ks : List Token} {c : Config} {rules definitions table states inherited synthesized starts rows : List ℕ} {top : Top}
-    (tokens : List ℕ) → BookIn b rules definitions table → tokensOf tokens ≡ some ks → Message b ks → ConfigIn b ks states inherited synthesized starts rows top c
+    (tokens : List ℕ) → BookIn b rules definitions table → tokensOf tokens ≡ some ks → Message b ks
+    → ConfigIn b ks states inherited synthesized starts rows top c
     → Facing b c top (getD states (top .depth) 0) (getD tokens (2 * top .position) 0) (getD tokens (2 * top .position + 1) 0)
 facing-of {b} {ks} {states = states} {top = top} tokens B t M (stands {S = S} {p = p} {z = z} C) =
     let s : getD states (top .depth) 0 ≡ S = ap (λ n. getD states n 0) (C .depth-is) ∙ C .state-is in

@@ -42,7 +42,9 @@ mul-firsts : tie.Need-mul-firsts Inv-loop μ-loop
 mul-firsts c = omega (arith, lines-room (c .before .before .before .before .before .pre .0 .1), c .before .loop-test .taken)
 
 slice-write-firsts-2 : tie.Need-slice-write-firsts-2 Inv-loop μ-loop
-slice-write-firsts-2 c = omega (arith, lines-room (c .before .before .before .before .before .pre .0 .1), c .before .loop-test .taken, c .before .before .loop .inv .long)
+slice-write-firsts-2 c =
+    let t = c .before in
+    omega (arith, lines-room (t .before .before .before .before .pre .0 .1), t .loop-test .taken, t .before .loop .inv .long)
 
 loop-less : tie.Need-loop-less Inv-loop μ-loop
 loop-less c = omega (arith, c .before .loop-test .taken)

@@ -50,13 +50,17 @@ mul-place : tie.Need-mul-place
 mul-place c = omega (arith, rule-low (c .before .before .before .before .before .before .before .before .before .before .before))
 
 word-requires : tie.Need-word-requires
-word-requires c κs = omega (arith, rule-low (c .before .before .before .before .before .before .before .before .before .before .before), rules-long (c .before .before .before .before .before .before .before .before .before .before .before))
+word-requires c κs =
+    let s = c .before .before .before .before .before .before .before .before .before .before .before in
+    omega (arith, rule-low s, rules-long s)
 
 add-word : tie.Need-add-word
 add-word c = omega (arith, rule-low (c .before .before .before .before .before .before .before .before .before .before .before .before))
 
 word-requires-2 : tie.Need-word-requires-2
-word-requires-2 c κs = omega (arith, rule-low (c .before .before .before .before .before .before .before .before .before .before .before .before), rules-long (c .before .before .before .before .before .before .before .before .before .before .before .before))
+word-requires-2 c κs =
+    let s = c .before .before .before .before .before .before .before .before .before .before .before .before in
+    omega (arith, rule-low s, rules-long s)
 
 sub-below : tie.Need-sub-below
 sub-below c = omega (arith, deep (c .before))

@@ -11,7 +11,9 @@ use Rattle.machine.proofs.moves.reduce.Tie as tie
 -- from each call back to the one before
 
 abbrev start : tie.Else1 → tie.Start
-start c = c .before .before .before .before .before .before .before .before .before .before .before .before .before .before .before .before .before .before .before .before .before .before
+start c =
+    c .before .before .before .before .before .before .before .before .before .before .before
+    .before .before .before .before .before .before .before .before .before .before .before
 
 abbrev tests-at : tie.After-set-top → tie.Else2
 tests-at c = c .before .before .before .before .before .before
@@ -55,7 +57,8 @@ put-left-requires c κs =
     let (b, ks, k, D, F, H, X) = s .pre .1 in
     let R = s .pre .0 in
     let T = q .set-top .ensures b _ _ _ (reduce-asked D H X) (low s .state-there) (D .plans-held) (H .plans-in) in
-    ((R .stacks, T .cell-in .long ∙ R .cells-long), (b, ks, k, reduce-left D H X F T (t .before .before .word .ensures) (t .before .before .before .if1 .left) (t .if2 .left)))
+    let A = reduce-left D H X F T (t .before .before .word .ensures) (t .before .before .before .if1 .left) (t .if2 .left) in
+    ((R .stacks, T .cell-in .long ∙ R .cells-long), (b, ks, k, A))
 
 same-length : tie.Need-same-length
 same-length c = search needs

@@ -12,7 +12,9 @@ use Rattle.machine.proofs.moves.shift.Tie as tie
 -- from each call back to the one before
 
 abbrev start : tie.Else2 → tie.Start
-start c = c .before .before .before .before .before .before .before .before .before .before .before .before .before .before .before .before .before .before .before .before .before
+start c =
+    c .before .before .before .before .before .before .before .before .before .before .before
+    .before .before .before .before .before .before .before .before .before .before
 
 abbrev tests-at : tie.After-set-top → tie.Else2
 tests-at c = c .before .before .before .before .before .before
@@ -25,7 +27,8 @@ low : (c : tie.Start) → ShiftLow (c .pre .1 .0) (c .args .top) (c .args .state
 low c = let s = c .pre .1 in shift-low (s .3) (s .4) (s .5)
 
 returns : tie.Need-returns
-returns c = λ b ks k D H X. told-refused (shift-rows (D .book-in) (H .config-in) (X .action-is) (c .if1 .taken))
+returns c = λ b ks k D H X.
+    told-refused (shift-rows (D .book-in) (H .config-in) (X .action-is) (c .if1 .taken))
 
 returns-2 : tie.Need-returns-2
 returns-2 c = λ b ks k D H X. told-refused (shift-symbols (D .book-in) (H .config-in) (X .action-is) (c .before .before .if1 .left) (c .if2 .taken))
@@ -52,14 +55,18 @@ shared-slice-read-target c =
     omega (arith, l .state-low, l .kind-low, s .pre .1 .3 .book-in .table-in .long)
 
 cast-target : tie.Need-cast-target
-cast-target c = let s = start (tests-at (c .before .before .before .before .before .before .before .before .before)) .args in omega (arith, c .shared-slice-known10 .given (64 * s .state + s .kind))
+cast-target c =
+    let s = start (tests-at (c .before .before .before .before .before .before .before .before .before)) .args in
+    omega (arith, c .shared-slice-known10 .given (64 * s .state + s .kind))
 
 push-token-requires : tie.Need-push-token-requires
 push-token-requires c κs =
     let t = tests-at (c .before .before .before .before .before .before .before .before .before .before .before .before .before) in
     let s = start t in
     let l = low s in
-    (s .pre .0 .stacks, (omega (arith, l .depth-low, t .if2 .left), room-left (s .pre .1 .3 .book-in) (s .pre .1 .4 .config-in) (t .before .before .if1 .left), l .position-low, l .kind-low))
+    let (b, ks, k, D, H, X) = s .pre .1 in
+    let rows = room-left (D .book-in) (H .config-in) (t .before .before .if1 .left) in
+    (s .pre .0 .stacks, (omega (arith, l .depth-low, t .if2 .left), rows, l .position-low, l .kind-low))
 
 same-length : tie.Need-same-length
 same-length c = search needs

@@ -17,17 +17,26 @@ Inv-loop definitions firsts rule size height inherited synthesized fresh₀ last
 abbrev μ-loop : tie.MeasureT-loop
 μ-loop definitions firsts rule size height inherited synthesized fresh₀ last line₀ fresh line = last - line
 
+abbrev start : tie.After-word Inv-loop μ-loop → tie.Start Inv-loop μ-loop
+start c = c .before .before .before .before .before .before
+
+abbrev loop-start : tie.At-loop Inv-loop μ-loop → tie.Start Inv-loop μ-loop
+loop-start c = start (c .before .before)
+
 -- a line of the loop is one of the rule's
 module _ (c : tie.In-loop Inv-loop μ-loop) where
-  line-at : (b : Book) → NodeAsked b (c .before .before .before .before .before .before .before .before .before .args .definitions .now) (c .before .before .before .before .before .before .before .before .before .args .firsts .now) (c .before .before .before .before .before .before .before .before .before .args .rule) (c .before .before .before .before .before .before .before .before .before .args .size)
-      → LineOf b (c .before .before .before .before .before .before .before .before .before .args .definitions .now) (c .before .before .before .before .before .before .before .before .before .args .rule) (c .before .before .before .before .before .before .before .before .before .args .size) (c .before .loop .line)
+  abbrev s : tie.Start Inv-loop μ-loop
+  s = loop-start (c .before)
+
+  line-at : (b : Book) → NodeAsked b (s .args .definitions .now) (s .args .firsts .now) (s .args .rule) (s .args .size)
+      → LineOf b (s .args .definitions .now) (s .args .rule) (s .args .size) (c .before .loop .line)
   line-at b A = line-of A (c .before .loop .line) (c .before .loop .inv .0) (omega (arith, c .before .before .before .word .ensures, c .loop-test .taken))
 
-  line-there : LineOf (c .before .before .before .before .before .before .before .before .before .pre .1 .0) (c .before .before .before .before .before .before .before .before .before .args .definitions .now) (c .before .before .before .before .before .before .before .before .before .args .rule) (c .before .before .before .before .before .before .before .before .before .args .size) (c .before .loop .line)
-  line-there = line-at (c .before .before .before .before .before .before .before .before .before .pre .1 .0) (c .before .before .before .before .before .before .before .before .before .pre .1 .1)
+  line-there : LineOf (s .pre .1 .0) (s .args .definitions .now) (s .args .rule) (s .args .size) (c .before .loop .line)
+  line-there = line-at (s .pre .1 .0) (s .pre .1 .1)
 
-  room : length (c .before .before .before .before .before .before .before .before .before .args .definitions .now) ≡ 6272
-  room = c .before .before .before .before .before .before .before .before .before .pre .1 .1 .definitions-in .long
+  room : length (s .args .definitions .now) ≡ 6272
+  room = s .pre .1 .1 .definitions-in .long
 
 add-word : tie.Need-add-word Inv-loop μ-loop
 add-word c = omega (arith, last-within (c .before .before .before .before .before .pre .1 .1) .1)
@@ -36,13 +45,13 @@ word-requires : tie.Need-word-requires Inv-loop μ-loop
 word-requires c κs = last-within (c .before .before .before .before .before .pre .1 .1) .1
 
 word-requires-2 : tie.Need-word-requires-2 Inv-loop μ-loop
-word-requires-2 c κs = omega (arith, last-within (c .before .before .before .before .before .before .pre .1 .1) .1)
+word-requires-2 c κs = omega (arith, last-within (start c .pre .1 .1) .1)
 
 loop-holds : tie.Need-loop-holds Inv-loop μ-loop
-loop-holds c = (omega (arith, c .word2 .ensures), λ b A. rw (c .word2 .ensures) (values-none A (c .before .before .before .before .before .before .before .pre .0 .3)))
+loop-holds c = (omega (arith, c .word2 .ensures), λ b A. rw (c .word2 .ensures) (values-none A (start (c .before) .pre .0 .3)))
 
 value-requires : tie.Need-value-requires Inv-loop μ-loop
-value-requires c κs = ((c .before .before .before .before .before .before .before .before .before .pre .0 .0, c .before .before .before .before .before .before .before .before .before .pre .0 .1, c .before .before .before .before .before .before .before .before .before .pre .0 .2), (_, line-there c .asked))
+value-requires c κs = let p = s c .pre in ((p .0 .0, p .0 .1, p .0 .2), (_, line-there c .asked))
 
 mul-word : tie.Need-mul-word Inv-loop μ-loop
 mul-word c = omega (arith, line-there (c .before) .low)
@@ -60,7 +69,9 @@ mul-fresh : tie.Need-mul-fresh Inv-loop μ-loop
 mul-fresh c = omega (arith, line-there (c .before .before) .attribute-low, c .word3 .ensures)
 
 slice-write-fresh : tie.Need-slice-write-fresh Inv-loop μ-loop
-slice-write-fresh c = omega (arith, line-there (c .before .before) .attribute-low, c .word3 .ensures, c .before .before .before .loop .inv .1 _ (c .before .before .before .before .before .before .before .before .before .before .before .pre .1 .1) .long)
+slice-write-fresh c =
+    let t = c .before .before in
+    omega (arith, line-there t .attribute-low, c .word3 .ensures, t .before .loop .inv .1 _ (s t .pre .1 .1) .long)
 
 add-line : tie.Need-add-line Inv-loop μ-loop
 add-line c = omega (arith, line-there (c .before .before) .low)
@@ -69,13 +80,16 @@ loop-less : tie.Need-loop-less Inv-loop μ-loop
 loop-less c = omega (arith, c .before .before .loop-test .taken)
 
 loop-again : tie.Need-loop-again Inv-loop μ-loop
-loop-again c = (
-  omega (arith, c .before .before .before .loop .inv .0),
-  λ b A. values-turn A (line-at (c .before .before) b A) (c .before .before .before .loop .inv .1 b A) (c .word3 .ensures) (c .before .value .ensures),
-)
+loop-again c =
+    let t = c .before .before in
+    let at = t .before .loop in
+    (omega (arith, at .inv .0), λ b A. values-turn A (line-at t b A) (at .inv .1 b A) (c .word3 .ensures) (c .before .value .ensures))
 
 same-length : tie.Need-same-length Inv-loop μ-loop
-same-length c = omega (arith, c .before .loop .inv .1 _ (c .before .before .before .before .before .before .before .before .before .pre .1 .1) .long, values-none (c .before .before .before .before .before .before .before .before .before .pre .1 .1) {base = 0} {inherited = []} {synthesized = []} (c .before .before .before .before .before .before .before .before .before .pre .0 .3) .long)
+same-length c =
+    let p = loop-start (c .before) .pre in
+    let none = values-none (p .1 .1) {base = 0} {inherited = []} {synthesized = []} (p .0 .3) in
+    omega (arith, c .before .loop .inv .1 _ (p .1 .1) .long, none .long)
 
 returns : tie.Need-returns Inv-loop μ-loop
 returns c = λ b A. values-end A (c .before .loop .inv .1 b A) (omega (arith, c .before .before .before .word .ensures, c .loop-test .left))

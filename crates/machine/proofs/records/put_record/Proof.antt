@@ -41,7 +41,9 @@ loop-less : tie.Need-loop-less Inv-loop μ-loop
 loop-less c = search needs
 
 loop-again : tie.Need-loop-again Inv-loop μ-loop
-loop-again c = (omega (arith, c .before .loop-test .taken), stored-more (c .before .before .loop .inv .1) (omega (arith, c .before .before .before .pre, c .before .loop-test .taken)))
+loop-again c =
+    let taken = c .before .loop-test .taken in
+    (omega (arith, taken), stored-more (c .before .before .loop .inv .1) (omega (arith, c .before .before .before .pre, taken)))
 
 same-length : tie.Need-same-length Inv-loop μ-loop
 same-length c = omega (arith, c .before .loop .inv .1 .long)

@@ -12,8 +12,13 @@ use Rattle.machine.proofs.run.advance.Tie as tie
 
 -- from each place back to the one before
 
-abbrev start : tie.After-number → tie.Start
-start c = c .before .before .before .before .before .before .before .before .before .before .before .before .before .before .before .before .before .before .before .before .before .before .before .before .before .before
+abbrev start : tie.After-struct-known → tie.Start
+start c =
+    c .before .before .before .before .before .before .before .before .before .before .before
+    .before .before .before .before .before .before .before .before .before .before .before .before
+
+abbrev entry : tie.After-number → tie.Start
+entry c = start (c .before .before .before)
 
 abbrev numbers-at : tie.After-action-of → tie.After-number
 numbers-at c = c .before .before
@@ -27,28 +32,28 @@ face : (c : tie.Start) → Facing (c .pre .1 .0) (c .pre .1 .2) (c .args .top) (
 face c = facing (c .pre .1 .3) (c .pre .1 .4)
 
 mul-at : tie.Need-mul-at
-mul-at c = omega (arith, low (c .before .before .before .before .before .before .before .before .before .before .before .before .before .before .before .before .before .before .before .before .before .before .before) .position-low)
+mul-at c = omega (arith, low (start c) .position-low)
 
 word-requires : tie.Need-word-requires
-word-requires c κs = let s = c .before .before .before .before .before .before .before .before .before .before .before .before .before .before .before .before .before .before .before .before .before .before .before .before in omega (arith, low s .depth-low, s .pre .0 .stacks .states-long)
+word-requires c κs = let s = start (c .before) in omega (arith, low s .depth-low, s .pre .0 .stacks .states-long)
 
 number-requires : tie.Need-number-requires
 number-requires c κs = search needs
 
 mul-action-of : tie.Need-mul-action-of
-mul-action-of c = omega (arith, face (start c) .state-low, c .before .word .ensures)
+mul-action-of c = omega (arith, face (entry c) .state-low, c .before .word .ensures)
 
 cast-action-of : tie.Need-cast-action-of
 cast-action-of c = search needs
 
 add-action-of : tie.Need-add-action-of
-add-action-of c = let F = face (start c) in omega (arith, F .state-low, F .kind-low, c .before .word .ensures, c .number .ensures)
+add-action-of c = let F = face (entry c) in omega (arith, F .state-low, F .kind-low, c .before .word .ensures, c .number .ensures)
 
 shared-slice-read-action-of : tie.Need-shared-slice-read-action-of
 shared-slice-read-action-of c =
     let n = c .before in
-    let F = face (start n) in
-    omega (arith, F .state-low, F .kind-low, n .before .word .ensures, n .number .ensures, start n .pre .1 .3 .actions-in .long)
+    let F = face (entry n) in
+    omega (arith, F .state-low, F .kind-low, n .before .word .ensures, n .number .ensures, entry n .pre .1 .3 .actions-in .long)
 
 action-of-requires : tie.Need-action-of-requires
 action-of-requires c κs = search needs
@@ -72,31 +77,35 @@ enum-told-2 : tie.Need-enum-told-2
 enum-told-2 c = search needs
 
 add-number : tie.Need-add-number
-add-number c = omega (arith, low (start (numbers-at (c .before .before .before .before .before))) .position-low)
+add-number c = omega (arith, low (entry (numbers-at (c .before .before .before .before .before))) .position-low)
 
 number-requires-2 : tie.Need-number-requires-2
 number-requires-2 c κs = search needs
 
 shift-requires : tie.Need-shift-requires
 shift-requires c κs =
-    let a = c .before .before .before .before .before .before .before .before .before .before .before .before .before .before in
+    let v = c .before .before .before .before .before .before .before .before in
+    let d = v .before .before .before .before in
+    let a = d .before .before in
     let n = numbers-at a in
-    let (b, ks, k, R, H) = start n .pre .1 in
-    let e = c .before .before .before .before .before .before .before .before .before .before .before .before .action .given .1 ∙ ap Due (c .before .before .before .before .before .before .before .before .before .enum-told2 .given .1) in
-    let X = due-shift R H (n .before .word .ensures) (n .number .ensures) (a .action-of .ensures) e (c .before .before .before .before .before .before .before .before .number2 .ensures) in
-    (start n .pre .0, (b, ks, k, R .driven, H, X))
+    let (b, ks, k, R, H) = entry n .pre .1 in
+    let e = d .action .given .1 ∙ ap Due (v .before .enum-told2 .given .1) in
+    let X = due-shift R H (n .before .word .ensures) (n .number .ensures) (a .action-of .ensures) e (v .number2 .ensures) in
+    (entry n .pre .0, (b, ks, k, R .driven, H, X))
 
 enum-known-due : tie.Need-enum-known-due
 enum-known-due c = search needs
 
 reduce-requires : tie.Need-reduce-requires
 reduce-requires c κs =
-    let a = c .before .before .before .before .before .before .before .before .before .before .before .before .before .before in
+    let v = c .before .before .before .before .before .before .before .before .before in
+    let d = v .before .before .before in
+    let a = d .before .before in
     let n = numbers-at a in
-    let (b, ks, k, R, H) = start n .pre .1 in
-    let e = c .before .before .before .before .before .before .before .before .before .before .before .before .action .given .1 ∙ ap Due (c .before .before .before .before .before .before .before .before .before .due .given .1) in
+    let (b, ks, k, R, H) = entry n .pre .1 in
+    let e = d .action .given .1 ∙ ap Due (v .due .given .1) in
     let X = due-reduce R H (n .before .word .ensures) (n .number .ensures) (a .action-of .ensures) e in
-    (start n .pre .0, (b, ks, k, R .driven, R .left-in, H, X))
+    (entry n .pre .0, (b, ks, k, R .driven, R .left-in, H, X))
 
 enum-told-3 : tie.Need-enum-told-3
 enum-told-3 c = search needs
@@ -128,10 +137,12 @@ same-length-9 c = search needs
 returns-2 : tie.Need-returns-2
 returns-2 c = λ b ks k R H.
     let s = c .before .before .before .before .before .before .before .before .before .before .before .before .before .before .before .before in
-    let a = c .before .before .before .before .before .before .before .before .before .before .before .before .before .before .before .before .before .before .before .before .before .before .before .before .before .before .before .before .before .before .before in
+    let v = s .before .before .before .before .before .before .before .before .before in
+    let d = v .before .before .before .before in
+    let a = d .before .before in
     let n = numbers-at a in
-    let e = c .before .before .before .before .before .before .before .before .before .before .before .before .before .before .before .before .before .before .before .before .before .before .before .before .before .before .before .before .before .action .given .1 ∙ ap Due (c .before .before .before .before .before .before .before .before .before .before .before .before .before .before .before .before .before .before .before .before .before .before .before .before .before .before .enum-told2 .given .1) in
-    let X = due-shift R H (n .before .word .ensures) (n .number .ensures) (a .action-of .ensures) e (c .before .before .before .before .before .before .before .before .before .before .before .before .before .before .before .before .before .before .before .before .before .before .before .before .before .number2 .ensures) in
+    let e = d .action .given .1 ∙ ap Due (v .before .enum-told2 .given .1) in
+    let X = due-shift R H (n .before .word .ensures) (n .number .ensures) (a .action-of .ensures) e (v .number2 .ensures) in
     s .shift .ensures b ks k (R .driven) H X
 
 same-length-10 : tie.Need-same-length-10
@@ -161,9 +172,11 @@ same-length-17 c = search needs
 returns-3 : tie.Need-returns-3
 returns-3 c = λ b ks k R H.
     let s = c .before .before .before .before .before .before .before .before .before .before .before .before .before .before .before .before in
-    let a = c .before .before .before .before .before .before .before .before .before .before .before .before .before .before .before .before .before .before .before .before .before .before .before .before .before .before .before .before .before .before .before in
+    let v = s .before .before .before .before .before .before .before .before .before .before in
+    let d = v .before .before .before in
+    let a = d .before .before in
     let n = numbers-at a in
-    let e = c .before .before .before .before .before .before .before .before .before .before .before .before .before .before .before .before .before .before .before .before .before .before .before .before .before .before .before .before .before .action .given .1 ∙ ap Due (c .before .before .before .before .before .before .before .before .before .before .before .before .before .before .before .before .before .before .before .before .before .before .before .before .before .before .due .given .1) in
+    let e = d .action .given .1 ∙ ap Due (v .due .given .1) in
     let X = due-reduce R H (n .before .word .ensures) (n .number .ensures) (a .action-of .ensures) e in
     s .reduce .ensures b ks k (R .driven) (R .left-in) H X
 

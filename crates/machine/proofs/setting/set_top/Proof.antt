@@ -6,28 +6,39 @@ use Rattle.machine.specs.Setting.{top-asked, top-short, top-set}
 use Rattle.machine.proofs.setting.set_top.Statement.{statement}
 use Rattle.machine.proofs.setting.set_top.Tie as tie
 
+-- from each call back to the one before
+
+abbrev start : tie.After-planned-arg3 → tie.Start
+start c = c .before .before .before .before .before .before .before .before .before .before .before .before .before .before .before .before
+
+abbrev planned-at : tie.After-set-cell → tie.After-planned
+planned-at c = c .before .before .before .before .before .before .before .before .before
+
 -- the state is one of at most 128
 state-low : (c : tie.Start) → c .args .state < 128
 state-low c = omega (arith, c .pre .1 .5, c .pre .1 .4 .sound .limits .states-limit .high)
 
 planned-requires : tie.Need-planned-requires
-planned-requires c κs = let s = c .before .before .before .before .before .before .before .before .before .before .before .before .before .before .before .before .pre in ((s .1 .0, s .1 .6, s .1 .5, s .1 .7), s .0 .2, s .0 .3)
+planned-requires c κs = let p = start c .pre in ((p .1 .0, p .1 .6, p .1 .5, p .1 .7), p .0 .2, p .0 .3)
 
 mul-from : tie.Need-mul-from
-mul-from c = omega (arith, state-low (c .before .before .before .before .before .before .before .before .before .before .before .before .before .before .before .before .before .before .before .before .before .before .before))
+mul-from c = omega (arith, state-low (start (c .before .before .before .before .before .before .before)))
 
 add-from : tie.Need-add-from
-add-from c = omega (arith, state-low (c .before .before .before .before .before .before .before .before .before .before .before .before .before .before .before .before .before .before .before .before .before .before .before), c .before .before .before .before .before .before .before .before .before .before .before .before .before .before .before .before .before .before .before .before .before .before .before .pre .0 .2)
+add-from c = let s = start (c .before .before .before .before .before .before .before) in omega (arith, state-low s, s .pre .0 .2)
 
 mul-from-2 : tie.Need-mul-from-2
-mul-from-2 c = omega (arith, state-low (c .before .before .before .before .before .before .before .before .before .before .before .before .before .before .before .before .before .before .before .before .before .before .before), c .before .before .before .before .before .before .before .before .before .before .before .before .before .before .before .before .before .before .before .before .before .before .before .pre .0 .2)
+mul-from-2 c = let s = start (c .before .before .before .before .before .before .before) in omega (arith, state-low s, s .pre .0 .2)
 
 set-cell-requires : tie.Need-set-cell-requires
 set-cell-requires c κs =
-    let s = c .before .before .before .before .before .before .before .before .before .before .before .before .before .before .before .before .before .before .before .before .before .before .before .before .before .pre in
-    let (memory, row) = c .before .before .before .before .before .before .before .before .planned .ensures _ (s .1 .6) (s .1 .5) (s .1 .7) in (
-      (s .0 .0, s .0 .1, omega (arith, memory .lists-long, state-low (c .before .before .before .before .before .before .before .before .before .before .before .before .before .before .before .before .before .before .before .before .before .before .before .before .before), s .0 .2, top-short (s .1 .4) (c .before .before .before .before .before .before .before .before .before .before .before .before .before .before .before .before .before .before .before .before .before .before .before .before .before .args .kind) row)),
-      (s .1 .0, _, top-asked (s .1 .4) (c .before .before .before .before .before .before .before .before .before .before .before .before .before .before .before .before .before .before .before .before .before .before .before .before .before .args .kind) row),
+    let q = c .before .before .before .before .before .before .before .before in
+    let s = start (q .before) in
+    let (room, height, kind, sets) = s .pre .0 in
+    let (b, states, starts, st, A, l, H, M) = s .pre .1 in
+    let (memory, row) = q .planned .ensures b H l M in (
+      (room, height, omega (arith, memory .lists-long, state-low s, kind, top-short A (s .args .kind) row)),
+      (b, _, top-asked A (s .args .kind) row),
     )
 
 same-length : tie.Need-same-length
@@ -44,8 +55,12 @@ same-length-4 c = search needs
 
 returns : tie.Need-returns
 returns c = λ b states starts st A l H M.
-    let (memory, row) = c .before .before .before .before .before .before .before .before .before .before .before .planned .ensures b H l M in
-    top-set A (c .before .before .before .before .before .before .before .before .before .before .before .before .before .before .before .before .before .before .before .before .before .before .before .before .before .before .before .before .args .kind) (c .before .before .before .before .before .before .before .before .before .before .before .before .before .before .before .before .before .before .before .before .before .before .before .before .before .before .before .before .pre .0 .0 .cells-long) (c .before .before .before .before .before .before .before .before .before .before .before .before .before .before .before .before .before .before .before .before .before .before .before .before .before .before .before .before .pre .0 .1) memory (c .before .before .set-cell .ensures b _ (top-asked A (c .before .before .before .before .before .before .before .before .before .before .before .before .before .before .before .before .before .before .before .before .before .before .before .before .before .before .before .before .args .kind) row))
+    let e = c .before .before in
+    let q = planned-at e in
+    let s = start (q .before) in
+    let (memory, row) = q .planned .ensures b H l M in
+    let asked = top-asked A (s .args .kind) row in
+    top-set A (s .args .kind) (s .pre .0 .0 .cells-long) (s .pre .0 .1) memory (e .set-cell .ensures b _ asked)
 
 pub set-top-spec : {M : Type 1} → statement M
 set-top-spec =

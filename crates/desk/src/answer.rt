@@ -1,5 +1,4 @@
 // The answer to what was read: the two calls of the engine, and their figures in the output.
-ghost use mathlib.Core.Path.{_≡_};
 ghost use mathlib.Core.Option.{some};
 ghost use Prim.Native.Nat.{_≤_};
 ghost use lib.ListN.{length};

@@ -57,7 +57,7 @@ token-line kind value =
     words OneLine in-line "(tok " refl (digits OneLine in-line kind (words OneLine in-line " " refl (digits OneLine in-line value (more refl feed))))
 
 -- what was printed is read
-token-reads : (kind value : ℕ) → Fits kind → Fits value → tokenOf (printToken kind value []) ≡ some (kind ∷ value ∷ [])
+pub token-reads : (kind value : ℕ) → Fits kind → Fits value → tokenOf (printToken kind value []) ≡ some (kind ∷ value ∷ [])
 unfolding tokenOf tokenLine spelledBy printToken reading
 token-reads kind value h k = rw (number-reads kind _ h refl, number-reads value _ k refl)
 

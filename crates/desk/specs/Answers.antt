@@ -11,7 +11,7 @@ use Rattle.grammar.specs.Engine.{Reading, readBook, Evaluation, turnedBack, eva
 use Rattle.grammar.specs.Cases.Cases.{afterReading, calls}
 use Rattle.engine.specs.Readings.{Reads}
 use Rattle.engine.specs.Evaluations.{Evaluates}
-use Rattle.desk.specs.Desk.{Input, Answer, refused, accepted, answerOf, evaluated, answer, answerTo}
+use Rattle.desk.specs.Desk.{Input, refused, answerOf, evaluated, answer, answerTo}
 use Rattle.desk.specs.Figures.{few-rows, calls-kept, answer-evaluated}
 use Rattle.desk.specs.Holds.{HoldsBook, HoldsTokens}
 use Rattle.desk.specs.Kept.{KEPT-NUMBERS}

@@ -1,15 +1,15 @@
 -- One byte more: what the code then keeps.
 -- Assumes nothing.
 use Prim.Native.Nat.{ℕ, _+_, _-_, _≤_, _<_}
-use mathlib.Core.Path.{_≡_, refl, sym, ap, _∙_}
+use mathlib.Core.Path.{_≡_, sym, ap, _∙_}
 use mathlib.Core.Bool.{true, false}
-use mathlib.Core.Option.{Option, none, some}
-use mathlib.Core.List.{List, [], _∷_, _++_}
+use mathlib.Core.Option.{none, some}
+use mathlib.Core.List.{List, [], _++_}
 use native.Mathlib.Omega.{arith}
 use lib.Dec.{eqb}
 use lib.ListN.{length, take, drop, set, length-append}
 use Rattle.grammar.specs.Limits.{MAX-TEXT}
-use Rattle.desk.specs.Desk.{Input, so-far, before-end, after-end, isEnd, tokenOf, joined, oneByte}
+use Rattle.desk.specs.Desk.{Input, so-far, after-end, isEnd, tokenOf, joined, oneByte}
 use Rattle.desk.specs.Holds.{HoldsBook, HoldsTokens}
 use Rattle.desk.specs.Kept.{Kept, kept-none}
 use Rattle.desk.specs.Lines.{TOKEN-BYTES}

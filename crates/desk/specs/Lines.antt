@@ -1,6 +1,6 @@
 -- The two kinds of line that the desk program tells apart: the end line and a token line, as the readers of the code find them.
 -- Assumes nothing.
-use Prim.Native.Nat.{ℕ, suc, _+_, _≤_, _<_}
+use Prim.Native.Nat.{ℕ, _≤_, _<_}
 use mathlib.Core.Path.{_≡_, refl, sym, ap, _∙_}
 use mathlib.Core.Bool.{Bool, true, false}
 use mathlib.Core.Option.{Option, none, some}
@@ -10,14 +10,13 @@ use native.Mathlib.Omega.{arith}
 use native.Mathlib.Nat.{eq-or-lt-of-le}
 use lib.Dec.{eqb, ltb}
 use lib.ListN.{length, drop-of-length-le}
-use borrow.Author.Tests.{eq-eqb, ne-eqb, eqb-true, eqb-false, ltb-true, ltb-false}
+use borrow.Author.Tests.{eq-eqb, eqb-true, eqb-false, ltb-true, ltb-false}
 use Rattle.text.specs.Class.{space, line-feed, classOf}
 use Rattle.text.specs.ClassLaws.{byteOf, marked}
 use Rattle.text.specs.Rest.{Rest, lost, left, rest, mark}
 use Rattle.text.specs.RestLaws.{left-is, rest-in, rest-at, rest-out}
-use Rattle.text.specs.Numeral.{decimal, letters, wordOf, write, spelled}
+use Rattle.text.specs.Numeral.{decimal, wordOf}
 use Rattle.text.specs.Reading.{Reads}
-use Rattle.grammar.specs.Automaton.Fixpoint.{sameSets}
 use Rattle.grammar.specs.Automaton.LeastLaws.{sameSets-still, sameSets-self}
 use Rattle.grammar.specs.Format.Printer.{Printer, _·_, bytes, literal, numeral}
 use Rattle.grammar.specs.Format.Ordered.{Fits}
@@ -25,7 +24,7 @@ use Rattle.grammar.specs.Format.Reader.{Parsed, parsed, result, remaining, open
 use Rattle.grammar.specs.Format.ReaderLaws.{open-got, keyword-got, closing-got, opening-got, number-got, space-got, reading, spelling}
 use Rattle.grammar.specs.Format.Parse.{endLine}
 use Rattle.desk.specs.Desk.{isEnd, tokenLine, spelledBy, tokenOf}
-use Rattle.desk.specs.Digits.{width, length-numeral, width-most}
+use Rattle.desk.specs.Digits.{length-numeral, width-most}
 
 -- Where a line ends
 

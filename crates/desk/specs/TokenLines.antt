@@ -1,9 +1,8 @@
 -- Printed token lines: each is read as its token, and all of them one after another.
 -- Assumes nothing.
 use Prim.Native.Nat.{ℕ, zero, suc, _+_, _/_, _%_}
-use Prim.Native.String.{String}
-use mathlib.Core.Path.{_≡_, refl, sym, ap, _∙_}
-use mathlib.Core.Bool.{true, false}
+use mathlib.Core.Path.{_≡_, refl, ap, _∙_}
+use mathlib.Core.Bool.{false}
 use mathlib.Core.Option.{some}
 use mathlib.Core.List.{List, [], _∷_, _++_, append-nil, append-assoc}
 use lib.Dec.{eqb}
@@ -58,7 +57,7 @@ token-line kind value =
     words OneLine in-line "(tok " refl (digits OneLine in-line kind (words OneLine in-line " " refl (digits OneLine in-line value (more refl feed))))
 
 -- what was printed is read
-token-reads : (kind value : ℕ) → Fits kind → Fits value → tokenOf (printToken kind value []) ≡ some (kind ∷ value ∷ [])
+pub token-reads : (kind value : ℕ) → Fits kind → Fits value → tokenOf (printToken kind value []) ≡ some (kind ∷ value ∷ [])
 unfolding tokenOf tokenLine spelledBy printToken reading
 token-reads kind value h k = rw (number-reads kind _ h refl, number-reads value _ k refl)
 

@@ -1,5 +1,4 @@
 // The answer to what was read: the two calls of the engine, and their figures in the output.
-ghost use mathlib.Core.Path.{_≡_};
 ghost use mathlib.Core.Option.{some};
 ghost use Prim.Native.Nat.{_≤_};
 ghost use lib.ListN.{length};
@@ -12,10 +11,10 @@ ghost use Rattle.desk.specs.Desk.{Input, answer, answerTo};
 ghost use Rattle.desk.specs.Holds.{HoldsTokens, Holds};
 ghost use Rattle.desk.specs.Printing.{OUTPUT-BYTES, Printed};
 ghost use Rattle.desk.specs.Answers.{Lengths, Figured};
-use engine::reading::read;
 use super::input::Progress;
 use super::output::put_answer;
 use super::output::put_refused;
+use engine::reading::read;
 
 // A refusal or 0, and the number of rows.
 struct Evaluated {

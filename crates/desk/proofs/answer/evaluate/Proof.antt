@@ -1,4 +1,3 @@
-use borrow.Author.Needs.{needs}
 use Rattle.desk.proofs.answer.evaluate.Statement.{statement}
 use Rattle.desk.proofs.answer.evaluate.Tie as tie
 

@@ -1,7 +1,6 @@
 use Rattle.desk.specs.Printing.{wordsFrom, words-turn, words-end}
 use Rattle.desk.specs.Output.{Putting, putting-start, putting-room, putting-turn, putting-end}
 use lib.ListN.{length}
-use native.Mathlib.Omega.{arith}
 use Prim.Native.Nat.{_-_}
 use borrow.Author.Needs.{needs}
 use Rattle.desk.proofs.output.put_words.Statement.{statement}

@@ -1,18 +1,17 @@
 -- What evaluating answers, by its number (01, "Turned-back input"): the stored book is asked first, then the lengths and kinds of the message, then
 -- the machine runs. Assumes nothing.
-use Prim.Native.Nat.{ℕ, zero, suc, _*_, _%_, _<_, _≤_}
+use Prim.Native.Nat.{ℕ, suc, _*_, _%_, _<_, _≤_}
 use mathlib.Core.Path.{_≡_, refl, sym, ap, _∙_}
 use mathlib.Core.Bool.{Bool, true, false}
 use mathlib.Core.List.{List, [], _∷_}
-use mathlib.Core.Option.{Option, none, some}
+use mathlib.Core.Option.{none, some}
 use native.Mathlib.Omega.{arith}
-use lib.Dec.{leb, eqb}
 use lib.ListN.{length, replicate}
-use borrow.Author.Tests.{le-leb, lt-leb, eq-eqb, ne-eqb, eqb-true, eqb-false, leb-true, leb-false}
+use borrow.Author.Tests.{le-leb, lt-leb, eq-eqb, ne-eqb}
 use Rattle.grammar.specs.Limits.{PAGE-WORDS, MAX-TOKENS}
 use Rattle.grammar.specs.Data.Book.{Book}
 use Rattle.grammar.specs.Conditions.Decides.{oneTo, oneTo-decides}
-use Rattle.grammar.specs.Evaluator.Tree.{Token, TokenOf, TokensOf, no-tokens, and-tokens}
+use Rattle.grammar.specs.Evaluator.Tree.{Token, TokensOf, no-tokens, and-tokens}
 use Rattle.grammar.specs.Evaluator.Machine.{Answer, refused, accepted, evaluate}
 use Rattle.grammar.specs.Evaluator.RunRefusals.{refused-late}
 use Rattle.grammar.specs.Engine.{

@@ -11,7 +11,7 @@ use Rattle.grammar.specs.Evaluator.Tree.{Token, TokensOf}
 use Rattle.grammar.specs.Evaluator.Premises.{Premises}
 use Rattle.grammar.specs.Format.Packing.{pack}
 use Rattle.grammar.specs.Refusal.{Verdict}
-use Rattle.grammar.specs.Engine.{Reading, readBook, tablesOf, Evaluation, evaluateWords}
+use Rattle.grammar.specs.Engine.{Reading, readBook, tablesOf, evaluateWords}
 use Rattle.grammar.specs.Demands.{Reads as Reads-right, wrong-lengths, takes, refuses}
 use Rattle.grammar.specs.Demands.{Stored, bookOf, numbersOf, Evaluates as Evaluates-right, Figures}
 use Rattle.grammar.specs.DemandsProof.{taken-right, refusal-right, reading-right, evaluating-right, tables-right, figures-right}

@@ -1,13 +1,13 @@
 -- What the machine reads of left sides: the attributes that each nonterminal has, and where each rule's definitions of synthesized attributes begin.
 -- Assumes nothing.
-use Prim.Native.Nat.{ℕ, _+_, _≤_, _<_}
-use mathlib.Core.Path.{_≡_, refl, sym, ap, _∙_}
+use Prim.Native.Nat.{ℕ, _+_, _<_}
+use mathlib.Core.Path.{sym}
 use mathlib.Core.List.{List, List·Memᴰ as Mem}
 use native.Mathlib.Omega.{arith}
 use lib.ListN.{length, getD}
 use Rattle.grammar.specs.Limits.{MAX-INHERITED, MAX-SYNTHESIZED}
 use Rattle.grammar.specs.Data.Book.{Book as Lines, ownerAt}
-use Rattle.grammar.specs.Conditions.Meaning.{IsNonterminal, WithinLimits, Declared}
+use Rattle.grammar.specs.Conditions.Meaning.{IsNonterminal, WithinLimits}
 use Rattle.grammar.specs.Formulas.Slots.{attributes}
 use Rattle.book.specs.declared.Book.{Book}
 use Rattle.conditions.specs.AskedLaws.{counted, member-at}

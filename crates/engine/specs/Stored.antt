@@ -1,6 +1,6 @@
 -- The book of stored words (01, refusal 11): what is asked of the words, and what is known where a book is found.
 -- Assumes nothing.
-use Prim.Native.Nat.{ℕ, zero, suc, _*_, _≤_}
+use Prim.Native.Nat.{ℕ, zero, suc, _≤_}
 use mathlib.Core.Path.{_≡_, refl, sym, ap, _∙_}
 use mathlib.Core.Bool.{Bool, true, false, _&&_}
 use mathlib.Core.List.{List}
@@ -22,7 +22,7 @@ use Rattle.book.specs.declared.Book.{Book}
 use Rattle.engine.specs.Words.{Placed}
 use Rattle.engine.specs.PlacedLaws.{placed-count, placed-first}
 use Rattle.engine.specs.Prepared.{BookReady}
-use Rattle.engine.specs.Compiling.{Compiles, misspelt-refused, book-refused, taken-got}
+use Rattle.engine.specs.Compiling.{Compiles, book-refused, taken-got}
 
 -- there are as many words as a stored book has, and they are the filling of the text in them
 unfoldable pub isFilling : List ℕ → Bool

@@ -66,7 +66,13 @@ run-requires c κs = let o = sides-at c in
     let t = s .pre .0 .1 in
     let m = s .pre .1 .0 in (
       (run-room (s .pre .1 .1), s .pre .1 .1),
-      (s .pre .0 .0, m .list, run-in t (o .fill-sides .ensures (s .pre .0 .0) (asked-sides (t .ready))) (m .tokens-are), tokens-of t m, plans-of t (s .pre .1 .2)),
+      (
+        s .pre .0 .0,
+        m .list,
+        run-in t (o .fill-sides .ensures (s .pre .0 .0) (asked-sides (t .ready))) (m .tokens-are),
+        tokens-of t m,
+        plans-of t (s .pre .1 .2),
+      ),
     )
 
 same-length : tie.Need-same-length

@@ -1,8 +1,10 @@
 -- `evaluating::number` meets its contract: the book is asked first, then the message; then the machine runs. Assumes nothing.
-use mathlib.Core.Path.{_≡_, refl, sym, ap, _∙_}
+use Prim.Native.Nat.{_≤_}
+use mathlib.Core.Path.{sym, ap, _∙_}
 use native.Mathlib.Omega.{arith}
-use lib.ListN.{length, length-take, replicate}
+use lib.ListN.{length, take, length-take, replicate}
 use borrow.Author.Tests.{not-true, not-false}
+use Rattle.grammar.specs.Limits.{MAX-TEXT}
 use Rattle.engine.specs.Rooms.{waits-room, lines-room, tables-room}
 use Rattle.conditions.specs.AskedLaws.{counted}
 use Rattle.engine.specs.Stored.{unfilled, found-none, found-book}
@@ -97,7 +99,10 @@ slice-aggregate-compile-15 c = search needs
 
 compile-requires : tie.Need-compile-requires
 compile-requires c κs = let t = c .before .before .before .before .before .before .before .before .before .before .before .before .before .before in
-    ((record { table-is = classes-at t .classes .ensures; short = omega (arith, length-take (text-at (found-at t) .text-in .result .count) (text-at (found-at t) .text-in .last .1 .0), text-at (found-at t) .text-in .ensures .within) }, waits-room, lines-room), tables-room)
+    let f = text-at (found-at t) .text-in in
+    let short : length (take (f .result .count) (f .last .1 .0)) ≤ MAX-TEXT =
+    omega (arith, length-take (f .result .count) (f .last .1 .0), f .ensures .within) in
+    ((record { table-is = classes-at t .classes .ensures; short = short }, waits-room, lines-room), tables-room)
 
 returns-2 : tie.Need-returns-2
 returns-2 c = let k = c .before .before .before .before .before .before .before .before .before .before .before .before .before .before .before .before in

@@ -6,6 +6,7 @@ pub mod lists;
 pub mod moves;
 pub mod pushes;
 pub mod records;
+pub mod reduce;
 pub mod rows;
 pub mod run;
 pub mod setting;

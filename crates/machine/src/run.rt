@@ -16,8 +16,8 @@ use super::action::Action;
 use super::action::Move;
 use super::action::action_of;
 use super::moves::Moved;
-use super::moves::reduce;
 use super::moves::shift;
+use super::reduce::reduce;
 use super::top::Top;
 use automaton::words::word;
 

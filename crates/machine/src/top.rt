@@ -9,6 +9,10 @@ pub struct Top {
 }
 
 impl Top {
+    pub const MAX_SYMBOLS: usize = 128;
+
+    pub const MAX_ROWS: usize = 512;
+
     // Before the first move.
     pub fn empty() -> Self
         ensures { λ r. ⌜ (r .depth ≡ 0) × (r .rows ≡ 0) × (r .position ≡ 0) ⌝ }

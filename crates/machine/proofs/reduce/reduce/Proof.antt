@@ -1,12 +1,12 @@
--- `machine::moves::reduce` meets its contract: the tests refuse where the machine does, and the push is the machine's. Assumes nothing.
+-- `machine::reduce::reduce` meets its contract: the tests refuse where the machine does, and the push is the machine's. Assumes nothing.
 use mathlib.Core.Path.{_∙_}
 use native.Mathlib.Omega.{arith}
 use borrow.Author.Needs.{needs}
 use Rattle.machine.specs.Moving.{told-on, told-refused}
 use Rattle.machine.specs.MovingLaws.{reduce-rows}
-use Rattle.machine.specs.ReduceMove.{ReduceLow, reduce-low, reduce-asked, reduce-full, reduce-left, reduce-told}
-use Rattle.machine.proofs.moves.reduce.Statement.{statement}
-use Rattle.machine.proofs.moves.reduce.Tie as tie
+use Rattle.machine.specs.ReduceMove.{ReduceLow, reduce-low, reduce-asked, reduce-deep, reduce-full, reduce-left, reduce-told}
+use Rattle.machine.proofs.reduce.reduce.Statement.{statement}
+use Rattle.machine.proofs.reduce.reduce.Tie as tie
 
 -- from each call back to the one before
 
@@ -37,12 +37,15 @@ add-word c = omega (arith, low (start c) .rule-low)
 word-requires : tie.Need-word-requires
 word-requires c κs = omega (arith, low (start c) .rule-low, start c .pre .1 .3 .book-in .rules-in .long)
 
+sub-below : tie.Need-sub-below
+sub-below c = let p = start (c .before) .pre .1 in omega (arith, reduce-deep (p .3) (p .5) (p .6) (c .word .ensures))
+
 returns-2 : tie.Need-returns-2
-returns-2 c = λ b ks k D F H X. told-refused (reduce-full D H X (c .before .before .word .ensures) (c .before .before .before .if1 .left) (c .if2 .taken))
+returns-2 c = λ b ks k D F H X. told-refused (reduce-full D H X (c .before .word .ensures) (c .before .before .if1 .left) (c .if2 .taken))
 
 set-top-requires : tie.Need-set-top-requires
 set-top-requires c κs =
-    let s = start (c .before .before .before .before .before .before .before .before) in
+    let s = start (c .before .before .before .before .before .before .before) in
     let (b, ks, k, D, F, H, X) = s .pre .1 in
     let R = s .pre .0 in (
       (record { cells-long = R .cells-long; records-long = R .stacks .synthesized-long }, low s .depth-low, low s .kind-low, R .sets-long),
@@ -53,11 +56,11 @@ put-left-requires : tie.Need-put-left-requires
 put-left-requires c κs =
     let q = c .before .before .before .before .before .before .before .before .before .before .before .before .before in
     let t = tests-at q in
-    let s = start (t .before .before .before) in
+    let s = start (t .before .before) in
     let (b, ks, k, D, F, H, X) = s .pre .1 in
     let R = s .pre .0 in
     let T = q .set-top .ensures b _ _ _ (reduce-asked D H X) (low s .state-there) (D .plans-held) (H .plans-in) in
-    let A = reduce-left D H X F T (t .before .before .word .ensures) (t .before .before .before .if1 .left) (t .if2 .left) in
+    let A = reduce-left D H X F T (t .before .word .ensures) (t .before .before .if1 .left) (t .if2 .left) in
     ((R .stacks, T .cell-in .long ∙ R .cells-long), (b, ks, k, A))
 
 same-length : tie.Need-same-length
@@ -90,7 +93,7 @@ returns-3 c = λ b ks k D F H X.
     let q = set-at p in
     let t = tests-at q in
     let T = q .set-top .ensures b _ _ _ (reduce-asked D H X) (reduce-low D H X .state-there) (D .plans-held) (H .plans-in) in
-    let A = reduce-left D H X F T (t .before .before .word .ensures) (t .before .before .before .if1 .left) (t .if2 .left) in
+    let A = reduce-left D H X F T (t .before .word .ensures) (t .before .before .if1 .left) (t .if2 .left) in
     told-on (reduce-told D H X F T (p .put-left .ensures b ks k A))
 
 pub reduce-spec : {M : Type 1} → statement M
@@ -101,6 +104,7 @@ reduce-spec =
     mul-word
     add-word
     word-requires
+    sub-below
     returns-2
     set-top-requires
     put-left-requires

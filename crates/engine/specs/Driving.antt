@@ -1,11 +1,23 @@
 -- A stored book that is taken, and a message, as the machine asks for them. Assumes nothing.
 use Prim.Native.Nat.{ℕ}
-use mathlib.Core.Path.{_≡_}
+use mathlib.Core.Path.{_≡_, refl, ap, _∙_}
 use mathlib.Core.List.{List}
+use mathlib.Core.Option.{some}
+use lib.ListN.{length, replicate}
+use Rattle.grammar.specs.Limits.{MAX-TEXT, PAGE-WORDS}
 use Rattle.grammar.specs.Data.Book.{Book as Lines}
+use Rattle.grammar.specs.Evaluator.Tree.{Token}
+use Rattle.grammar.specs.Engine.{tokensOf}
 use Rattle.book.specs.declared.Book.{Book}
-use Rattle.machine.specs.Moving.{Driven}
+use Rattle.conditions.specs.AskedLaws.{counted}
+use Rattle.plans.specs.Plans.{PlansIn}
+use Rattle.plans.specs.PlansLaws.{plans-none}
+use Rattle.machine.specs.Moving.{Rooms, Driven}
+use Rattle.machine.specs.Running.{RunIn}
+use Rattle.machine.specs.Standing.{Message as Tokens}
 use Rattle.engine.specs.Compiling.{asked-formulas}
+use Rattle.engine.specs.Evaluations.{Message, message-tokens}
+use Rattle.engine.specs.Rooms.{zeros}
 use Rattle.engine.specs.Stored.{TakenBook}
 use Rattle.engine.specs.Sides.{SidesIn}
 
@@ -29,3 +41,31 @@ module _ {numbers : Book} {inherited synthesized rules definitions kernels goes 
       owned-in = s .owned-in;
     };
   }
+
+  pub run-in : {tokens : List ℕ} {ks : List Token} → tokensOf tokens ≡ some ks
+      → RunIn b ks rules (numbers .rules) definitions (numbers .«inherited_definitions») own kernels starts closures vanishes reached firsts down up table
+      actions tokens
+  run-in e = record { driven = driven; left-in = s .left-in; actions-in = h .ready .tables-in .actions-in; tokens-in = e }
+
+module _ {numbers : Book} {inherited synthesized rules definitions kernels goes : List ℕ} {vanishes begins reached starts closures table actions : List ℕ}
+    {b : Lines} (h : TakenBook numbers inherited synthesized rules definitions kernels goes vanishes begins reached starts closures table actions b) where
+  pub tokens-of : {tokens : List ℕ} (m : Message (numbers .terminals) tokens) → Tokens b (m .list)
+  tokens-of m = record { tokens = message-tokens b m (counted b (h .ready .numbers-are) .terminals-are); few = m .few }
+
+  -- no plan is worked out yet
+  pub plans-of : {lists : List ℕ} → length lists ≡ MAX-TEXT → PlansIn b (replicate 4096 0) lists
+  plans-of l = plans-none b refl l (h .ready .conditions-met .limits .states-limit .high)
+
+-- the stacks as they are before the first move
+pub run-room : {rows : List ℕ} → rows ≡ replicate PAGE-WORDS 0
+    → Rooms (replicate 129 0) (replicate 2064 0) (replicate 4224 0) (replicate 128 0) rows (replicate 576 0)
+run-room e = record {
+  stacks = record {
+    states-long = zeros 129;
+    synthesized-long = zeros 4224;
+    starts-long = zeros 128;
+    rows-long = ap length e ∙ zeros PAGE-WORDS;
+  };
+  cells-long = zeros 2064;
+  sets-long = zeros 576;
+}

@@ -13,8 +13,8 @@ use Rattle.grammar.specs.Limits.{PAGE-WORDS, MAX-TOKENS}
 use Rattle.grammar.specs.Data.Book.{Book}
 use Rattle.grammar.specs.Conditions.Decides.{oneTo, oneTo-decides}
 use Rattle.grammar.specs.Evaluator.Tree.{Token, TokenOf, TokensOf, no-tokens, and-tokens}
-use Rattle.grammar.specs.Evaluator.Rows.{Row, page}
 use Rattle.grammar.specs.Evaluator.Machine.{Answer, refused, accepted, evaluate}
+use Rattle.grammar.specs.Evaluator.RunRefusals.{refused-late}
 use Rattle.grammar.specs.Engine.{
   tablesOf,
   storedBook,
@@ -27,6 +27,8 @@ use Rattle.grammar.specs.Engine.{
   evaluateBook,
   evaluateWords,
 }
+use Rattle.machine.specs.declared.run.Outcome.{Outcome}
+use Rattle.machine.specs.RunningLaws.{Answered}
 use Rattle.engine.specs.Tokens.{kindsRight, kinds-right, tokens-odd, tokens-even}
 
 -- the number that is answered, every lent row word and the row count afterwards
@@ -41,8 +43,8 @@ pub record Answers (evaluation : Evaluation) (lent : ℕ) (number : ℕ) (rows :
   pub taken : number ≡ 0 → Evaluates evaluation 0 rows count
 
 module _ {evaluation : Evaluation} {lent number : ℕ} {rows : List ℕ} {count : ℕ} (a : Answers evaluation lent number rows count) where
-  pub evaluates-taken : number ≡ 0 → Evaluates evaluation 0 rows count
-  evaluates-taken z = a .taken z
+  pub evaluates-taken : number ≡ 0 → Evaluates evaluation number rows count
+  evaluates-taken z = rw z (a .taken z)
 
   pub evaluates-cleared : {cleared : List ℕ} → (number ≡ 0 → ⊥) → cleared ≡ replicate lent 0 → Evaluates evaluation number cleared 0
   unfolding turnedBack
@@ -135,19 +137,23 @@ module _ (b : Book) {T : ℕ} {tokens : List ℕ} (m : Message T tokens) (t : T 
 
 -- ---- the run
 
--- how the machine's answer is told: 0, the rows and their number, or else the refusal
-pub record Ran (answer : Answer) (number count : ℕ) (rows : List ℕ) : Type 0 where
-  pub turned : (number ≡ 0 → ⊥) → answer ≡ refused number
-  pub taken : number ≡ 0 → (rs : List Row) × (answer ≡ accepted rs) × (rows ≡ page rs) × (count ≡ length rs)
-
-answers-ran : {evaluation : Evaluation} {answer : Answer} {lent number count : ℕ} {rows : List ℕ} → evaluation ≡ evaluationOf answer lent
-    → Ran answer number count rows → Answers evaluation lent number rows count
+-- the machine's answer; its refusals are not 0
+answers-ran : (b : Book) (ks : List Token) {evaluation : Evaluation} {lent : ℕ} {r : Outcome} {rows : List ℕ}
+    → evaluation ≡ evaluationOf (evaluate b (tablesOf b) ks) lent → Answered (evaluate b (tablesOf b) ks) r rows
+    → Answers evaluation lent (r .number) rows (r .count)
 unfolding evaluationOf
-answers-ran {answer = answer} {lent} e r = record {
-  refused = λ n. e ∙ ap (λ (a : Answer). evaluationOf a lent) (r .turned n);
-  taken = λ z. let (rs, a, p, l) = r .taken z in
-      rw (e ∙ ap (λ (x : Answer). evaluationOf x lent) a) (record { number-is = refl; rows-are = p; count-is = l });
-}
+answers-ran b ks {evaluation} {lent} {r} {rows} e told = go (evaluate b (tablesOf b) ks) refl e told
+  where
+    go : (x : Answer) → evaluate b (tablesOf b) ks ≡ x → evaluation ≡ evaluationOf x lent → Answered x r rows
+        → Answers evaluation lent (r .number) rows (r .count)
+    go (refused n) q p (number-is, no-rows) = record {
+      refused = λ _. p ∙ ap (λ (k : ℕ). turnedBack k lent) (sym number-is);
+      taken = λ z. absurd (omega (arith, refused-late b (tablesOf b) ks n q, number-is, z));
+    }
+    go (accepted rs) q p (number-is, count-is, rows-are) = record {
+      refused = λ n. absurd (n number-is);
+      taken = λ z. rw p (record { number-is = refl; rows-are = rows-are; count-is = count-is });
+    }
 
 -- ---- the book
 
@@ -164,9 +170,9 @@ module _ (words tokens : List ℕ) (lent : ℕ) where
     pub answers-asked : {rows : List ℕ} {count : ℕ} → (number ≡ 0 → ⊥) → Answers (evaluateWords words tokens lent) lent number rows count
     answers-asked n = record { refused = λ _. evaluate-book b e ∙ a .refused n b t; taken = λ z. absurd (n z) }
 
-    pub answers-run : {r count : ℕ} {rows : List ℕ} (z : number ≡ 0) → Ran (evaluate b (tablesOf b) (a .passed z .list)) r count rows
-        → Answers (evaluateWords words tokens lent) lent r rows count
-    answers-run z ran = answers-ran (evaluate-book b e ∙ message-run b (a .passed z) t lent (a .all-rows z)) ran
+    pub answers-run : {r : Outcome} {rows : List ℕ} (z : number ≡ 0) → Answered (evaluate b (tablesOf b) (a .passed z .list)) r rows
+        → Answers (evaluateWords words tokens lent) lent (r .number) rows (r .count)
+    answers-run z told = answers-ran b (a .passed z .list) (evaluate-book b e ∙ message-run b (a .passed z) t lent (a .all-rows z)) told
 
   -- 11
   pub answers-none : {rows : List ℕ} {count : ℕ} → storedBook words ≡ none → Answers (evaluateWords words tokens lent) lent 11 rows count

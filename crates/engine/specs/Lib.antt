@@ -12,6 +12,6 @@ pub mod Rooms
 pub mod Stored
 pub mod Tokens
 pub mod Evaluations
-pub mod Promises
 pub mod Sides
 pub mod Driving
+pub mod Promises

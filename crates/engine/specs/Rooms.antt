@@ -9,7 +9,7 @@ use Rattle.book.specs.Expressions.{MAX-WAITING}
 use Rattle.book.specs.Spelling.{arrays, Roomy}
 use Rattle.engine.specs.States.{TablesRoom}
 
-zeros : (n : ℕ) → length {A = ℕ} (replicate n 0) ≡ n
+pub zeros : (n : ℕ) → length {A = ℕ} (replicate n 0) ≡ n
 zeros n = length-replicate n 0
 
 pub waits-room : MAX-WAITING ≤ length {A = ℕ} (replicate 13107 0)

@@ -9,7 +9,8 @@ pub mod stored;
 pub mod tokens;
 
 ghost use lib.ListN.{length};
-ghost use Rattle.grammar.specs.Engine.{readBook};
+ghost use Rattle.grammar.specs.Engine.{readBook, evaluateWords};
+ghost use Rattle.engine.specs.Evaluations.{Evaluates};
 ghost use Rattle.engine.specs.Readings.{Reads};
 
 // Reading, for callers in C: a slice comes as its pointer and its number of elements.
@@ -18,4 +19,18 @@ pub extern "C" fn message_book_read(text: &[u8], words: &mut [u32]) -> u32
     ensures { λ r. ⌜ Reads (readBook (now (text .entry)) (length (now (words .entry)))) r (now (words .exit)) ⌝ }
 {
     reading::read(text, words)
+}
+
+// Evaluating, for callers in C.
+#[no_mangle]
+pub extern "C" fn message_book_evaluate(
+    words: &[u32],
+    tokens: &[u32],
+    rows: &mut [u32],
+    count: &mut u32,
+) -> u32
+    ensures { λ r. ⌜ Evaluates (evaluateWords (now (words .entry)) (now (tokens .entry)) (length (now (rows .entry)))) r (now (rows .exit))
+        (now (count .exit)) ⌝ }
+{
+    evaluating::evaluate(words, tokens, rows, count)
 }

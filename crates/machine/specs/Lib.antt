@@ -12,6 +12,8 @@ pub mod Pushes
 pub mod Records
 pub mod ReduceMove
 pub mod Reductions
+pub mod Running
+pub mod RunningLaws
 pub mod Setting
 pub mod ShiftMove
 pub mod Shifting

@@ -1,12 +1,11 @@
 -- What a move over the arrays asks, and what it tells: the next configuration, or the answer with which the run stops. Assumes nothing.
 use Prim.Native.Nat.{ℕ, _+_, _≤_, _<_}
 use mathlib.Core.Path.{_≡_}
-use mathlib.Core.Option.{some}
 use mathlib.Core.List.{List}
 use lib.ListN.{length}
 use Rattle.grammar.specs.Data.Book.{Book}
-use Rattle.grammar.specs.Automaton.States.{shift, reduce}
 use Rattle.grammar.specs.Evaluator.Tree.{Token}
+use Rattle.grammar.specs.Evaluator.Rows.{page}
 use Rattle.grammar.specs.Evaluator.Machine.{Config, refused, accepted, more, stop, step}
 use Rattle.grammar.specs.Engine.{tablesOf}
 use Rattle.plans.specs.Plans.{PlansIn, PlansHeld}
@@ -14,7 +13,7 @@ use Rattle.machine.specs.declared.moves.Moved.{Moved}
 use Rattle.machine.specs.declared.moves.Moved.the-variants.{On, Accepted, Refused}
 use Rattle.machine.specs.declared.top.Top.{Top}
 use Rattle.machine.specs.Pushes.{Stacks}
-use Rattle.machine.specs.Standing.{BookIn, Message, ConfigIn, stateOf, kindOf, valueOf, rowsOf, actionOf}
+use Rattle.machine.specs.Standing.{BookIn, Message, ConfigIn, rowsOf}
 
 -- the arrays that moves change, as they are lent
 pub record Rooms (states inherited synthesized starts rows sets : List ℕ) : Type 0 where
@@ -34,20 +33,20 @@ pub record Here (b : Book) (ks : List Token) (c : Config) (states inherited synt
   pub plans-in : PlansIn b counts lists
   pub message : Message b ks
 
--- the state and the next token
-pub record Facing (c : Config) (state kind : ℕ) : Type 0 where
-  pub state-is : state ≡ stateOf c
-  pub kind-is : kind ≡ kindOf c
-
 -- a move that goes on
 pub record MovedOn (b : Book) (ks : List Token) (c : Config) (states inherited synthesized starts rows counts lists : List ℕ) (top : Top) : Type 0 where
   pub then : Config
   pub moves : step b (tablesOf b) c ≡ more then
   pub here : Here b ks then states inherited synthesized starts rows counts lists top
 
+-- the machine accepts, and its rows stand in the lent words
+pub record Accepts (b : Book) (c : Config) (rows : List ℕ) : Type 0 where
+  pub stops : step b (tablesOf b) c ≡ stop (accepted (rowsOf c))
+  pub rows-are : rows ≡ page (rowsOf c)
+
 -- what a move tells
 module _ (b : Book) (ks : List Token) (c : Config) (states inherited synthesized starts rows counts lists : List ℕ) where
-  abbrev pub Told : Moved → Type 0
-  Told (On top) = MovedOn b ks c states inherited synthesized starts rows counts lists top
-  Told Accepted = step b (tablesOf b) c ≡ stop (accepted (rowsOf c))
-  Told (Refused n) = step b (tablesOf b) c ≡ stop (refused n)
+  pub data Told : Moved → Type 0 where
+    told-on : {top : Top} → MovedOn b ks c states inherited synthesized starts rows counts lists top → Told (On top)
+    told-accepted : Accepts b c rows → Told Accepted
+    told-refused : {n : ℕ} → step b (tablesOf b) c ≡ stop (refused n) → Told (Refused n)

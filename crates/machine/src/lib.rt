@@ -7,5 +7,6 @@ pub mod moves;
 pub mod pushes;
 pub mod records;
 pub mod rows;
+pub mod run;
 pub mod setting;
 pub mod top;

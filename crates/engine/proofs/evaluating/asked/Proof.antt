@@ -19,11 +19,13 @@ kinds-right-requires c κs = search needs
 
 returns-4 : tie.Need-returns-4
 returns-4 c = let k = c .before in
-    asked-kinds _ _ _ (k .before .before .before .if1 .left) (k .before .before .if2 .left) (k .before .if3 .left) (k .kinds-right .ensures) (not-true _ (c .if4 .taken))
+    let l = k .before in
+    asked-kinds _ _ _ (l .before .before .if1 .left) (l .before .if2 .left) (l .if3 .left) (k .kinds-right .ensures) (not-true _ (c .if4 .taken))
 
 returns-5 : tie.Need-returns-5
 returns-5 c = let k = c .before in
-    asked-all _ _ _ (k .before .before .before .if1 .left) (k .before .before .if2 .left) (k .before .if3 .left) (k .kinds-right .ensures) (not-false _ (c .if4 .left))
+    let l = k .before in
+    asked-all _ _ _ (l .before .before .if1 .left) (l .before .if2 .left) (l .if3 .left) (k .kinds-right .ensures) (not-false _ (c .if4 .left))
 
 pub asked-spec : {M : Type 1} → statement M
 asked-spec = tie.close (tie.spec returns returns-2 returns-3 kinds-right-requires returns-4 returns-5)

@@ -2,6 +2,7 @@
 use mathlib.Core.Path.{_∙_}
 use native.Mathlib.Omega.{arith}
 use borrow.Author.Needs.{needs}
+use Rattle.machine.specs.Moving.{told-on, told-refused}
 use Rattle.machine.specs.MovingLaws.{reduce-rows}
 use Rattle.machine.specs.ReduceMove.{ReduceLow, reduce-low, reduce-asked, reduce-full, reduce-left, reduce-told}
 use Rattle.machine.proofs.moves.reduce.Statement.{statement}
@@ -23,7 +24,7 @@ low : (c : tie.Start) → ReduceLow (c .pre .1 .0) (c .args .top) (c .args .rule
 low c = let s = c .pre .1 in reduce-low (s .3) (s .5) (s .6)
 
 returns : tie.Need-returns
-returns c = λ b ks k D F H X. reduce-rows (D .book-in) _ (H .config-in) (X .action-is) (c .if1 .taken)
+returns c = λ b ks k D F H X. told-refused (reduce-rows (D .book-in) _ (H .config-in) (X .action-is) (c .if1 .taken))
 
 mul-word : tie.Need-mul-word
 mul-word c = omega (arith, low (start c) .rule-low)
@@ -35,7 +36,7 @@ word-requires : tie.Need-word-requires
 word-requires c κs = omega (arith, low (start c) .rule-low, start c .pre .1 .3 .book-in .rules-in .long)
 
 returns-2 : tie.Need-returns-2
-returns-2 c = λ b ks k D F H X. reduce-full D H X (c .before .before .word .ensures) (c .before .before .before .if1 .left) (c .if2 .taken)
+returns-2 c = λ b ks k D F H X. told-refused (reduce-full D H X (c .before .before .word .ensures) (c .before .before .before .if1 .left) (c .if2 .taken))
 
 set-top-requires : tie.Need-set-top-requires
 set-top-requires c κs =
@@ -86,7 +87,8 @@ returns-3 c = λ b ks k D F H X.
     let q = set-at p in
     let t = tests-at q in
     let T = q .set-top .ensures b _ _ _ (reduce-asked D H X) (reduce-low D H X .state-there) (D .plans-held) (H .plans-in) in
-    reduce-told D H X F T (p .put-left .ensures b ks k (reduce-left D H X F T (t .before .before .word .ensures) (t .before .before .before .if1 .left) (t .if2 .left)))
+    let A = reduce-left D H X F T (t .before .before .word .ensures) (t .before .before .before .if1 .left) (t .if2 .left) in
+    told-on (reduce-told D H X F T (p .put-left .ensures b ks k A))
 
 pub reduce-spec : {M : Type 1} → statement M
 reduce-spec =

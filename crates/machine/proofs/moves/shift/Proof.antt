@@ -3,6 +3,7 @@ use Prim.Native.Nat.{_+_, _*_}
 use mathlib.Core.Path.{refl}
 use native.Mathlib.Omega.{arith}
 use borrow.Author.Needs.{needs}
+use Rattle.machine.specs.Moving.{told-on, told-refused}
 use Rattle.machine.specs.MovingLaws.{shift-rows, shift-symbols, room-left}
 use Rattle.machine.specs.ShiftMove.{ShiftLow, shift-low, shift-asked, shift-told}
 use Rattle.machine.proofs.moves.shift.Statement.{statement}
@@ -24,10 +25,10 @@ low : (c : tie.Start) → ShiftLow (c .pre .1 .0) (c .args .top) (c .args .state
 low c = let s = c .pre .1 in shift-low (s .3) (s .4) (s .5)
 
 returns : tie.Need-returns
-returns c = λ b ks k D H X. shift-rows (D .book-in) (H .config-in) (X .action-is) (c .if1 .taken)
+returns c = λ b ks k D H X. told-refused (shift-rows (D .book-in) (H .config-in) (X .action-is) (c .if1 .taken))
 
 returns-2 : tie.Need-returns-2
-returns-2 c = λ b ks k D H X. shift-symbols (D .book-in) (H .config-in) (X .action-is) (c .before .before .if1 .left) (c .if2 .taken)
+returns-2 c = λ b ks k D H X. told-refused (shift-symbols (D .book-in) (H .config-in) (X .action-is) (c .before .before .if1 .left) (c .if2 .taken))
 
 set-top-requires : tie.Need-set-top-requires
 set-top-requires c κs =
@@ -89,7 +90,7 @@ returns-3 c = λ b ks k D H X.
     let p = c .before .before .before .before .before .before .before .before in
     let t = tests-at (set-at p) in
     let T = set-at p .set-top .ensures b _ _ _ (shift-asked D H X) (shift-low D H X .state-there) (D .plans-held) (H .plans-in) in
-    shift-told D H X (start t .pre .0) (t .before .before .if1 .left) (t .if2 .left) T (p .push-token .ensures) refl
+    told-on (shift-told D H X (start t .pre .0) (t .before .before .if1 .left) (t .if2 .left) T (p .push-token .ensures) refl)
 
 pub shift-spec : {M : Type 1} → statement M
 shift-spec =

@@ -1,0 +1,112 @@
+-- `evaluating::message` meets its contract: the machine is asked with empty stacks. Assumes nothing.
+use mathlib.Core.Path.{refl}
+use Rattle.engine.specs.Sides.{asked-sides}
+use Rattle.engine.specs.Driving.{run-in, tokens-of, plans-of, run-room}
+use borrow.Author.Needs.{needs}
+use Rattle.engine.proofs.evaluating.message.Statement.{statement}
+use Rattle.engine.proofs.evaluating.message.Tie as tie
+
+-- from each call back to the entry
+
+abbrev sides-start : tie.After-up → tie.Start
+sides-start c = c .before .before .before .before .before .before .before .before .before .before .before .before .before .before .before .before .before .before .before .before
+
+abbrev sides-at : tie.After-run-arg2 → tie.After-fill-sides
+sides-at c = c .before .before .before .before .before .before .before .before .before .before .before .before .before .before .before .before
+
+slice-aggregate-fill-sides : tie.Need-slice-aggregate-fill-sides
+slice-aggregate-fill-sides c = search needs
+
+slice-aggregate-fill-sides-2 : tie.Need-slice-aggregate-fill-sides-2
+slice-aggregate-fill-sides-2 c = search needs
+
+slice-aggregate-fill-sides-3 : tie.Need-slice-aggregate-fill-sides-3
+slice-aggregate-fill-sides-3 c = search needs
+
+slice-aggregate-fill-sides-4 : tie.Need-slice-aggregate-fill-sides-4
+slice-aggregate-fill-sides-4 c = search needs
+
+fill-sides-requires : tie.Need-fill-sides-requires
+fill-sides-requires c κs = let s = sides-start c in
+    ((s .pre .0 .0, asked-sides (s .pre .0 .1 .ready)), (refl, refl, refl, refl))
+
+slice-aggregate-run : tie.Need-slice-aggregate-run
+slice-aggregate-run c = search needs
+
+slice-aggregate-run-2 : tie.Need-slice-aggregate-run-2
+slice-aggregate-run-2 c = search needs
+
+slice-aggregate-run-3 : tie.Need-slice-aggregate-run-3
+slice-aggregate-run-3 c = search needs
+
+slice-aggregate-run-4 : tie.Need-slice-aggregate-run-4
+slice-aggregate-run-4 c = search needs
+
+slice-aggregate-run-5 : tie.Need-slice-aggregate-run-5
+slice-aggregate-run-5 c = search needs
+
+slice-aggregate-run-6 : tie.Need-slice-aggregate-run-6
+slice-aggregate-run-6 c = search needs
+
+slice-aggregate-run-7 : tie.Need-slice-aggregate-run-7
+slice-aggregate-run-7 c = search needs
+
+slice-aggregate-run-8 : tie.Need-slice-aggregate-run-8
+slice-aggregate-run-8 c = search needs
+
+slice-aggregate-run-9 : tie.Need-slice-aggregate-run-9
+slice-aggregate-run-9 c = search needs
+
+slice-aggregate-run-10 : tie.Need-slice-aggregate-run-10
+slice-aggregate-run-10 c = search needs
+
+run-requires : tie.Need-run-requires
+run-requires c κs = let o = sides-at c in
+    let s = sides-start (o .before) in
+    let t = s .pre .0 .1 in
+    let m = s .pre .1 .0 in (
+      (run-room (s .pre .1 .1), s .pre .1 .1),
+      (
+        s .pre .0 .0,
+        m .list,
+        run-in t (o .fill-sides .ensures (s .pre .0 .0) (asked-sides (t .ready))) (m .tokens-are),
+        tokens-of t m,
+        plans-of t (s .pre .1 .2),
+      ),
+    )
+
+same-length : tie.Need-same-length
+same-length c = search needs
+
+same-length-2 : tie.Need-same-length-2
+same-length-2 c = search needs
+
+returns : tie.Need-returns
+returns c = λ b t m. let k = c .before .before .before .before .before .before .before .before .before .before in
+    let o = sides-at (k .before) in
+    k .run .ensures b (m .list) (run-in t (o .fill-sides .ensures b (asked-sides (t .ready))) (m .tokens-are)) (tokens-of t m)
+    (plans-of t (sides-start (o .before) .pre .1 .2))
+
+pub message-spec : {M : Type 1} → statement M
+message-spec =
+    tie.close
+    (tie.spec
+    slice-aggregate-fill-sides
+    slice-aggregate-fill-sides-2
+    slice-aggregate-fill-sides-3
+    slice-aggregate-fill-sides-4
+    fill-sides-requires
+    slice-aggregate-run
+    slice-aggregate-run-2
+    slice-aggregate-run-3
+    slice-aggregate-run-4
+    slice-aggregate-run-5
+    slice-aggregate-run-6
+    slice-aggregate-run-7
+    slice-aggregate-run-8
+    slice-aggregate-run-9
+    slice-aggregate-run-10
+    run-requires
+    same-length
+    same-length-2
+    returns)

@@ -1,0 +1,164 @@
+-- A run over the arrays: the next token, the action, and the answer in which the moves end. Assumes that the book is taken.
+use Prim.Native.Nat.{ℕ, zero, suc, _+_, _*_, _≤_, _<_}
+use mathlib.Core.Path.{_≡_, refl, sym, ap, _∙_}
+use mathlib.Core.Option.{Option, none, some}
+use mathlib.Core.List.{List, [], _∷_}
+use native.Mathlib.Omega.{arith}
+use lib.ListN.{length, getD, drop}
+use lib.Seq.{drop-nil}
+use Rattle.grammar.specs.Data.Book.{Book}
+use Rattle.grammar.specs.Automaton.FirstSets.{setsOf}
+use Rattle.grammar.specs.Automaton.States.{shift, accept, reduce}
+use Rattle.grammar.specs.Evaluator.Tree.{Token, next}
+use Rattle.grammar.specs.Evaluator.Rows.{page}
+use Rattle.grammar.specs.Evaluator.Machine.{Config, refused, stop, step}
+use Rattle.grammar.specs.Engine.{tokensOf, tablesOf}
+use Rattle.automaton.specs.Arrays.{ActionsIn}
+use Rattle.machine.specs.declared.action.Move.the-variants.{Shift, Reduce, Accept}
+use Rattle.machine.specs.declared.action.Action.{Action}
+use Rattle.machine.specs.declared.action.Action.the-variants.{Due, None}
+use Rattle.machine.specs.declared.top.Top.{Top}
+use Rattle.machine.specs.Action.{actionAt, meant, action-means}
+use Rattle.machine.specs.Moving.{Driven, Here, Accepts}
+use Rattle.machine.specs.MovingLaws.{none-refused, accept-stops}
+use Rattle.machine.specs.ReduceMove.{Reduces, next-declared}
+use Rattle.machine.specs.ShiftMove.{Shifts}
+use Rattle.machine.specs.Shifting.{state-low}
+use Rattle.machine.specs.Standing.{BookIn, LeftIn, Message, ConfigIn, stands, stateOf, kindOf, firstValue, valueOf, rowsOf, actionOf}
+
+-- a book that is taken and a list of tokens, in the arrays that a run reads
+pub record RunIn (b : Book) (ks : List Token) (rules : List ℕ) (count : ℕ) (definitions : List ℕ) (lines : ℕ)
+    (owned kernels heads closures nulls reaches firsts down up table actions tokens : List ℕ) : Type 0 where
+  pub driven : Driven b rules count definitions lines owned kernels heads closures nulls reaches table
+  pub left-in : LeftIn b definitions firsts down up
+  pub actions-in : ActionsIn b (setsOf (b .rules)) actions
+  pub tokens-in : tokensOf tokens ≡ some ks
+
+-- ---- the next token
+
+-- the next token of a list, by the numbers from a place on
+record NextIn (ks : List Token) (ns : List ℕ) (p : ℕ) : Type 0 where
+  kind-is : next (drop p ks) ≡ getD ns (2 * p) 0
+  value-is : firstValue (drop p ks) ≡ getD ns (2 * p + 1) 0
+
+next-in : (ns : List ℕ) (ks : List Token) → tokensOf ns ≡ some ks → (p : ℕ) → NextIn ks ns p
+unfolding tokensOf
+next-in [] ks e p =
+    let none-left : ks ≡ [] = cc in
+    let empty : drop p ks ≡ [] = ap (drop p) none-left ∙ drop-nil p in
+    record { kind-is = ap next empty; value-is = ap firstValue empty }
+next-in (k ∷ []) ks e p = absurd (let z : _≡_ {A = ℕ} 0 1 = cc in omega arith)
+next-in (k ∷ v ∷ ns) ks e p = by (tokensOf ns) refl e (next-in ns)
+  where
+    by : (x : Option (List Token)) → tokensOf ns ≡ x
+        → _≡_ {A = Option (List Token)} (elim x [ none ↦ none | some rest ↦ some (record { kind = k; value = v } ∷ rest) ]) (some ks)
+        → ((ls : List Token) → tokensOf ns ≡ some ls → (q : ℕ) → NextIn ls ns q) → NextIn ks (k ∷ v ∷ ns) p
+    by none t q ih = absurd (let z : _≡_ {A = ℕ} 0 1 = cc in omega arith)
+    by (some rest) t q ih =
+        let first : ks ≡ record { kind = k; value = v } ∷ rest = cc in
+        rw first (at p)
+      where
+        at : (q : ℕ) → NextIn (record { kind = k; value = v } ∷ rest) (k ∷ v ∷ ns) q
+        at zero = record { kind-is = refl; value-is = refl }
+        at (suc q) =
+            let i : 2 * suc q ≡ suc (suc (2 * q)) = omega arith in
+            let j : 2 * suc q + 1 ≡ suc (suc (2 * q + 1)) = omega arith in
+            let n : NextIn rest ns q = ih rest t q in
+            record { kind-is = rw i (n .kind-is); value-is = rw j (n .value-is) }
+
+-- ---- where a move begins
+
+-- the state and the next token, in numbers that are small
+pub record Facing (b : Book) (c : Config) (top : Top) (state kind value : ℕ) : Type 0 where
+  pub state-is : state ≡ stateOf c
+  pub kind-is : kind ≡ kindOf c
+  pub value-is : value ≡ valueOf c
+  pub state-there : state < b .states
+  pub kind-there : kind ≤ b .terminals
+  pub state-low : state < 128
+  pub kind-low : kind < 32
+
+facing-of : {b : Book} {ks : List Token} {c : Config} {rules definitions table states inherited synthesized starts rows : List ℕ} {top : Top}
+    (tokens : List ℕ) → BookIn b rules definitions table → tokensOf tokens ≡ some ks → Message b ks → ConfigIn b ks states inherited synthesized starts rows top c
+    → Facing b c top (getD states (top .depth) 0) (getD tokens (2 * top .position) 0) (getD tokens (2 * top .position + 1) 0)
+facing-of {b} {ks} {states = states} {top = top} tokens B t M (stands {S = S} {p = p} {z = z} C) =
+    let s : getD states (top .depth) 0 ≡ S = ap (λ n. getD states n 0) (C .depth-is) ∙ C .state-is in
+    let n : NextIn ks tokens p = next-in tokens ks t p in
+    let k : getD tokens (2 * top .position) 0 ≡ next z =
+    ap (λ q. getD tokens (2 * q) 0) (C .position-is) ∙ sym (n .kind-is) ∙ ap next (sym (C .left-is)) in
+    let v : getD tokens (2 * top .position + 1) 0 ≡ firstValue z =
+    ap (λ q. getD tokens (2 * q + 1) 0) (C .position-is) ∙ sym (n .value-is) ∙ ap firstValue (sym (C .left-is)) in
+    let there : S < b .states = state-low B (C .path) in
+    let declared : next z ≤ b .terminals = rw (C .left-is) (next-declared (M .tokens) p) in
+    record {
+      state-is = s;
+      kind-is = k;
+      value-is = v;
+      state-there = omega arith;
+      kind-there = omega arith;
+      state-low = omega (arith, B .sound .limits .states-limit .high);
+      kind-low = omega (arith, B .sound .limits .terminals-limit .high);
+    }
+
+-- the machine's numbers are small
+pub record TopLow (top : Top) : Type 0 where
+  pub depth-low : top .depth ≤ 128
+  pub position-low : top .position ≤ 255
+
+low-of : {b : Book} {ks : List Token} {c : Config} {states inherited synthesized starts rows : List ℕ} {top : Top}
+    → Message b ks → ConfigIn b ks states inherited synthesized starts rows top c → TopLow top
+low-of M (stands C) = record {
+  depth-low = omega (arith, C .depth-is, C .depth-low);
+  position-low = omega (arith, C .position-is, C .position-low, M .few);
+}
+
+rows-in : {b : Book} {ks : List Token} {c : Config} {states inherited synthesized starts rows : List ℕ} {top : Top}
+    → ConfigIn b ks states inherited synthesized starts rows top c → rows ≡ page (rowsOf c)
+rows-in (stands C) = C .rows-are
+
+module _ {b : Book} {ks : List Token} {c : Config} {rules : List ℕ} {count : ℕ} {definitions : List ℕ} {lines : ℕ}
+    {owned kernels heads closures nulls reaches firsts down up table actions tokens : List ℕ}
+    {states inherited synthesized starts rows counts lists : List ℕ} {top : Top}
+    (R : RunIn b ks rules count definitions lines owned kernels heads closures nulls reaches firsts down up table actions tokens)
+    (H : Here b ks c states inherited synthesized starts rows counts lists top) where
+  pub top-low : TopLow top
+  top-low = low-of (H .message) (H .config-in)
+
+  pub facing : Facing b c top (getD states (top .depth) 0) (getD tokens (2 * top .position) 0) (getD tokens (2 * top .position + 1) 0)
+  facing = facing-of tokens (R .driven .book-in) (R .tokens-in) (H .message) (H .config-in)
+
+  -- the action, by the byte of the state and the kind
+  module _ {state kind : ℕ} (state-is : state ≡ getD states (top .depth) 0) (kind-is : kind ≡ getD tokens (2 * top .position) 0) {x : Action}
+      (action-is : x ≡ actionAt (getD actions (32 * state + kind) 0)) where
+    means : meant x ≡ actionOf b c
+    means =
+        let B = R .driven .book-in in
+        let F = facing in
+        ap meant action-is
+        ∙ action-means (B .spelled) (B .sound) (R .actions-in) state kind (omega (arith, F .state-there)) (omega (arith, F .kind-there))
+        ∙ ap (λ s. tablesOf b .act s kind) (state-is ∙ F .state-is) ∙ ap (tablesOf b .act (stateOf c)) (kind-is ∙ F .kind-is)
+
+    pub due-none : x ≡ None → step b (tablesOf b) c ≡ stop (refused 15)
+    unfolding meant
+    due-none e = none-refused b c (sym means ∙ ap meant e)
+
+    pub due-accept : x ≡ Due Accept → Accepts b c rows
+    unfolding meant
+    due-accept e = record { stops = accept-stops b c (sym means ∙ ap meant e); rows-are = rows-in (H .config-in) }
+
+    pub due-shift : x ≡ Due Shift → {value : ℕ} → value ≡ getD tokens (2 * top .position + 1) 0 → Shifts b c state kind value
+    unfolding meant
+    due-shift e v = record {
+      action-is = sym means ∙ ap meant e;
+      state-is = state-is ∙ facing .state-is;
+      kind-is = kind-is ∙ facing .kind-is;
+      value-is = v ∙ facing .value-is;
+    }
+
+    pub due-reduce : {P : ℕ} → x ≡ Due (Reduce P) → Reduces b c P state kind
+    unfolding meant
+    due-reduce e = record {
+      action-is = sym means ∙ ap meant e;
+      state-is = state-is ∙ facing .state-is;
+      kind-is = kind-is ∙ facing .kind-is;
+    }

@@ -3,9 +3,7 @@ ghost use mathlib.Core.Option.{some};
 ghost use Prim.Native.Nat.{_≤_};
 ghost use lib.ListN.{length};
 ghost use Rattle.grammar.specs.Limits.{MAX-TEXT};
-ghost use Rattle.grammar.specs.Engine.{evaluateWords};
 ghost use Rattle.grammar.specs.Cases.Cases.{calls};
-ghost use Rattle.engine.specs.Evaluations.{Evaluates};
 ghost use Rattle.conditions.specs.Answers.{Some};
 ghost use Rattle.desk.specs.Desk.{Input, answer, answerTo};
 ghost use Rattle.desk.specs.Holds.{HoldsTokens, Holds};
@@ -14,20 +12,13 @@ ghost use Rattle.desk.specs.Answers.{Lengths, Figured};
 use super::input::Progress;
 use super::output::put_answer;
 use super::output::put_refused;
+use engine::evaluating::evaluate;
 use engine::reading::read;
 
 // A refusal or 0, and the number of rows.
 struct Evaluated {
     number: u32,
     count: u32,
-}
-
-fn evaluate(words: &[u32], tokens: &[u32], rows: &mut [u32], count: &mut u32) -> u32
-    ensures { λ r. ⌜ Evaluates (evaluateWords (now (words .entry)) (now (tokens .entry)) (length (now (rows .entry)))) r (now (rows .exit))
-        (now (count .exit)) ⌝ }
-{
-    *count = 0;
-    15
 }
 
 // What reading and evaluating say of a book's text and the tokens' numbers.

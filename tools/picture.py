@@ -17,7 +17,7 @@ sys.path.insert(0, str(Path(__file__).resolve().parent))
 import grammar as grammars  # noqa: E402
 
 INHERITED, SYNTHESIZED, LINES = "#a04000", "#005f87", "#777777"
-LETTER, LINE, GAP, LEVEL = 7, 14, 18, 78
+LETTER, LINE, GAP, LEVEL = 7, 14, 18, 96
 
 
 class Node:
@@ -103,8 +103,9 @@ def text(x, y, words, colour, anchor):
 def drawn(node):
     """A node and the lines to its children."""
     y = 30 + node.depth * LEVEL
+    below = y + 8 + LINE * (max(len(node.left), len(node.right), 1) - 1)
     lines = [
-        f'<line x1="{node.at:.0f}" y1="{y + 8}" x2="{child.at:.0f}" y2="{30 + child.depth * LEVEL - 16}" stroke="{LINES}"/>' for child in node.children
+        f'<line x1="{node.at:.0f}" y1="{below}" x2="{child.at:.0f}" y2="{30 + child.depth * LEVEL - 16}" stroke="{LINES}"/>' for child in node.children
     ]
     half = LETTER * (len(node.name) + 2) / 2
     lines.append(text(node.at, y, node.name, "#000000", "middle"))

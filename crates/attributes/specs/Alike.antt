@@ -5,7 +5,7 @@ use native.Mathlib.Decide.{ℕ-discrete}
 use mathlib.Core.Path.{_≡_, refl, sym, ap, _∙_}
 use mathlib.Core.Logic.{_⊎_, inl, inr}
 use mathlib.Core.Bool.{Bool, true, false, not}
-use mathlib.Core.List.{List, []}
+use mathlib.Core.List.{List}
 use lib.Bits.{bitXor, differ, xor-step, xor-shr}
 use lib.Dec.{eqb}
 use lib.ListN.{getD}
@@ -19,14 +19,14 @@ use Rattle.grammar.specs.Formulas.FormulaCheck as grammar
 use Rattle.grammar.specs.Formulas.FormulaCheck.{dotOf, lineAt, check}
 use Rattle.grammar.specs.Formulas.FormulaCheckAll.{SameItems, check-same}
 use Rattle.attributes.specs.Checking.{memberOf, CheckHeld}
-use Rattle.attributes.specs.CheckingLaws.{member-is}
+use Rattle.attributes.specs.CheckingLaws.{place-is}
 
 -- The numbers below 32 that a set does not hold
 
 abbrev full : ℕ
 full = 4294967295
 
-bit-full : (i : ℕ) → i < 32 → bit full i ≡ true
+pub bit-full : (i : ℕ) → i < 32 → bit full i ≡ true
 bit-full i h = ap (λ (s : ℕ). bit s i) all ∙ bit-collect (λ _. true) 32 i h
   where
     all : full ≡ collect 32 (λ _. true)
@@ -59,7 +59,7 @@ module _ {b : Book} {definitions rules owned masks : List ℕ} (H : CheckHeld b 
   set = getD masks (9 * rule + position - 1) 0
 
   at : (k : ℕ) → memberOf masks k (lineAt b d .rule) (dotOf (lineAt b d)) ≡ bit set k
-  at k = member-is H l [] k r p refl
+  at k = ap (λ (i : ℕ). bit (getD masks i 0) k) (place-is H l r p)
 
   pub agree-in : {t : Bool} → t ≡ bit set a → t ≡ true → not (bit set c) ≡ false → Agree b masks a c d
   agree-in e f q = at a ∙ sym e ∙ f ∙ sym (at c ∙ not-false (bit set c) q)

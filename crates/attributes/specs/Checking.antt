@@ -5,7 +5,7 @@ use mathlib.Core.Path.{_≡_}
 use mathlib.Core.Bool.{Bool, true, false}
 use mathlib.Core.List.{List}
 use lib.ListN.{length, getD}
-use Rattle.sets.specs.Sets.{bit}
+use Rattle.sets.specs.Sets.{bit, meets}
 use Rattle.grammar.specs.Limits.{MAX-INHERITED, MAX-DEFINITIONS, MAX-NODES}
 use Rattle.grammar.specs.Data.Symbol.{leftOf}
 use Rattle.grammar.specs.Data.Term.{nodes}
@@ -23,6 +23,10 @@ use Rattle.attributes.specs.Owned.{OwnedIn, KnownIn}
 -- item (P, D) is in the partial state if its set has the terminal
 abbrev pub memberOf : List ℕ → ℕ → ℕ → ℕ → Bool
 memberOf masks a P D = bit (getD masks (9 * P + D) 0) a
+
+-- item (P, D) is in one of the partial states of a set of terminals
+abbrev pub memberIn : List ℕ → ℕ → ℕ → ℕ → Bool
+memberIn masks wanted P D = meets (getD masks (9 * P + D) 0) wanted
 
 -- where a definition's line points: a rule, and a position of its right side
 pub record LineIn (b : Book) (d : ℕ) : Type 0 where

@@ -11,7 +11,7 @@ use native.Mathlib.Decide.{ℕ-discrete}
 use lib.ListN.{length, getD, set, length-set}
 use lib.Seq.{getD-set-same, getD-set-other}
 use borrow.Author.Tests.{ne-eqb}
-use Rattle.sets.specs.Sets.{bit, with, subset}
+use Rattle.sets.specs.Sets.{bit, with, subset, meets}
 use Rattle.sets.specs.SetsLaws.{bit-with, with-self}
 use Rattle.grammar.specs.Limits.{MAX-DEFINITIONS}
 use Rattle.grammar.specs.Automaton.TestLaws.{true-false}
@@ -28,7 +28,7 @@ use Rattle.attributes.specs.Formulas.{SlotIn, empty, full, Asked, Formed
 use Rattle.attributes.specs.Steps.{inherited-in}
 use Rattle.attributes.specs.SlotsHeld.{SlotsIn, slots-kept, reads-item}
 use Rattle.attributes.specs.Owned.{isFilled, KnownIn, settled-is}
-use Rattle.attributes.specs.Checking.{memberOf, CheckHeld, markOf, ProgressIn, Reached, going, apart}
+use Rattle.attributes.specs.Checking.{memberIn, CheckHeld, markOf, ProgressIn, Reached, going, apart}
 
 -- a test that failed, or held, as a branch over its negation tells it
 failed : {t : Bool} → not t ≡ true → t ≡ false
@@ -82,29 +82,31 @@ module _ {b : Book} {definitions rules owned masks : List ℕ} (H : CheckHeld b 
   pub left-below : getD rules (10 * getD definitions (49 * d) 0) 0 < 32
   left-below = omega (arith, left-word, H .left-low (lineAt b d .rule) (H .line-in d l .rule-there))
 
-  module _ (slots : Slots) (a : ℕ) {rule position : ℕ} (r : rule ≡ getD definitions (49 * d) 0) (p : position ≡ getD definitions (49 * d + 1) 0) where
-    pub member-is : {t : Bool} → t ≡ bit (getD masks (9 * rule + position - 1) 0) a → memberOf masks a (lineAt b d .rule) (dotOf (lineAt b d)) ≡ t
-    member-is e =
-        let place : 9 * lineAt b d .rule + (lineAt b d .position - 1) ≡ 9 * rule + position - 1 =
-        omega (arith, rule-word, position-word, H .line-in d l .position-low) in
-        ap (λ (i : ℕ). bit (getD masks i 0) a) place ∙ sym e
+  -- where the item's set stands
+  pub place-is : {rule position : ℕ} → rule ≡ getD definitions (49 * d) 0 → position ≡ getD definitions (49 * d + 1) 0
+      → 9 * lineAt b d .rule + dotOf (lineAt b d) ≡ 9 * rule + position - 1
+  place-is r p = omega (arith, rule-word, position-word, H .line-in d l .position-low)
 
-    pub due-absent : {t : Bool} → t ≡ bit (getD masks (9 * rule + position - 1) 0) a → not t ≡ true → false ≡ due b (memberOf masks a) slots (lineAt b d)
+  module _ (slots : Slots) (a : ℕ) {rule position : ℕ} (r : rule ≡ getD definitions (49 * d) 0) (p : position ≡ getD definitions (49 * d + 1) 0) where
+    member-is : {t : Bool} → t ≡ meets (getD masks (9 * rule + position - 1) 0) a → memberIn masks a (lineAt b d .rule) (dotOf (lineAt b d)) ≡ t
+    member-is e = ap (λ (i : ℕ). meets (getD masks i 0) a) (place-is r p) ∙ sym e
+
+    pub due-absent : {t : Bool} → t ≡ meets (getD masks (9 * rule + position - 1) 0) a → not t ≡ true → false ≡ due b (memberIn masks a) slots (lineAt b d)
     unfolding due
     due-absent e f = rw (due, member-is e ∙ failed f)
 
-    due-member : {t : Bool} → t ≡ bit (getD masks (9 * rule + position - 1) 0) a → not t ≡ false
-        → due b (memberOf masks a) slots (lineAt b d) ≡ ready b slots (lineAt b d .rule) (dotOf (lineAt b d))
+    due-member : {t : Bool} → t ≡ meets (getD masks (9 * rule + position - 1) 0) a → not t ≡ false
+        → due b (memberIn masks a) slots (lineAt b d) ≡ ready b slots (lineAt b d .rule) (dotOf (lineAt b d))
     unfolding due
     due-member e f = rw (due, member-is e ∙ held f)
 
-    pub due-behind : {t : Bool} → t ≡ bit (getD masks (9 * rule + position - 1) 0) a → not t ≡ false → (position ≡ 1 → ⊥)
-        → true ≡ due b (memberOf masks a) slots (lineAt b d)
+    pub due-behind : {t : Bool} → t ≡ meets (getD masks (9 * rule + position - 1) 0) a → not t ≡ false → (position ≡ 1 → ⊥)
+        → true ≡ due b (memberIn masks a) slots (lineAt b d)
     due-behind e f n =
         sym (due-member e f ∙ ready-behind b slots (lineAt b d .rule) (dotOf (lineAt b d)) (λ z. n (omega (arith, position-word, H .line-in d l .position-low))))
 
-    pub due-front : {t : Bool} → t ≡ bit (getD masks (9 * rule + position - 1) 0) a → not t ≡ false → position ≡ 1 → {known left : ℕ} → KnownIn slots known
-        → left ≡ getD rules (10 * rule) 0 → subset (getD owned left 0) known ≡ due b (memberOf masks a) slots (lineAt b d)
+    pub due-front : {t : Bool} → t ≡ meets (getD masks (9 * rule + position - 1) 0) a → not t ≡ false → position ≡ 1 → {known left : ℕ} → KnownIn slots known
+        → left ≡ getD rules (10 * rule) 0 → subset (getD owned left 0) known ≡ due b (memberIn masks a) slots (lineAt b d)
     due-front e f o {known} {left} K q =
         let A = leftOf (b .rules) (lineAt b d .rule) in
         let is : left ≡ A = q ∙ ap (λ (P : ℕ). getD rules (10 * P) 0) r ∙ left-word in
@@ -216,17 +218,17 @@ module _ {b : Book} {definitions rules owned masks : List ℕ} (H : CheckHeld b 
 
   -- a definition that is done, or not due, is passed over
   pub visit-done : (getD marks d 0 ≡ 0 → ⊥) → {splits : Bool} → splits ≡ false → (a : ℕ)
-      → Reached words marks table heads nexts used known count splits (visit b (memberOf masks a) d (progress slots done))
+      → Reached words marks table heads nexts used known count splits (visit b (memberIn masks a) d (progress slots done))
   unfolding visit
   visit-done n s a = rw (visit, marked (getD done d true) (λ e. n (R .mark-is d line-low ∙ e))) (going R s)
 
-  pub visit-undue : (a : ℕ) {t : Bool} → t ≡ due b (memberOf masks a) slots (lineAt b d) → not t ≡ true → {splits : Bool} → splits ≡ false
-      → Reached words marks table heads nexts used known count splits (visit b (memberOf masks a) d (progress slots done))
+  pub visit-undue : (a : ℕ) {t : Bool} → t ≡ due b (memberIn masks a) slots (lineAt b d) → not t ≡ true → {splits : Bool} → splits ≡ false
+      → Reached words marks table heads nexts used known count splits (visit b (memberIn masks a) d (progress slots done))
   unfolding visit
   visit-undue a {t} e f {splits} s = by (getD done d true) refl
     where
       by : (u : Bool) → getD done d true ≡ u
-          → Reached words marks table heads nexts used known count splits (visit b (memberOf masks a) d (progress slots done))
+          → Reached words marks table heads nexts used known count splits (visit b (memberIn masks a) d (progress slots done))
       by true q = rw (visit, q) (going R s)
       by false q = rw (visit, q, sym e ∙ failed f) (going R s)
 
@@ -235,8 +237,8 @@ module _ {b : Book} {definitions rules owned masks : List ℕ} (H : CheckHeld b 
     open-line : getD done d true ≡ false
     open-line = unmarked (getD done d true) (sym (R .mark-is d line-low) ∙ mark)
 
-    pub visit-enters : (a : ℕ) {t : Bool} → t ≡ due b (memberOf masks a) slots (lineAt b d) → not t ≡ false
-        → visit b (memberOf masks a) d (progress slots done)
+    pub visit-enters : (a : ℕ) {t : Bool} → t ≡ due b (memberIn masks a) slots (lineAt b d) → not t ≡ false
+        → visit b (memberIn masks a) d (progress slots done)
         ≡ enter slots (set done d true) (getD definitions (49 * d + 2) 0) (formulaOf slots (lineAt b d))
     unfolding visit
     visit-enters a e f = rw (visit, open-line, sym e ∙ held f, attribute-word H l)

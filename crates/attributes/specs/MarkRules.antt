@@ -12,6 +12,7 @@ use Rattle.grammar.specs.Automaton.FirstSets.{Sets}
 use Rattle.grammar.specs.Automaton.ReachSets.{reachWith}
 use Rattle.grammar.specs.Automaton.CoreItems.{Core, core, entered, ofRules}
 use Rattle.book.specs.Held.{RulesIn}
+use Rattle.automaton.specs.NoItems.{Nothing, no-rules}
 use Rattle.attributes.specs.Marks.{MarksIn, marks-item}
 
 -- a grammar in an array, with the closure `looks` of a state from word `first` on
@@ -58,3 +59,9 @@ module _ {G : List Rule} {rules looks words : List ℕ} {first : ℕ} (L : Looks
 pub rules-start : {G : List Rule} (looks : List ℕ) {F : Sets} {R masks : List ℕ} → MarksIn G F R [] masks → MarksIn G F R (ofRules G looks 0) masks
 unfolding ofRules
 rules-start looks H = H
+
+-- a closure without items
+pub rules-nothing : {G : List Rule} {rules looks words : List ℕ} {first count : ℕ} → LooksIn G rules looks words first → count ≡ length G
+    → Nothing words first 32 → {F : Sets} {R masks : List ℕ} → MarksIn G F R [] masks → MarksIn G F R (ofRules G looks count) masks
+rules-nothing {G} {rules} {looks} {words} {first} {count} L e idle H =
+    rw (no-rules G looks count λ P l. let low = L .left-low P (omega arith) in sym (L .look-is (leftOf G P) low) ∙ idle (leftOf G P) low) H

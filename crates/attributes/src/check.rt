@@ -16,10 +16,12 @@ ghost use Rattle.grammar.specs.Formulas.Passes.{visits};
 ghost use Rattle.attributes.specs.Table.{ROOM};
 ghost use Rattle.attributes.specs.Meaning.{Means};
 ghost use Rattle.attributes.specs.Owned.{KnownIn};
-ghost use Rattle.attributes.specs.Checking.{memberOf, CheckHeld, ProgressIn, Reached, Room};
+ghost use Rattle.attributes.specs.Skips.{Skips};
+ghost use Rattle.attributes.specs.Checking.{memberIn, memberOf, CheckHeld, ProgressIn, Reached, Room};
 use super::alike::alike;
 use super::formulas::formula_of;
 use super::interning::clear;
+use super::skips::skip;
 use automaton::words::fill;
 use automaton::words::word;
 
@@ -32,25 +34,25 @@ pub struct Progress {
     pub split: bool,
 }
 
-// Whether the definition in a line may give its formula: its item is in the partial state, and does not wait for its left side.
+// Whether the definition in a line may give its formula: its item has a terminal that is wanted, and does not wait for its left side.
 pub fn due(
     definitions: &[u32],
     line: usize,
-    terminal: u32,
+    wanted: u32,
     masks: &[u32],
     rules: &[u32],
     owned: &[u32],
     known: u32,
 ) -> bool
     requires { ⌜ ((b : Book) × (slots : Slots) × CheckHeld b (now definitions) (now rules) (now owned) (now masks) × (line < grammar.definitions b)
-        × KnownIn slots known) × (terminal < 32) ⌝ }
+        × KnownIn slots known) ⌝ }
     ensures { λ r. ⌜ ((b : Book) (slots : Slots) → CheckHeld b (now (definitions .entry)) (now (rules .entry)) (now (owned .entry)) (now (masks .entry))
         → line < grammar.definitions b → KnownIn slots known
-        → r ≡ grammar.due b (memberOf (now (masks .entry)) terminal) slots (lineAt b line)) ⌝ }
+        → r ≡ grammar.due b (memberIn (now (masks .entry)) wanted) slots (lineAt b line)) ⌝ }
 {
     let rule = word(definitions, 49 * line);
     let position = word(definitions, 49 * line + 1);
-    if !sets::has(masks[9 * rule + position - 1], terminal) {
+    if !sets::meets(masks[9 * rule + position - 1], wanted) {
         return false;
     }
     if position != 1 {
@@ -105,7 +107,7 @@ fn enter(
 fn visit(
     definitions: &[u32],
     line: usize,
-    terminal: u32,
+    wanted: u32,
     masks: &[u32],
     rules: &[u32],
     owned: &[u32],
@@ -119,17 +121,17 @@ fn visit(
     requires { ⌜ ((b : Book) × (s : Slots) × (d : List Bool) × CheckHeld b (now definitions) (now rules) (now owned) (now masks)
         × (line < grammar.definitions b)
         × ProgressIn s d (now slots) (now done) (now table) (now heads) (now nexts) (p .used) (p .known) (p .count))
-        × (terminal < 32) × (p .split ≡ false) ⌝ }
+        × (p .split ≡ false) ⌝ }
     ensures { λ r. ⌜ ((b : Book) (s : Slots) (d : List Bool) → CheckHeld b (now (definitions .entry)) (now (rules .entry)) (now (owned .entry)) (now (masks .entry))
         → line < grammar.definitions b
         → ProgressIn s d (now (slots .entry)) (now (done .entry)) (now (table .entry)) (now (heads .entry)) (now (nexts .entry)) (p .used) (p .known) (p .count)
         → Reached (now (slots .exit)) (now (done .exit)) (now (table .exit)) (now (heads .exit)) (now (nexts .exit)) (r .used) (r .known) (r .count) (r .split)
-        (grammar.visit b (memberOf (now (masks .entry)) terminal) line (progress s d))) ⌝ }
+        (grammar.visit b (memberIn (now (masks .entry)) wanted) line (progress s d))) ⌝ }
 {
     if done[line] != 0 {
         return p;
     }
-    if !due(definitions, line, terminal, masks, rules, owned, p.known) {
+    if !due(definitions, line, wanted, masks, rules, owned, p.known) {
         return p;
     }
     let dot = definitions[49 * line + 1] - 1;
@@ -139,11 +141,12 @@ fn visit(
     enter(slots, attribute, r.number, r.used, p.known, p.count + 1)
 }
 
-// One pass over the definitions, up to a split.
+// One pass over the definitions whose items are in the state, up to a split.
 fn pass(
     definitions: &[u32],
     lines: usize,
-    terminal: u32,
+    wanted: u32,
+    skips: &[u8],
     masks: &[u32],
     rules: &[u32],
     owned: &[u32],
@@ -157,19 +160,19 @@ fn pass(
     requires { ⌜ ((b : Book) × (s : Slots) × (d : List Bool) × CheckHeld b (now definitions) (now rules) (now owned) (now masks)
         × (lines ≡ grammar.definitions b)
         × ProgressIn s d (now slots) (now done) (now table) (now heads) (now nexts) (p .used) (p .known) (p .count))
-        × (terminal < 32) × (p .split ≡ false) ⌝ }
+        × Skips (now definitions) (now masks) lines (now skips) × (p .split ≡ false) ⌝ }
     ensures { λ r. ⌜ ((b : Book) (s : Slots) (d : List Bool) → CheckHeld b (now (definitions .entry)) (now (rules .entry)) (now (owned .entry)) (now (masks .entry))
         → lines ≡ grammar.definitions b
         → ProgressIn s d (now (slots .entry)) (now (done .entry)) (now (table .entry)) (now (heads .entry)) (now (nexts .entry)) (p .used) (p .known) (p .count)
         → Reached (now (slots .exit)) (now (done .exit)) (now (table .exit)) (now (heads .exit)) (now (nexts .exit)) (r .used) (r .known) (r .count) (r .split)
-        (visits (grammar.visit b (memberOf (now (masks .entry)) terminal)) lines (progress s d))) ⌝ }
+        (visits (grammar.visit b (memberIn (now (masks .entry)) wanted)) lines (progress s d))) ⌝ }
 {
-    let mut i = 0;
+    let mut i = skips[0] as usize;
     while i < lines {
         p = visit(
             definitions,
             i,
-            terminal,
+            wanted,
             masks,
             rules,
             owned,
@@ -183,7 +186,7 @@ fn pass(
         if p.split {
             return p;
         }
-        i += 1;
+        i = skips[i + 1] as usize;
     }
     p
 }
@@ -192,7 +195,8 @@ fn pass(
 fn passes(
     definitions: &[u32],
     lines: usize,
-    terminal: u32,
+    wanted: u32,
+    skips: &[u8],
     masks: &[u32],
     rules: &[u32],
     owned: &[u32],
@@ -206,18 +210,19 @@ fn passes(
     requires { ⌜ ((b : Book) × (s : Slots) × (d : List Bool) × CheckHeld b (now definitions) (now rules) (now owned) (now masks)
         × (lines ≡ grammar.definitions b)
         × ProgressIn s d (now slots) (now done) (now table) (now heads) (now nexts) (p .used) (p .known) (p .count))
-        × (terminal < 32) × (p .split ≡ false) ⌝ }
+        × Skips (now definitions) (now masks) lines (now skips) × (p .split ≡ false) ⌝ }
     ensures { λ r. ⌜ ((b : Book) (s : Slots) (d : List Bool) → CheckHeld b (now (definitions .entry)) (now (rules .entry)) (now (owned .entry)) (now (masks .entry))
         → lines ≡ grammar.definitions b
         → ProgressIn s d (now (slots .entry)) (now (done .entry)) (now (table .entry)) (now (heads .entry)) (now (nexts .entry)) (p .used) (p .known) (p .count)
-        → r ≡ unsplit (fixpoint.passes (grammar.visit b (memberOf (now (masks .entry)) terminal)) advance (grammar.definitions b) (progress s d))) ⌝ }
+        → r ≡ unsplit (fixpoint.passes (grammar.visit b (memberIn (now (masks .entry)) wanted)) advance (grammar.definitions b) (progress s d))) ⌝ }
 {
     loop {
         let before = p.count;
         p = pass(
             definitions,
             lines,
-            terminal,
+            wanted,
+            skips,
             masks,
             rules,
             owned,
@@ -249,11 +254,12 @@ fn clear_slots(slots: &mut [u32])
     }
 }
 
-// 10, of one partial state: the items whose sets have the terminal.
+// 10, of the items whose sets have a terminal that is wanted.
 fn check(
     definitions: &[u32],
     lines: usize,
-    terminal: u32,
+    wanted: u32,
+    skips: &[u8],
     masks: &[u32],
     rules: &[u32],
     owned: &[u32],
@@ -264,9 +270,9 @@ fn check(
     nexts: &mut [u32],
 ) -> bool
     requires { ⌜ ((b : Book) × CheckHeld b (now definitions) (now rules) (now owned) (now masks) × (lines ≡ grammar.definitions b))
-        × (terminal < 32) × Room (now slots) (now done) (now table) (now heads) (now nexts) ⌝ }
+        × Skips (now definitions) (now masks) lines (now skips) × Room (now slots) (now done) (now table) (now heads) (now nexts) ⌝ }
     ensures { λ r. ⌜ ((b : Book) → CheckHeld b (now (definitions .entry)) (now (rules .entry)) (now (owned .entry)) (now (masks .entry))
-        → lines ≡ grammar.definitions b → r ≡ grammar.check b (memberOf (now (masks .entry)) terminal)) ⌝ }
+        → lines ≡ grammar.definitions b → r ≡ grammar.check b (memberIn (now (masks .entry)) wanted)) ⌝ }
 {
     clear_slots(slots);
     fill(done, 128, 0);
@@ -280,7 +286,8 @@ fn check(
     passes(
         definitions,
         lines,
-        terminal,
+        wanted,
+        skips,
         masks,
         rules,
         owned,
@@ -294,6 +301,57 @@ fn check(
 }
 
 // 10, of the partial states of one state: of those with the same items, the first is checked.
+fn parts_right(
+    definitions: &[u32],
+    lines: usize,
+    terminals: u32,
+    skips: &[u8],
+    masks: &[u32],
+    rules: &[u32],
+    owned: &[u32],
+    slots: &mut [u32],
+    done: &mut [u8],
+    table: &mut [u32],
+    heads: &mut [u32],
+    nexts: &mut [u32],
+) -> bool
+    requires { ⌜ ((b : Book) × CheckHeld b (now definitions) (now rules) (now owned) (now masks) × (lines ≡ grammar.definitions b))
+        × (terminals < 32) × Skips (now definitions) (now masks) lines (now skips) × Room (now slots) (now done) (now table) (now heads) (now nexts) ⌝ }
+    ensures { λ r. ⌜ ((b : Book) → CheckHeld b (now (definitions .entry)) (now (rules .entry)) (now (owned .entry)) (now (masks .entry))
+        → lines ≡ grammar.definitions b → terminals ≡ b .terminals
+        → r ≡ allBelow (suc (b .terminals)) (λ a. grammar.check b (memberOf (now (masks .entry)) a))) ⌝ }
+{
+    let mut right = 0u32;
+    let mut a = 0;
+    while a <= terminals {
+        if sets::has(right, a) {
+            a += 1;
+            continue;
+        }
+        if !check(
+            definitions,
+            lines,
+            sets::single(a),
+            skips,
+            masks,
+            rules,
+            owned,
+            slots,
+            done,
+            table,
+            heads,
+            nexts,
+        ) {
+            return false;
+        }
+        let more = alike(definitions, lines, a, masks);
+        right = sets::union(right, more);
+        a += 1;
+    }
+    true
+}
+
+// 10, of the partial states of one state: if all of its items together give one formula, so do those of each partial state.
 pub fn check_state(
     definitions: &[u32],
     lines: usize,
@@ -313,31 +371,36 @@ pub fn check_state(
         → lines ≡ grammar.definitions b → terminals ≡ b .terminals
         → r ≡ allBelow (suc (b .terminals)) (λ a. grammar.check b (memberOf (now (masks .entry)) a))) ⌝ }
 {
-    let mut right = 0u32;
-    let mut a = 0;
-    while a <= terminals {
-        if sets::has(right, a) {
-            a += 1;
-            continue;
-        }
-        if !check(
-            definitions,
-            lines,
-            a,
-            masks,
-            rules,
-            owned,
-            slots,
-            done,
-            table,
-            heads,
-            nexts,
-        ) {
-            return false;
-        }
-        let more = alike(definitions, lines, a, masks);
-        right = sets::union(right, more);
-        a += 1;
+    let mut skips = [0u8; 129];
+    skip(definitions, lines, masks, &mut skips);
+    if check(
+        definitions,
+        lines,
+        4294967295,
+        &skips,
+        masks,
+        rules,
+        owned,
+        slots,
+        done,
+        table,
+        heads,
+        nexts,
+    ) {
+        return true;
     }
-    true
+    parts_right(
+        definitions,
+        lines,
+        terminals,
+        &skips,
+        masks,
+        rules,
+        owned,
+        slots,
+        done,
+        table,
+        heads,
+        nexts,
+    )
 }

@@ -7,4 +7,5 @@ pub mod masks;
 pub mod nodes;
 pub mod one_formula;
 pub mod owned;
+pub mod skips;
 pub mod steps;

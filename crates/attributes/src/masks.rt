@@ -15,6 +15,7 @@ ghost use Rattle.attributes.specs.Marks.{MarksIn};
 ghost use Rattle.attributes.specs.MarkRules.{LooksIn};
 ghost use Rattle.attributes.specs.MarkLines.{ItemLinesIn, itemOf};
 ghost use Rattle.attributes.specs.StateMarks.{MarksHeld, StateMarksIn};
+use automaton::words::nothing;
 use automaton::words::word;
 
 // What is reached by items of a rule, with the dot after `dot` symbols and the lookaheads `own`.
@@ -84,6 +85,9 @@ fn mark_rules(
         → SuffixesIn G F (now (nulls .entry)) firsts → ReachesIn G F R (now (reaches .entry)) → MarksIn G F R [] (now (masks .entry))
         → MarksIn G F R (ofRules G L count) (now (masks .exit))) ⌝ }
 {
+    if nothing(looks, first) {
+        return;
+    }
     let mut i = 0;
     while i < count {
         mark_rule(rules, looks, first, nulls, reaches, i, masks);

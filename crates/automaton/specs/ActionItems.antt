@@ -24,6 +24,7 @@ use Rattle.grammar.specs.Automaton.TestLaws.{by-test}
 use Rattle.grammar.specs.Automaton.Actions.{Cell, conflict, meld, completed, meldItem, cellFrom}
 use Rattle.book.specs.Layout.{symbolCode}
 use Rattle.book.specs.Held.{KernelsIn, kernelAt}
+use Rattle.automaton.specs.NoItems.{Nothing, no-items}
 use Rattle.automaton.specs.Arrays.{ClosuresIn}
 use Rattle.automaton.specs.SymbolCodes.{terminal-code, nonterminal-code}
 use Rattle.automaton.specs.GrammarIn.{GrammarIn, Next, after-none, after-some, right-symbol-low, set-word}
@@ -155,6 +156,12 @@ pub record RulesActing (rules closures : List ℕ) (T S count : ℕ) (old now : 
 pub acting-none : (rules closures : List ℕ) (T S count : ℕ) (old : List ℕ) → RulesActing rules closures T S count old old 0
 unfolding ofRules
 acting-none rules closures T S count old = record { within = omega arith; long = refl; so-far = λ b F g k s t c row. melded-none row }
+
+-- a closure without items gives none
+pub acting-nothing : {b : Book} {F : Sets} {rules closures : List ℕ} → GrammarIn b rules → ClosuresIn b F closures → {T S count : ℕ} → S < b .states
+    → count ≡ length (b .rules) → Nothing closures (32 * S) 32 → {old : List ℕ} → Row T S (cellFrom (b .rules) []) old
+    → Melded T S (cellFrom (b .rules) (ofRules (b .rules) (closureSets b F S) count)) old old true
+acting-nothing g k s c idle row = rw (no-items g k s c idle) (melded-none row)
 
 module _ {rules closures : List ℕ} {T S count : ℕ} {old now : List ℕ} {rule : ℕ} (k : RulesActing rules closures T S count old now rule) where
   pub acting-all : count ≤ rule → (b : Book) (F : Sets) → GrammarIn b rules → ClosuresIn b F closures → S < b .states → T ≡ b .terminals

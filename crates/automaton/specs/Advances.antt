@@ -21,6 +21,7 @@ use Rattle.grammar.specs.Automaton.ClosureSets.{setOf, kernelsIn, closureSets}
 use Rattle.grammar.specs.Automaton.CoreItems.{Core, core, ofKernels, entered, ofRules, coreItems}
 use Rattle.grammar.specs.Automaton.StatesCheck.{holdsItem, advancesTo, advances, allAdvance, statesAdvance}
 use Rattle.book.specs.Held.{KernelsIn, kernelAt}
+use Rattle.automaton.specs.NoItems.{Nothing, no-items}
 use Rattle.automaton.specs.Arrays.{targetCode}
 use Rattle.automaton.specs.GrammarIn.{Next, after-none, after-some, right-go, set-word}
 use Rattle.automaton.specs.StatesIn.{StatesIn, MovesIn, ItemsIn, AutomatonIn, Stands, Range, state-range, kernel-there, lines-next}
@@ -236,6 +237,12 @@ pub record RulesAdvance (rules kernels starts closures table : List ℕ) (S coun
 
 pub rules-none : (rules kernels starts closures table : List ℕ) (S count : ℕ) → RulesAdvance rules kernels starts closures table S count count
 rules-none rules kernels starts closures table S count = record { within = omega arith; same = λ b F h s c. refl }
+
+-- a closure without items has none to advance
+pub rules-nothing : {b : Book} {F : Sets} {rules kernels starts closures table : List ℕ} → AutomatonIn b F rules kernels starts closures table → {S count : ℕ}
+    → S < b .states → count ≡ length (b .rules) → Nothing closures (32 * S) 32 → true ≡ allAdvance b S (ofRules (b .rules) (closureSets b F S) count)
+unfolding allAdvance
+rules-nothing {b} h {S} s c idle = sym (ap (allAdvance b S) (no-items (h .states-in .grammar-in) (h .closures-in) s c idle))
 
 module _ {rules kernels starts closures table : List ℕ} {S count rule : ℕ} (k : RulesAdvance rules kernels starts closures table S count rule) where
   pub rules-all : rule ≤ 0 → (b : Book) (F : Sets) → AutomatonIn b F rules kernels starts closures table → S < b .states → count ≡ length (b .rules)

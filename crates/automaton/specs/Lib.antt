@@ -19,6 +19,7 @@ pub mod HoldsItem
 pub mod KernelLines
 pub mod KernelRules
 pub mod KernelWords
+pub mod NoItems
 pub mod NullableLoops
 pub mod Part
 pub mod Passes

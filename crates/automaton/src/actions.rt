@@ -17,6 +17,7 @@ ghost use Rattle.automaton.specs.StatesIn.{StatesIn, ItemsIn, Stands};
 ghost use Rattle.automaton.specs.ActionRows.{Given, Row, Melded, completedBelow, itemCells};
 ghost use Rattle.automaton.specs.ActionTable.{Acted};
 use super::words::fill;
+use super::words::nothing;
 use super::words::word;
 
 // Gives a byte an action; whether it was free, or had the action already.
@@ -126,6 +127,9 @@ fn rules_act(
         → state < b .states → terminals ≡ b .terminals → count ≡ length (b .rules) → Row terminals state (cellFrom (b .rules) []) (now (actions .entry))
         → Melded terminals state (cellFrom (b .rules) (ofRules (b .rules) (closureSets b F state) count)) (now (actions .entry)) (now (actions .exit)) r) ⌝ }
 {
+    if nothing(closures, 32 * state) {
+        return true;
+    }
     let mut rule = 0;
     while rule < count {
         if !rule_acts(rules, closures, actions, terminals, state, rule) {

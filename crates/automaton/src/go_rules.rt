@@ -18,6 +18,7 @@ ghost use Rattle.automaton.specs.StatesIn.{MovesIn, ItemsIn, AutomatonIn
 ghost use Rattle.automaton.specs.HoldsItem.{isItem};
 ghost use Rattle.automaton.specs.Advances.{kernelAdvances, ruleAdvances};
 ghost use Rattle.automaton.specs.Comes.{someItem, lineComes, goComes};
+use super::words::nothing;
 use super::words::word;
 
 // Whether kernel line i is of (rule, dot) with at least the lookaheads of `set`.
@@ -166,6 +167,9 @@ fn rules_advance(
     ensures { λ r. ⌜ ((b : Book) (F : Sets) → AutomatonIn b F (now (rules .entry)) (now (kernels .entry)) (now (starts .entry)) (now (closures .entry))
         (now (table .entry)) → state < b .states → count ≡ length (b .rules) → r ≡ allAdvance b state (ofRules (b .rules) (closureSets b F state) count)) ⌝ }
 {
+    if nothing(closures, 32 * state) {
+        return true;
+    }
     let mut rule = count;
     while rule > 0 {
         rule -= 1;

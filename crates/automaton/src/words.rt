@@ -1,8 +1,10 @@
-// Words read as indices, and bytes filled.
+// Words read as indices, bytes filled, and words looked at.
 ghost use mathlib.Core.Path.{_≡_};
+ghost use mathlib.Core.Bool.{true};
 ghost use mathlib.Core.List.{_++_};
-ghost use Prim.Native.Nat.{_<_, _≤_};
+ghost use Prim.Native.Nat.{_+_, _<_, _≤_};
 ghost use lib.ListN.{length, getD, drop, replicate};
+ghost use Rattle.automaton.specs.NoItems.{Nothing};
 
 // Word i as an index.
 pub fn word(words: &[u32], i: usize) -> usize
@@ -22,4 +24,19 @@ pub fn fill(bytes: &mut [u8], count: usize, value: u8)
         bytes[i] = value;
         i += 1;
     }
+}
+
+// Whether 32 words are 0, from a place on.
+pub fn nothing(words: &[u32], first: usize) -> bool
+    requires { ⌜ first + 32 ≤ length (now words) ⌝ }
+    ensures { λ r. ⌜ (r ≡ true → Nothing (now (words .entry)) first 32) ⌝ }
+{
+    let mut i = 0;
+    while i < 32 {
+        if words[first + i] != 0 {
+            return false;
+        }
+        i += 1;
+    }
+    true
 }

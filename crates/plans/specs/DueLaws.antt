@@ -8,7 +8,7 @@ use mathlib.Core.Option.{Option, none, some}
 use mathlib.Core.List.{List, [], _∷_}
 use lib.Dec.{eqb}
 use lib.ListN.{length, getD}
-use Rattle.sets.specs.Sets.{bit}
+use Rattle.sets.specs.Sets.{bit, single}
 use Rattle.grammar.specs.Conditions.Decides.{allBelow}
 use Rattle.grammar.specs.Data.Symbol.{leftOf}
 use Rattle.grammar.specs.Data.Term.{number}
@@ -18,6 +18,8 @@ use Rattle.grammar.specs.Formulas.Slots.{Slots, slotAt, settledBelow, attribute
 use Rattle.grammar.specs.Formulas.FormulaCheck.{dotOf, due}
 use Rattle.grammar.specs.Formulas.Plan.{settledIn, readyIn, dueIn}
 use Rattle.attributes.specs.Owned.{isFilled, KnownIn}
+use Rattle.attributes.specs.Checking.{memberOf, memberIn}
+use Rattle.attributes.specs.Wanted.{due-single}
 
 -- some formula for each attribute that is known
 unfoldable pub slotsFor : List Bool → Slots
@@ -66,3 +68,8 @@ module _ (known : List Bool) where
     unfolding due dueIn
     due-for member line =
         ap (λ u. elim (member (line .rule) (dotOf line)) [ true ↦ u | false ↦ false ]) (ready-for (line .rule) (dotOf line))
+
+-- the answer for a set of one terminal is that for the terminal
+pub due-told : (b : Book) (masks : List ℕ) {wanted a : ℕ} → wanted ≡ single a → a < 32 → (slots : Slots) (line : InheritedDefinition) {t : Bool}
+    → t ≡ due b (memberIn masks wanted) slots line → t ≡ due b (memberOf masks a) slots line
+due-told b masks {a = a} e h slots line q = rw e at q ∙ due-single b masks a h slots line

@@ -43,7 +43,8 @@ fn visit(
     if sets::has(p.known, attribute) {
         return p;
     }
-    if !due(definitions, line, terminal, masks, rules, owned, p.known) {
+    let wanted = sets::single(terminal);
+    if !due(definitions, line, wanted, masks, rules, owned, p.known) {
         return p;
     }
     row[from + p.count] = line as u8;

@@ -1,6 +1,6 @@
 -- The one-formula check by definitions decides the one-formula condition (10). If it ends without a split, every definition whose item is in the partial
 -- state has given its formula, which stands, so every item gives what stands there. If all chains agree, what stands is at each visit a part of the
--- chains' formulas, so there is no split. Assumes the premises of formulas and of definitions, and that the test tells the partial state's items.
+-- chains' formulas, so there is no split; and so it is for a part of items that have no split. Assumes the premises of formulas and of definitions, and that the test tells the partial state's items.
 use Prim.Native.Nat.{ℕ, _<_}
 use native.Mathlib.Omega.{arith}
 use mathlib.Core.Path.{_≡_, refl, ap, sym, _∙_}
@@ -103,6 +103,55 @@ module _ (b : Book) (member : ℕ → ℕ → Bool) (L : DefinitionPremises b) w
       let still : visit b member d (progress slots done) ≡ progress slots done = rw e at (passes-rest (growing b member) fresh fresh-long d l) in
       given d l (visit-done b member d slots done (long .1) still h)
 
+-- ---------------------------------------------------------------- what stands is a part of what is settled
+
+-- what a definition gives, from a part of the slots `settled` on, stands there
+abbrev pub Stands : (b : Book) → (ℕ → ℕ → Bool) → Slots → Type 0
+Stands b member settled = (slots : Slots) (d : ℕ) → d < definitions b → due b member slots (lineAt b d) ≡ true → Within slots settled
+    → slotAt settled (lineAt b d .attribute) ≡ some (formulaOf slots (lineAt b d))
+
+module _ (b : Book) (member : ℕ → ℕ → Bool) (L : DefinitionPremises b) (settled : Slots) (stands : Stands b member settled) where
+  abbrev Inside : Progress → Type 0
+  Inside (progress slots done) = Within slots settled
+  Inside split = ⊥
+
+  visit-inside : Keeps (visit b member) (λ s. Long s × Inside s) (definitions b)
+  visit-inside d l s (long, inside) = (growing b member .keeps d l s long, by s long inside)
+    where
+      by : (s : Progress) → Long s → Inside s → Inside (visit b member d s)
+      by (progress slots done) (s, m) within = visit-by b member Inside d slots done within λ n h.
+          let there = stands slots d l h within in
+          enter-by Inside slots (set done d true) _ _ (λ e. set-each _ slots _ _ (room b L slots d l s) within there) (λ e. within)
+          (λ g e differ. differ (let here = within _ g e in cc))
+
+  inside-unsplit : check b member ≡ true
+  unfolding check ended
+  inside-unsplit =
+      by (ended b member)
+      (passes-keep (visit b member) (λ s. Long s × Inside s) advance (definitions b) visit-inside fresh (fresh-long, none-stands MAX-INHERITED settled) .1)
+    where
+      by : (s : Progress) → Inside s → unsplit s ≡ true
+      by (progress slots done) inside = unfold unsplit in refl
+      by split inside = absurd inside
+
+-- ---------------------------------------------------------------- a part of the items
+
+-- if all items are without a split, so is a part of them
+module _ (b : Book) (L : DefinitionPremises b) (whole member : ℕ → ℕ → Bool) (part : (P D : ℕ) → member P D ≡ true → whole P D ≡ true) where
+  part-stands : (settled : Slots) (done : List Bool) → ended b whole ≡ progress settled done → Stands b member settled
+  part-stands settled done end slots d l h within =
+      let (m, r) = due-decides b member slots (lineAt b d) .sound h in
+      let due-whole = due-decides b whole settled (lineAt b d) .complete (part _ _ m, ready-within b slots settled _ _ within r) in
+      end-given b whole L settled done end d l due-whole .1 ∙ ap some (sym (formula-within b slots settled (L .line-right d l) within r))
+
+  pub check-part : check b whole ≡ true → check b member ≡ true
+  unfolding check
+  check-part = by (ended b whole) refl
+    where
+      by : (s : Progress) → ended b whole ≡ s → unsplit s ≡ true → unsplit (ended b member) ≡ true
+      by (progress settled done) e h = unfold check in inside-unsplit b member L settled (part-stands settled done e)
+      by split e h = absurd (false≢true (unfold unsplit in h))
+
 -- ---------------------------------------------------------------- the check of one partial state
 
 module _ (b : Book) (H : FormulaPremises b) (L : DefinitionPremises b) (S a : ℕ) (items : List Core) (listed : PartialItems b S a items)
@@ -141,13 +190,8 @@ module _ (b : Book) (H : FormulaPremises b) (L : DefinitionPremises b) (S a : �
 
   -- if every item gives what stands in the slots `settled`
   module _ (settled : Slots) (agree : All (ItemAgrees b settled) items) where
-    abbrev Inside : Progress → Type 0
-    Inside (progress slots done) = Within slots settled
-    Inside split = ⊥
-
     -- what a definition gives stands there
-    line-inside : (slots : Slots) (d : ℕ) → d < definitions b → due b member slots (lineAt b d) ≡ true → Within slots settled
-        → slotAt settled (lineAt b d .attribute) ≡ some (formulaOf slots (lineAt b d))
+    line-inside : Stands b member settled
     line-inside slots d l h within =
         let right = L .line-right d l in
         let (m, r) = due-decides b member slots (lineAt b d) .sound h in
@@ -156,24 +200,8 @@ module _ (b : Book) (H : FormulaPremises b) (L : DefinitionPremises b) (S a : �
         agree (core _ _ M) i _ β e (lineAt b d .attribute) (right .attribute-there) refl
         ∙ ap some (sym (line-gives b settled right) ∙ sym (formula-within b slots settled right within r))
 
-    visit-inside : Keeps (visit b member) (λ s. Long s × Inside s) (definitions b)
-    visit-inside d l s (long, inside) = (growing b member .keeps d l s long, by s long inside)
-      where
-        by : (s : Progress) → Long s → Inside s → Inside (visit b member d s)
-        by (progress slots done) (s, m) within = visit-by b member Inside d slots done within λ n h.
-            let there = line-inside slots d l h within in
-            enter-by Inside slots (set done d true) _ _ (λ e. set-each _ slots _ _ (room b L slots d l s) within there) (λ e. within)
-            (λ g e differ. differ (let here = within _ g e in cc))
-
-    pub inside-unsplit : check b member ≡ true
-    unfolding check ended
-    inside-unsplit =
-        by (ended b member)
-        (passes-keep (visit b member) (λ s. Long s × Inside s) advance (definitions b) visit-inside fresh (fresh-long, none-stands MAX-INHERITED settled) .1)
-      where
-        by : (s : Progress) → Inside s → unsplit s ≡ true
-        by (progress slots done) inside = unfold unsplit in refl
-        by split inside = absurd inside
+    pub agree-unsplit : check b member ≡ true
+    agree-unsplit = inside-unsplit b member L settled line-inside
 
   -- 10, of one partial state
   pub check-decides : Decides (check b member) (OneFormula b S a)
@@ -181,7 +209,7 @@ module _ (b : Book) (H : FormulaPremises b) (L : DefinitionPremises b) (S a : �
   check-decides = record {
     sound = by (ended b member) refl;
     complete = λ agree.
-        inside-unsplit (slotsOf b items) (agrees-decides b (slotsOf b items) items .sound (one-formula-agrees b H S a items listed agree));
+        agree-unsplit (slotsOf b items) (agrees-decides b (slotsOf b items) items .sound (one-formula-agrees b H S a items listed agree));
   }
     where
       by : (s : Progress) → ended b member ≡ s → unsplit s ≡ true → OneFormula b S a

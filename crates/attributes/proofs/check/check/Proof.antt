@@ -11,7 +11,7 @@ use Rattle.attributes.proofs.check.check.Tie as tie
 
 -- the entry, as the place where the passes begin knows it
 abbrev entry : tie.After-passes-arg5 → tie.Start
-entry c = c .before .before .before .before .before .before .before .before .before .before .before .before .before .before .before .before .before .before .before .before .before .before .before .before .before .before
+entry c = c .before .before .before .before .before .before .before .before .before .before .before .before .before .before .before .before .before .before .before .before .before .before .before .before .before .before .before
 
 clear-slots-requires : tie.Need-clear-slots-requires
 clear-slots-requires c κs = search needs

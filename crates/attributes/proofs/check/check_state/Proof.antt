@@ -1,183 +1,97 @@
--- `check::check_state` meets its contract: the terminals passed have one formula for each attribute.
+-- `check::check_state` meets its contract: the check of all items together, and where that fails, of the partial states.
 -- Assumes nothing.
-use Prim.Native.Nat.{ℕ, suc, _+_, _-_, _<_, _≤_}
+use Prim.Native.Nat.{suc}
 use mathlib.Core.Path.{_≡_, refl, sym, _∙_}
-use mathlib.Core.Bool.{Bool, true}
 use native.Mathlib.Omega.{arith}
-use lib.ListN.{length}
 use borrow.Author.Needs.{needs}
-use borrow.Author.Tests.{not-false}
-use Rattle.grammar.specs.Conditions.Decides.{allBelow}
-use Rattle.grammar.specs.Data.Book.{Book}
 use Rattle.grammar.specs.Formulas.FormulaCheck as grammar
-use Rattle.attributes.specs.Checking.{memberOf, CheckHeld}
-use Rattle.attributes.specs.CheckLaws.{all-start, all-turn, one-fails}
-use Rattle.attributes.specs.Alike.{Right, right-start, right-more}
+use Rattle.attributes.specs.Checking.{memberOf, Room}
+use Rattle.attributes.specs.Wanted.{check-whole, all-below}
 use Rattle.attributes.proofs.check.check_state.Statement.{statement}
 use Rattle.attributes.proofs.check.check_state.Tie as tie
 
-abbrev Inv-loop : tie.InvT-loop
-Inv-loop definitions lines terminals masks rules owned slots₀ done₀ table₀ heads₀ nexts₀ right₀ a₀ slots done table heads nexts right a =
-    (a ≤ terminals + 1) × (length slots ≡ length slots₀) × (length done ≡ length done₀) × (length table ≡ length table₀)
-    × (length heads ≡ length heads₀) × (length nexts ≡ length nexts₀)
-    × ((b : Book) → CheckHeld b definitions rules owned masks → lines ≡ grammar.definitions b
-    → allBelow a (λ c. grammar.check b (memberOf masks c)) ≡ true)
-    × ((b : Book) → CheckHeld b definitions rules owned masks → lines ≡ grammar.definitions b → Right b masks right)
+-- the entry, as the place after the check of all items knows it
+abbrev entry : tie.After-check → tie.Start
+entry c = c .before .before .before .before .before .before .before .before .before .before .before .before .before .before .before .before .before .before .before
 
-abbrev μ-loop : tie.MeasureT-loop
-μ-loop definitions lines terminals masks rules owned slots₀ done₀ table₀ heads₀ nexts₀ right₀ a₀ slots done table heads nexts right a = terminals + 1 - a
+slice-aggregate-skip : tie.Need-slice-aggregate-skip
+slice-aggregate-skip c = search needs
 
--- Places: the entry, and the turn that has checked its terminal
+skip-requires : tie.Need-skip-requires
+skip-requires c κs = let g = c .before .before .before .before .before .before .before .before .before .before .pre .0 in ((g .0, _, _, g .1, g .2), refl)
 
-abbrev entry : tie.At-loop Inv-loop μ-loop → tie.Start Inv-loop μ-loop
-entry c = c .before .before .before .before .before .before .before .before .before .before
+slice-aggregate-check : tie.Need-slice-aggregate-check
+slice-aggregate-check c = search needs
 
-abbrev turn : tie.After-check Inv-loop μ-loop → tie.In-loop Inv-loop μ-loop
-turn c = c .before .before .before .before .before .before .before .before
+check-requires : tie.Need-check-requires
+check-requires c κs = let g = c .before .before .before .before .before .before .before .before .before .before .before .before .before .before .before .before .before .before .pre in (g .0, c .before .before .before .before .before .before .before .skip .ensures, g .2)
 
--- the check of a terminal
-abbrev answer : tie.At-loop Inv-loop μ-loop → Book → ℕ → Bool
-answer c b a = grammar.check b (memberOf (entry c .args .masks .now) a)
+same-length : tie.Need-same-length
+same-length c = search needs
 
--- the terminal of a turn
-low : (c : tie.In-loop Inv-loop μ-loop) → c .before .loop .a < 32
-low c = omega (arith, c .loop-test .taken, entry (c .before) .pre .1)
+same-length-2 : tie.Need-same-length-2
+same-length-2 c = search needs
 
-loop-holds : tie.Need-loop-holds Inv-loop μ-loop
-loop-holds c =
-    let s = c .before .before .before .before .before .before .before .before .before in
-    (omega arith, refl, refl, refl, refl, refl, λ b H e. all-start _, λ b H e. right-start b (s .args .masks .now))
+same-length-3 : tie.Need-same-length-3
+same-length-3 c = search needs
 
-has-requires : tie.Need-has-requires Inv-loop μ-loop
-has-requires c κs = low c
+same-length-4 : tie.Need-same-length-4
+same-length-4 c = search needs
 
-add-a : tie.Need-add-a Inv-loop μ-loop
-add-a c = omega (arith, low (c .before .before))
+same-length-5 : tie.Need-same-length-5
+same-length-5 c = search needs
 
-loop-less : tie.Need-loop-less Inv-loop μ-loop
-loop-less c = search needs
+returns : tie.Need-returns
+returns c = λ b H e t.
+    let v = c .before .before .before .before .before .before .before .before .before .before .before in
+    let s = entry v in
+    all-below (λ a. grammar.check b (memberOf (s .args .masks .now) a)) (suc (b .terminals)) λ a l.
+    check-whole b (s .args .masks .now) H (sym (v .check .ensures b H e) ∙ c .if1 .taken) a (omega (arith, l, t, s .pre .1))
 
-loop-again : tie.Need-loop-again Inv-loop μ-loop
-loop-again c =
-    let t = c .before .before in
-    let l = t .before in (
-      omega (arith, t .loop-test .taken),
-      l .loop .inv .1,
-      l .loop .inv .2,
-      l .loop .inv .3,
-      l .loop .inv .4,
-      l .loop .inv .5,
-      λ b H e.
-          all-turn (answer l b) (l .loop .a) (l .loop .inv .6 b H e)
-          (sym (l .loop .inv .7 b H e (l .loop .a) (low t) (sym (c .before .has .ensures) ∙ c .if1 .taken))) refl,
-      l .loop .inv .7,
-    )
+slice-aggregate-parts-right : tie.Need-slice-aggregate-parts-right
+slice-aggregate-parts-right c = search needs
 
-check-requires : tie.Need-check-requires Inv-loop μ-loop
-check-requires c κs =
-    let t = c .before .before .before .before .before .before .before in
-    let at = t .before .loop in
-    let g = entry (t .before) .pre in (
+parts-right-requires : tie.Need-parts-right-requires
+parts-right-requires c κs =
+    let v = c .before .before .before .before .before .before .before .before .before .before .before .before .before .before .before .before .before in
+    let g = entry v .pre in (
       g .0,
-      omega (arith, t .loop-test .taken, g .1),
+      g .1,
+      v .before .before .before .before .before .before .before .before .skip .ensures,
       record {
-        words-long = at .inv .1 ∙ g .2 .words-long;
-        marks-long = at .inv .2 ∙ g .2 .marks-long;
-        table-long = at .inv .3 ∙ g .2 .table-long;
-        heads-long = at .inv .4 ∙ g .2 .heads-long;
-        nexts-long = at .inv .5 ∙ g .2 .nexts-long;
+        words-long = v .check .kept .1 .1 .1 .1 .1 .1 .1 .0 ∙ g .2 .words-long;
+        marks-long = v .check .kept .1 .1 .1 .1 .1 .1 .1 .1 .0 ∙ g .2 .marks-long;
+        table-long = v .check .kept .1 .1 .1 .1 .1 .1 .1 .1 .1 .0 ∙ g .2 .table-long;
+        heads-long = v .check .kept .1 .1 .1 .1 .1 .1 .1 .1 .1 .1 .0 ∙ g .2 .heads-long;
+        nexts-long = v .check .kept .1 .1 .1 .1 .1 .1 .1 .1 .1 .1 .1 .0 ∙ g .2 .nexts-long;
       },
     )
 
-same-length : tie.Need-same-length Inv-loop μ-loop
-same-length c = search needs
+same-length-6 : tie.Need-same-length-6
+same-length-6 c = search needs
 
-same-length-2 : tie.Need-same-length-2 Inv-loop μ-loop
-same-length-2 c = search needs
+same-length-7 : tie.Need-same-length-7
+same-length-7 c = search needs
 
-same-length-3 : tie.Need-same-length-3 Inv-loop μ-loop
-same-length-3 c = search needs
+same-length-8 : tie.Need-same-length-8
+same-length-8 c = search needs
 
-same-length-4 : tie.Need-same-length-4 Inv-loop μ-loop
-same-length-4 c = search needs
+same-length-9 : tie.Need-same-length-9
+same-length-9 c = search needs
 
-same-length-5 : tie.Need-same-length-5 Inv-loop μ-loop
-same-length-5 c = search needs
+same-length-10 : tie.Need-same-length-10
+same-length-10 c = search needs
 
-returns : tie.Need-returns Inv-loop μ-loop
-returns c = λ b H e t.
-    let v = c .before .before .before .before .before .before .before .before .before .before .before in
-    let l = turn v .before in
-    one-fails (answer l b) (l .loop .a) _ (omega (arith, turn v .loop-test .taken, t)) (v .check .ensures b H e) (c .if2 .taken)
-
-alike-requires : tie.Need-alike-requires Inv-loop μ-loop
-alike-requires c κs =
-    let t = turn (c .before .before .before .before .before .before .before .before .before .before .before) in
-    let g = entry (t .before) .pre .0 in ((g .0, _, _, g .1, g .2), low t)
-
-union-requires : tie.Need-union-requires Inv-loop μ-loop
-union-requires c κs = search needs
-
-add-a-2 : tie.Need-add-a-2 Inv-loop μ-loop
-add-a-2 c = omega (arith, low (turn (c .before .before .before .before .before .before .before .before .before .before .before .before .before)))
-
-loop-less-2 : tie.Need-loop-less-2 Inv-loop μ-loop
-loop-less-2 c =
-    let t = turn (c .before .before .before .before .before .before .before .before .before .before .before .before .before) in
-    omega (arith, t .loop-test .taken)
-
-loop-again-2 : tie.Need-loop-again-2 Inv-loop μ-loop
-loop-again-2 c =
-    let v = c .before .before .before .before .before .before .before .before .before .before .before .before .before in
-    let l = turn v .before in
-    let o = c .before .before in
-    let s = entry l in (
-      omega (arith, turn v .loop-test .taken),
-      v .check .kept .1 .1 .1 .1 .1 .1 .0 ∙ l .loop .inv .1,
-      v .check .kept .1 .1 .1 .1 .1 .1 .1 .0 ∙ l .loop .inv .2,
-      v .check .kept .1 .1 .1 .1 .1 .1 .1 .1 .0 ∙ l .loop .inv .3,
-      v .check .kept .1 .1 .1 .1 .1 .1 .1 .1 .1 .0 ∙ l .loop .inv .4,
-      v .check .kept .1 .1 .1 .1 .1 .1 .1 .1 .1 .1 .0 ∙ l .loop .inv .5,
-      λ b H e. all-turn (answer l b) (l .loop .a) (l .loop .inv .6 b H e) (v .check .ensures b H e) (o .if2 .left),
-      λ b H e.
-          rw (c .union .ensures)
-          (right-more b (s .args .masks .now) (l .loop .right) (c .before .alike .result) (l .loop .a) (l .loop .inv .7 b H e)
-          (sym (v .check .ensures b H e) ∙ not-false (v .check .result) (o .if2 .left))
-          (c .before .alike .ensures b (s .args .rules .now) (s .args .owned .now) H e)),
-    )
-
-same-length-6 : tie.Need-same-length-6 Inv-loop μ-loop
-same-length-6 c = c .before .loop .inv .1
-
-same-length-7 : tie.Need-same-length-7 Inv-loop μ-loop
-same-length-7 c = c .before .loop .inv .2
-
-same-length-8 : tie.Need-same-length-8 Inv-loop μ-loop
-same-length-8 c = c .before .loop .inv .3
-
-same-length-9 : tie.Need-same-length-9 Inv-loop μ-loop
-same-length-9 c = c .before .loop .inv .4
-
-same-length-10 : tie.Need-same-length-10 Inv-loop μ-loop
-same-length-10 c = c .before .loop .inv .5
-
-returns-2 : tie.Need-returns-2 Inv-loop μ-loop
-returns-2 c = λ b H e t.
-    let at = c .before .loop in
-    let end : at .a ≡ suc (b .terminals) = omega (arith, at .inv .0, c .loop-test .left, t) in
-    sym (rw end at (at .inv .6 b H e))
+returns-2 : tie.Need-returns-2
+returns-2 c = λ b H e t. c .before .before .before .before .before .before .before .before .before .before .parts-right .ensures b H e t
 
 pub check-state-spec : {M : Type 1} → statement M
 check-state-spec =
     tie.close
     (tie.spec
-    Inv-loop
-    μ-loop
-    loop-holds
-    has-requires
-    add-a
-    loop-less
-    loop-again
+    slice-aggregate-skip
+    skip-requires
+    slice-aggregate-check
     check-requires
     same-length
     same-length-2
@@ -185,11 +99,8 @@ check-state-spec =
     same-length-4
     same-length-5
     returns
-    alike-requires
-    union-requires
-    add-a-2
-    loop-less-2
-    loop-again-2
+    slice-aggregate-parts-right
+    parts-right-requires
     same-length-6
     same-length-7
     same-length-8

@@ -15,20 +15,20 @@ entry c = c .before .before .before .before .before .before
 -- What is known there
 
 rule : (c : tie.After-word2) → c .before .word .result < 64
-rule c = omega (arith, c .before .word .ensures, rule-low (entry c .pre .0 .2) (entry c .pre .0 .3))
+rule c = omega (arith, c .before .word .ensures, rule-low (entry c .pre .2) (entry c .pre .3))
 
 low : (c : tie.After-word2) → 1 ≤ c .word2 .result
-low c = omega (arith, c .word2 .ensures, position-low (entry c .pre .0 .2) (entry c .pre .0 .3))
+low c = omega (arith, c .word2 .ensures, position-low (entry c .pre .2) (entry c .pre .3))
 
 high : (c : tie.After-word2) → c .word2 .result ≤ 8
-high c = omega (arith, c .word2 .ensures, position-high (entry c .pre .0 .2) (entry c .pre .0 .3))
+high c = omega (arith, c .word2 .ensures, position-high (entry c .pre .2) (entry c .pre .3))
 
 -- the left side that is read
 left : (c : tie.After-word3) → c .word3 .result < 32
 left c =
     let w = c .before .before .before .before .before in
     let s = entry w in
-    let below = left-below (s .pre .0 .2) (s .pre .0 .3) in
+    let below = left-below (s .pre .2) (s .pre .3) in
     rw (c .word3 .ensures, w .before .word .ensures) below
 
 -- Needs
@@ -48,45 +48,45 @@ add-word c = search needs
 word-requires-2 : tie.Need-word-requires-2
 word-requires-2 c κs = search needs
 
-mul-has : tie.Need-mul-has
-mul-has c = omega (arith, rule c)
+mul-meets : tie.Need-mul-meets
+mul-meets c = omega (arith, rule c)
 
-add-has : tie.Need-add-has
-add-has c = omega (arith, rule c, high c)
+add-meets : tie.Need-add-meets
+add-meets c = omega (arith, rule c, high c)
 
-sub-has : tie.Need-sub-has
-sub-has c = omega (arith, low c)
+sub-meets : tie.Need-sub-meets
+sub-meets c = omega (arith, low c)
 
-mul-has-2 : tie.Need-mul-has-2
-mul-has-2 c = omega (arith, rule c, low c, high c)
+mul-meets-2 : tie.Need-mul-meets-2
+mul-meets-2 c = omega (arith, rule c, low c, high c)
 
-shared-slice-read-has : tie.Need-shared-slice-read-has
-shared-slice-read-has c = omega (arith, rule (c .before), low (c .before), high (c .before), entry (c .before) .pre .0 .2 .masks-long)
+shared-slice-read-meets : tie.Need-shared-slice-read-meets
+shared-slice-read-meets c = omega (arith, rule (c .before), low (c .before), high (c .before), entry (c .before) .pre .2 .masks-long)
 
-has-requires : tie.Need-has-requires
-has-requires c κs = search needs
+meets-requires : tie.Need-meets-requires
+meets-requires c κs = search needs
 
 returns : tie.Need-returns
 returns c = λ b slots H l K.
     let w = c .before .before .before in
-    due-absent H l slots _ (w .before .word .ensures) (w .word2 .ensures) (c .before .has .ensures) (c .if1 .taken)
+    due-absent H l slots _ (w .before .word .ensures) (w .word2 .ensures) (c .before .meets .ensures) (c .if1 .taken)
 
 returns-2 : tie.Need-returns-2
 returns-2 c = λ b slots H l K.
     let w = c .before .before .before .before in
-    due-behind H l slots _ (w .before .word .ensures) (w .word2 .ensures) (c .before .before .has .ensures) (c .before .if1 .left) (c .if2 .taken)
+    due-behind H l slots _ (w .before .word .ensures) (w .word2 .ensures) (c .before .before .meets .ensures) (c .before .if1 .left) (c .if2 .taken)
 
 mul-word-3 : tie.Need-mul-word-3
 mul-word-3 c = omega (arith, rule (c .before .before .before .before))
 
 word-requires-3 : tie.Need-word-requires-3
-word-requires-3 c κs = let w = c .before .before .before .before in omega (arith, rule w, entry w .pre .0 .2 .rules-in .long)
+word-requires-3 c κs = let w = c .before .before .before .before in omega (arith, rule w, entry w .pre .2 .rules-in .long)
 
 mul-subset : tie.Need-mul-subset
 mul-subset c = omega (arith, left c)
 
 shared-slice-read-subset : tie.Need-shared-slice-read-subset
-shared-slice-read-subset c = omega (arith, left (c .before), entry (c .before .before .before .before .before .before) .pre .0 .2 .owned-in .long)
+shared-slice-read-subset c = omega (arith, left (c .before), entry (c .before .before .before .before .before .before) .pre .2 .owned-in .long)
 
 subset-requires : tie.Need-subset-requires
 subset-requires c κs = search needs
@@ -96,7 +96,7 @@ returns-3 c = λ b slots H l K.
     let e = c .before .before .before in
     let w = e .before .before .before .before in
     c .subset .ensures
-    ∙ due-front H l slots _ (w .before .word .ensures) (w .word2 .ensures) (e .before .before .has .ensures) (e .before .if1 .left) (e .if2 .left) K
+    ∙ due-front H l slots _ (w .before .word .ensures) (w .word2 .ensures) (e .before .before .meets .ensures) (e .before .if1 .left) (e .if2 .left) K
     (c .before .before .word3 .ensures)
 
 pub due-spec : {M : Type 1} → statement M
@@ -108,12 +108,12 @@ due-spec =
     mul-word-2
     add-word
     word-requires-2
-    mul-has
-    add-has
-    sub-has
-    mul-has-2
-    shared-slice-read-has
-    has-requires
+    mul-meets
+    add-meets
+    sub-meets
+    mul-meets-2
+    shared-slice-read-meets
+    meets-requires
     returns
     returns-2
     mul-word-3

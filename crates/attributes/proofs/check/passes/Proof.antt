@@ -11,33 +11,33 @@ use Rattle.grammar.specs.Data.Book.{Book}
 use Rattle.grammar.specs.Formulas.Slots.{Slots}
 use Rattle.grammar.specs.Formulas.FormulaCheck as grammar
 use Rattle.grammar.specs.Formulas.FormulaCheck.{progress}
-use Rattle.attributes.specs.Checking.{memberOf, CheckHeld, ProgressIn}
+use Rattle.attributes.specs.Checking.{memberIn, CheckHeld, ProgressIn}
 use Rattle.attributes.specs.PassesLaws.{Passing, few-done, passing-split, passing-turn, passing-further, passing-end}
 use Rattle.attributes.proofs.check.passes.Statement.{statement}
 use Rattle.attributes.proofs.check.passes.Tie as tie
 
 abbrev Inv-loop : tie.InvT-loop
-Inv-loop definitions lines terminal masks rules owned slots₀ done₀ table₀ heads₀ nexts₀ p₀ slots done table heads nexts p =
+Inv-loop definitions lines wanted skips masks rules owned slots₀ done₀ table₀ heads₀ nexts₀ p₀ slots done table heads nexts p =
     (p .split ≡ false) × (length slots ≡ length slots₀) × (length done ≡ length done₀) × (length table ≡ length table₀)
     × (length heads ≡ length heads₀) × (length nexts ≡ length nexts₀)
     × ((b : Book) (s : Slots) (d : List Bool) → CheckHeld b definitions rules owned masks → lines ≡ grammar.definitions b
     → ProgressIn s d slots₀ done₀ table₀ heads₀ nexts₀ (p₀ .used) (p₀ .known) (p₀ .count)
-    → Passing b (memberOf masks terminal) (progress s d) slots done table heads nexts (p .used) (p .known) (p .count))
+    → Passing b (memberIn masks wanted) (progress s d) slots done table heads nexts (p .used) (p .known) (p .count))
 
 abbrev μ-loop : tie.MeasureT-loop
-μ-loop definitions lines terminal masks rules owned slots₀ done₀ table₀ heads₀ nexts₀ p₀ slots done table heads nexts p = 128 - p .count
+μ-loop definitions lines wanted skips masks rules owned slots₀ done₀ table₀ heads₀ nexts₀ p₀ slots done table heads nexts p = 128 - p .count
 
 -- Places: the entry, and the loop where a turn has made its pass
 
 abbrev entry : tie.At-loop Inv-loop μ-loop → tie.Start Inv-loop μ-loop
-entry c = c .before .before .before .before .before .before .before .before .before .before
+entry c = c .before .before .before .before .before .before .before .before .before .before .before
 
 abbrev turn : tie.After-pass Inv-loop μ-loop → tie.At-loop Inv-loop μ-loop
 turn c = c .before .before .before .before .before .before
 
 loop-holds : tie.Need-loop-holds Inv-loop μ-loop
 loop-holds c =
-    let s = c .before .before .before .before .before .before .before .before .before in
+    let s = c .before .before .before .before .before .before .before .before .before .before in
     (s .pre .2, refl, refl, refl, refl, refl, λ b slots done H e R. record { slots = slots; done = done; holds = R; same-end = refl })
 
 pass-requires : tie.Need-pass-requires Inv-loop μ-loop

@@ -35,14 +35,14 @@ slice-read-if1 : tie.Need-slice-read-if1
 slice-read-if1 c = search needs
 
 returns : tie.Need-returns
-returns c = λ b s d H l R. visit-done H l R (c .if1 .taken) (c .before .before .before .before .before .before .before .before .before .before .before .pre .2) _
+returns c = λ b s d H l R. visit-done H l R (c .if1 .taken) (c .before .before .before .before .before .before .before .before .before .before .before .pre .1) _
 
 due-requires : tie.Need-due-requires
 due-requires c κs = search needs
 
 returns-2 : tie.Need-returns-2
 returns-2 c = λ b s d H l R.
-    visit-undue H l R _ (c .before .due .ensures b s H l (R .known-in)) (c .if2 .taken) (c .before .before .before .before .before .before .before .before .before .before .before .before .before .pre .2)
+    visit-undue H l R _ (c .before .due .ensures b s H l (R .known-in)) (c .if2 .taken) (c .before .before .before .before .before .before .before .before .before .before .before .before .before .pre .1)
 
 mul-dot : tie.Need-mul-dot
 mul-dot c = search needs
@@ -120,7 +120,7 @@ returns-3 c = λ b s d H l R.
     let g = c .before .before .before .before .before .before .before .before .before .before .before in
     let e = g .before .before .before .before .before .before .before in
     let F = g .formula-of .ensures _ _ (asked-line H l R (mark e) refl) in
-    rw (visit-enters H l R (mark e) (entry e .args .terminal) (e .before .due .ensures b s H l (R .known-in)) (e .if2 .left))
+    rw (visit-enters H l R (mark e) (entry e .args .wanted) (e .before .due .ensures b s H l (R .known-in)) (e .if2 .left))
     (c .before .before .enter .ensures s (set d (entry e .args .line) true) _ _ _ _ (formulaOf s (lineAt b (entry e .args .line)))
     (formed-progress H l R (mark e) refl F) (formed-means H l R (mark e) refl F))
 

@@ -3,7 +3,7 @@ use Prim.Native.Nat.{_-_, zero-le}
 use mathlib.Core.Path.{_∙_}
 use native.Mathlib.Omega.{arith}
 use borrow.Author.Tests.{not-true, not-false}
-use Rattle.automaton.specs.ActionItems.{RulesActing, acting-none, acting-more, acting-fail, acting-all}
+use Rattle.automaton.specs.ActionItems.{RulesActing, acting-none, acting-more, acting-fail, acting-all, acting-nothing}
 use borrow.Author.Needs.{needs}
 use Rattle.automaton.proofs.actions.rules_act.Statement.{statement}
 use Rattle.automaton.proofs.actions.rules_act.Tie as tie
@@ -14,12 +14,21 @@ Inv-loop rules closures actions₀ terminals state count rule₀ actions rule = 
 abbrev μ-loop : tie.MeasureT-loop
 μ-loop rules closures actions₀ terminals state count rule₀ actions rule = count - rule
 
+mul-nothing : tie.Need-mul-nothing Inv-loop μ-loop
+mul-nothing c = let p = c .before .before .before .pre .1 in omega (arith, p .4, p .2 .limits .states-limit .high)
+
+nothing-requires : tie.Need-nothing-requires Inv-loop μ-loop
+nothing-requires c κs = let p = c .before .before .before .pre .1 in omega (arith, p .4, p .2 .limits .states-limit .high, p .3 .long)
+
+returns : tie.Need-returns Inv-loop μ-loop
+returns c = λ b F g k s t e row. acting-nothing g k s e (c .before .nothing .ensures (c .if1 .taken)) row
+
 loop-holds : tie.Need-loop-holds Inv-loop μ-loop
-loop-holds c = let a = c .before .before .before .args in acting-none (a .rules .now) (a .closures .now) (a .terminals) (a .state) (a .count) (a .actions .now)
+loop-holds c = let a = c .before .before .before .before .before .args in acting-none (a .rules .now) (a .closures .now) (a .terminals) (a .state) (a .count) (a .actions .now)
 
 rule-acts-requires : tie.Need-rule-acts-requires Inv-loop μ-loop
 rule-acts-requires c κs =
-    let start = c .before .before .before .before .before .before in
+    let start = c .before .before .before .before .before .before .before .before in
     let head = c .before .before in
     let p = start .pre in (
       omega (arith, p .0, head .loop .inv .long),
@@ -29,11 +38,11 @@ rule-acts-requires c κs =
 same-length : tie.Need-same-length Inv-loop μ-loop
 same-length c = c .before .before .before .rule-acts .kept .1 .1 .0 ∙ c .before .before .before .before .before .before .loop .inv .long
 
-returns : tie.Need-returns Inv-loop μ-loop
-returns c =
+returns-2 : tie.Need-returns-2 Inv-loop μ-loop
+returns-2 c =
     let head = c .before .before .before .before .before .before in
     acting-fail (head .loop .inv) (c .before .before .before .before .before .loop-test .taken) (c .before .before .before .rule-acts .ensures)
-    (not-true (c .before .before .before .rule-acts .result) (c .if1 .taken))
+    (not-true (c .before .before .before .rule-acts .result) (c .if2 .taken))
 
 add-rule : tie.Need-add-rule Inv-loop μ-loop
 add-rule c = search needs
@@ -45,14 +54,14 @@ loop-again : tie.Need-loop-again Inv-loop μ-loop
 loop-again c =
     let head = c .before .before .before .before .before .before in
     acting-more (head .loop .inv) (c .before .before .before .before .before .loop-test .taken) (c .before .before .before .rule-acts .ensures)
-    (not-false (c .before .before .before .rule-acts .result) (c .if1 .left))
+    (not-false (c .before .before .before .rule-acts .result) (c .if2 .left))
     (c .before .before .before .rule-acts .kept .1 .1 .0)
 
 same-length-2 : tie.Need-same-length-2 Inv-loop μ-loop
 same-length-2 c = search needs
 
-returns-2 : tie.Need-returns-2 Inv-loop μ-loop
-returns-2 c = acting-all (c .before .loop .inv) (c .loop-test .left)
+returns-3 : tie.Need-returns-3 Inv-loop μ-loop
+returns-3 c = acting-all (c .before .loop .inv) (c .loop-test .left)
 
 pub rules-act-spec : {M : Type 1} → statement M
 rules-act-spec =
@@ -60,12 +69,15 @@ rules-act-spec =
     (tie.spec
     Inv-loop
     μ-loop
+    mul-nothing
+    nothing-requires
+    returns
     loop-holds
     rule-acts-requires
     same-length
-    returns
+    returns-2
     add-rule
     loop-less
     loop-again
     same-length-2
-    returns-2)
+    returns-3)

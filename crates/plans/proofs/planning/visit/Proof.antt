@@ -4,10 +4,12 @@ use Prim.Native.Nat.{_<_}
 use mathlib.Core.Path.{sym, _∙_}
 use native.Mathlib.Omega.{arith}
 use borrow.Author.Needs.{needs}
+use denote.Ref.{now}
+use Rattle.grammar.specs.Formulas.FormulaCheck.{lineAt}
 use Rattle.grammar.specs.Limits.{MAX-INHERITED}
 use Rattle.attributes.specs.CheckingLaws.{attribute-low}
 use Rattle.plans.specs.Planning.{knownOf}
-use Rattle.plans.specs.DueLaws.{slotsFor}
+use Rattle.plans.specs.DueLaws.{slotsFor, due-told}
 use Rattle.plans.specs.PlanRowsLaws.{elsewhere-same, elsewhere-set, due-known, visit-set, visit-undue, count-low, visit-sets}
 use Rattle.plans.proofs.planning.visit.Statement.{statement}
 use Rattle.plans.proofs.planning.visit.Tie as tie
@@ -42,37 +44,47 @@ has-requires c κs =
 returns : tie.Need-returns
 returns c = (λ b s H l R. visit-set H l s R (sym (c .before .has .ensures) ∙ c .if1 .taken), elsewhere-same)
 
+single-requires : tie.Need-single-requires
+single-requires c κs = entry (c .before) .pre .1
+
 due-requires : tie.Need-due-requires
 due-requires c κs =
-    let s = entry (c .before) in
+    let s = entry (c .before .before) in
     let g = s .pre .0 in
-    ((g .0, slotsFor (knownOf (g .1)), g .2, g .3, due-known (g .2) (g .3) (g .1) (g .4)), s .pre .1)
+    (g .0, slotsFor (knownOf (g .1)), g .2, g .3, due-known (g .2) (g .3) (g .1) (g .4))
 
 returns-2 : tie.Need-returns-2
-returns-2 c = (
-  λ b s H l R. visit-undue H l s R (c .before .due .ensures b (slotsFor (knownOf s)) H l (due-known H l s R)) (c .if2 .taken),
-  elsewhere-same,
-)
+returns-2 c =
+    let d = c .before in
+    let w = d .before in
+    let given = entry (w .before .before) in (
+      λ b s H l R.
+          visit-undue H l s R
+          (due-told b (now (given .args .masks)) (w .single .ensures) (given .pre .1) (slotsFor (knownOf s)) (lineAt b (given .args .line))
+          (d .due .ensures b (slotsFor (knownOf s)) H l (due-known H l s R)))
+          (c .if2 .taken),
+      elsewhere-same,
+    )
 
 cast-row : tie.Need-cast-row
 cast-row c = search needs
 
 add-row : tie.Need-add-row
 add-row c =
-    let e = c .before .before .before in
+    let e = c .before .before .before .before in
     let s = entry (e .before) in
     omega (arith, room e, s .pre .0 .4 .room, s .good .1 .1 .1 .1 .1 .1 .0 .0)
 
 slice-write-row : tie.Need-slice-write-row
-slice-write-row c = let e = c .before .before .before in omega (arith, room e, entry (e .before) .pre .0 .4 .room)
+slice-write-row c = let e = c .before .before .before .before in omega (arith, room e, entry (e .before) .pre .0 .4 .room)
 
 with-requires : tie.Need-with-requires
 with-requires c κs =
-    let s = entry (c .before .before .before .before) in
+    let s = entry (c .before .before .before .before .before) in
     omega (arith, attribute-low (s .pre .0 .2) (s .pre .0 .3))
 
-add-t12 : tie.Need-add-t12
-add-t12 c = omega (arith, room (c .before .before .before .before .before))
+add-t13 : tie.Need-add-t13
+add-t13 c = omega (arith, room (c .before .before .before .before .before .before))
 
 same-length : tie.Need-same-length
 same-length c = search needs
@@ -80,10 +92,14 @@ same-length c = search needs
 returns-3 : tie.Need-returns-3
 returns-3 c =
     let d = c .before .before .before .before in
-    let e = d .before in (
+    let w = d .before in
+    let e = w .before in
+    let given = entry (e .before) in (
       λ b s H l R.
           rw (c .before .with .ensures)
-          (visit-sets H l s R (sym (e .before .has .ensures) ∙ e .if1 .left) (d .due .ensures b (slotsFor (knownOf s)) H l (due-known H l s R))
+          (visit-sets H l s R (sym (e .before .has .ensures) ∙ e .if1 .left)
+          (due-told b (now (given .args .masks)) (w .single .ensures) (given .pre .1) (slotsFor (knownOf s)) (lineAt b (given .args .line))
+          (d .due .ensures b (slotsFor (knownOf s)) H l (due-known H l s R)))
           (c .before .before .before .if2 .left)),
       elsewhere-set _ _ _ _ (room e),
     )
@@ -98,12 +114,13 @@ visit-spec =
     shared-slice-read-attribute
     has-requires
     returns
+    single-requires
     due-requires
     returns-2
     cast-row
     add-row
     slice-write-row
     with-requires
-    add-t12
+    add-t13
     same-length
     returns-3)

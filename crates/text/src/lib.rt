@@ -52,6 +52,19 @@ impl Cursor {
     }
 }
 
+// A position past the end: a misspelt text goes on nowhere. It is taken from a byte of the text so that compilers keep their branches; a conditional
+// move would make each byte wait for the one before it.
+pub fn misspelt(text: &[u8]) -> usize
+    requires { ⌜ length (now text) ≤ 65536 ⌝ }
+    ensures { λ r. ⌜ length (now (text .entry)) < r ⌝ }
+{
+    let n = text.len();
+    if n == 0 {
+        return 1;
+    }
+    n + 1 + text[n - 1] as usize
+}
+
 // Past one byte of the wanted class.
 pub fn mark(t: &[u8; 256], text: &[u8], at: usize, wanted: u8) -> usize
     requires { ⌜ Lent (now t) (now text) ⌝ }
@@ -59,10 +72,10 @@ pub fn mark(t: &[u8; 256], text: &[u8], at: usize, wanted: u8) -> usize
 {
     let n = text.len();
     if n <= at {
-        return n + 1;
+        return misspelt(text);
     }
     if class(t, text[at]) != wanted {
-        return n + 1;
+        return misspelt(text);
     }
     at + 1
 }
@@ -75,7 +88,7 @@ pub fn require(text: &[u8], at: usize, fine: bool) -> usize
     if fine {
         return at;
     }
-    text.len() + 1
+    misspelt(text)
 }
 
 // A way of writing numbers: the class of its digits, the byte of the digit 0, the base, and the largest number.
@@ -119,7 +132,7 @@ fn digits(t: &[u8; 256], text: &[u8], s: Notation, first: u64, at: usize) -> Cur
         if limit < v {
             return Cursor {
                 value: 0,
-                at: n + 1,
+                at: misspelt(text),
             };
         }
         i += 1;
@@ -139,7 +152,7 @@ pub fn numeral(t: &[u8; 256], text: &[u8], s: Notation, at: usize) -> Cursor
     if n <= at {
         return Cursor {
             value: 0,
-            at: n + 1,
+            at: misspelt(text),
         };
     }
     let first = digit(t, s, text[at]);
@@ -152,7 +165,7 @@ pub fn numeral(t: &[u8; 256], text: &[u8], s: Notation, at: usize) -> Cursor
     if first == s.base {
         return Cursor {
             value: 0,
-            at: n + 1,
+            at: misspelt(text),
         };
     }
     digits(t, text, s, first, at + 1)

@@ -45,13 +45,14 @@ add-v c = let k = c .before in
     let d = digit-most _ (p .positional) (getD (a .before .before .args .text .now) (a .loop .i) 0) in
     omega (arith, next-fits p (a .loop .inv .amid .small), p .base-fits, k .digit .ensures, d)
 
-add-t17 : tie.Need-add-t17 Inv-loop μ-loop
-add-t17 c = search needs
+misspelt-requires : tie.Need-misspelt-requires Inv-loop μ-loop
+misspelt-requires c κs = search needs
 
 returns-2 : tie.Need-returns-2 Inv-loop μ-loop
-returns-2 c = let k = c .before .before in
+returns-2 c = let d = c .before in
+    let k = d .before .before in
     let w = k .before .before in
-    going-over _ _ _ _ (w .before .loop .inv) (w .loop-test .taken) (k .digit .ensures) (c .before .if1 .left) (c .if2 .taken) (omega arith)
+    going-over _ _ _ _ (w .before .loop .inv) (w .loop-test .taken) (k .digit .ensures) (d .before .if1 .left) (d .if2 .taken) (c .misspelt .ensures)
 
 add-i : tie.Need-add-i Inv-loop μ-loop
 add-i c = search needs
@@ -83,7 +84,7 @@ digits-spec =
     returns
     mul-v
     add-v
-    add-t17
+    misspelt-requires
     returns-2
     add-i
     loop-less

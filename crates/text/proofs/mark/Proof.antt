@@ -7,11 +7,11 @@ use borrow.Author.Needs.{needs}
 use Rattle.text.proofs.mark.Statement.{statement}
 use Rattle.text.proofs.mark.Tie as tie
 
-add-result : tie.Need-add-result
-add-result c = search needs
+misspelt-requires : tie.Need-misspelt-requires
+misspelt-requires c κs = search needs
 
 returns : tie.Need-returns
-returns c = mark-out _ _ _ _ (c .if1 .taken) (omega arith)
+returns c = mark-out _ _ _ _ (c .before .if1 .taken) (c .misspelt .ensures)
 
 shared-slice-read-class : tie.Need-shared-slice-read-class
 shared-slice-read-class c = search needs
@@ -19,14 +19,15 @@ shared-slice-read-class c = search needs
 class-requires : tie.Need-class-requires
 class-requires c κs = search needs
 
-add-result-2 : tie.Need-add-result-2
-add-result-2 c = search needs
+misspelt-requires-2 : tie.Need-misspelt-requires-2
+misspelt-requires-2 c κs = search needs
 
 returns-2 : tie.Need-returns-2
-returns-2 c = mark-not _ _ _ _ (c .before .before .before .if1 .left) (λ q. c .if2 .taken (c .before .class .ensures ∙ q)) (omega arith)
+returns-2 c = let k = c .before in
+    mark-not _ _ _ _ (k .before .before .before .if1 .left) (λ q. k .if2 .taken (k .before .class .ensures ∙ q)) (c .misspelt2 .ensures)
 
-add-result-3 : tie.Need-add-result-3
-add-result-3 c = search needs
+add-result : tie.Need-add-result
+add-result c = search needs
 
 returns-3 : tie.Need-returns-3
 returns-3 c = mark-at _ _ _ (c .before .before .before .if1 .left) (sym (c .before .class .ensures) ∙ c .if2 .left)
@@ -35,11 +36,11 @@ pub mark-spec : {M : Type 1} → statement M
 mark-spec =
     tie.close
     (tie.spec
-    add-result
+    misspelt-requires
     returns
     shared-slice-read-class
     class-requires
-    add-result-2
+    misspelt-requires-2
     returns-2
-    add-result-3
+    add-result
     returns-3)

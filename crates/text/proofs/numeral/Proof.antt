@@ -6,11 +6,11 @@ use borrow.Author.Needs.{needs}
 use Rattle.text.proofs.numeral.Statement.{statement}
 use Rattle.text.proofs.numeral.Tie as tie
 
-add-t8 : tie.Need-add-t8
-add-t8 c = search needs
+misspelt-requires : tie.Need-misspelt-requires
+misspelt-requires c κs = search needs
 
 returns : tie.Need-returns
-returns c = reads-out _ _ _ (c .if1 .taken) (omega arith)
+returns c = reads-out _ _ _ (c .before .if1 .taken) (c .misspelt .ensures)
 
 shared-slice-read-digit : tie.Need-shared-slice-read-digit
 shared-slice-read-digit c = search needs
@@ -25,12 +25,13 @@ returns-2 : tie.Need-returns-2
 returns-2 c = let k = c .before in
     reads-zero _ _ _ (k .before .before .if1 .left) (k .digit .ensures) (c .if2 .taken)
 
-add-t12 : tie.Need-add-t12
-add-t12 c = search needs
+misspelt-requires-2 : tie.Need-misspelt-requires-2
+misspelt-requires-2 c κs = search needs
 
 returns-3 : tie.Need-returns-3
-returns-3 c = let k = c .before .before .before in
-    reads-none _ _ _ (k .before .before .if1 .left) (k .digit .ensures) (c .before .before .if2 .left) (c .if3 .taken) (omega arith)
+returns-3 c = let d = c .before in
+    let k = d .before .before .before in
+    reads-none _ _ _ (k .before .before .if1 .left) (k .digit .ensures) (d .before .before .if2 .left) (d .if3 .taken) (c .misspelt2 .ensures)
 
 add-digits : tie.Need-add-digits
 add-digits c = search needs
@@ -50,13 +51,13 @@ pub numeral-spec : {M : Type 1} → statement M
 numeral-spec =
     tie.close
     (tie.spec
-    add-t8
+    misspelt-requires
     returns
     shared-slice-read-digit
     digit-requires
     add-t11
     returns-2
-    add-t12
+    misspelt-requires-2
     returns-3
     add-digits
     digits-requires

@@ -10,11 +10,11 @@ use Rattle.text.proofs.require.Tie as tie
 returns : tie.Need-returns
 returns c = sym (must-true _ _ (c .if1 .taken))
 
-add-result : tie.Need-add-result
-add-result c = search needs
+misspelt-requires : tie.Need-misspelt-requires
+misspelt-requires c κs = search needs
 
 returns-2 : tie.Need-returns-2
-returns-2 c = rest-out _ _ (omega arith) ∙ sym (must-false _ _ (c .if1 .left))
+returns-2 c = rest-out _ _ (c .misspelt .ensures) ∙ sym (must-false _ _ (c .before .if1 .left))
 
 pub require-spec : {M : Type 1} → statement M
-require-spec = tie.close (tie.spec returns add-result returns-2)
+require-spec = tie.close (tie.spec returns misspelt-requires returns-2)

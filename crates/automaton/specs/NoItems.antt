@@ -5,6 +5,7 @@ use native.Mathlib.Decide.{ℕ-discrete}
 use mathlib.Core.Path.{_≡_, refl, sym, ap, _∙_}
 use mathlib.Core.List.{List, []}
 use lib.ListN.{length, getD}
+use lib.Bits.{bitOr, or-add-and, and-le-l, and-le-r}
 use Rattle.grammar.specs.Data.Symbol.{Rule, leftOf}
 use Rattle.grammar.specs.Data.Book.{Book}
 use Rattle.grammar.specs.Conditions.MeaningLaws.{left-declared}
@@ -22,12 +23,17 @@ Nothing words first n = (i : ℕ) → i < n → getD words (first + i) 0 ≡ 0
 pub nothing-none : (words : List ℕ) (first : ℕ) → Nothing words first 0
 nothing-none words first i l = absurd (omega arith)
 
-pub nothing-more : (words : List ℕ) (first n : ℕ) → Nothing words first n → getD words (first + n) 0 ≡ 0 → Nothing words first (n + 1)
-nothing-more words first n before e i l = by (ℕ-discrete i n)
+-- the bits of one more word are gathered
+pub nothing-more : (words : List ℕ) (first n bits : ℕ) → (bits ≡ 0 → Nothing words first n) → bitOr bits (getD words (first + n) 0) ≡ 0
+    → Nothing words first (n + 1)
+nothing-more words first n bits before e i l = by (ℕ-discrete i n)
   where
+    w : ℕ
+    w = getD words (first + n) 0
+
     by : Dec (i ≡ n) → getD words (first + i) 0 ≡ 0
-    by (yes p) = rw p e
-    by (no m) = before i (omega arith)
+    by (yes p) = rw p (omega (arith, or-add-and bits w, and-le-l bits w))
+    by (no m) = before (omega (arith, or-add-and bits w, and-le-r bits w)) i (omega arith)
 
 pub nothing-all : (words : List ℕ) (first : ℕ) {n m : ℕ} → Nothing words first n → m ≤ n → Nothing words first m
 nothing-all words first all l i h = all i (omega arith)

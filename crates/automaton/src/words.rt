@@ -26,17 +26,16 @@ pub fn fill(bytes: &mut [u8], count: usize, value: u8)
     }
 }
 
-// Whether 32 words are 0, from a place on.
+// Whether 32 words are 0, from a place on: their bits are gathered, with no way out of the loop.
 pub fn nothing(words: &[u32], first: usize) -> bool
     requires { ⌜ first + 32 ≤ length (now words) ⌝ }
     ensures { λ r. ⌜ (r ≡ true → Nothing (now (words .entry)) first 32) ⌝ }
 {
+    let mut bits = 0u32;
     let mut i = 0;
     while i < 32 {
-        if words[first + i] != 0 {
-            return false;
-        }
+        bits |= words[first + i];
         i += 1;
     }
-    true
+    bits == 0
 }

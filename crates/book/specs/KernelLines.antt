@@ -1,7 +1,7 @@
--- The lines of the section kernel: what is kept of the lookaheads, how much a line leaves, and that the code's steps, one after another, read and keep
--- a whole line. Assumes nothing.
-use Prim.Native.Nat.{ℕ, suc, _^_, _≤_, _<_}
-use mathlib.Core.Path.{_≡_, refl, sym, ap, _∙_}
+-- The lines of the section kernel: what is kept of the lookaheads, how much a line leaves, what the loop over the lookaheads keeps true, and that the
+-- code's steps, one after another, read and keep a whole line. Assumes nothing.
+use Prim.Native.Nat.{ℕ, suc, _+_, _^_, _≤_, _<_}
+use mathlib.Core.Path.{_≡_, refl, sym, _∙_}
 use mathlib.Core.Bool.{Bool, true, false, _||_}
 use mathlib.Core.List.{List, [], _∷_}
 use native.Mathlib.Omega.{arith}
@@ -10,6 +10,7 @@ use lib.ListN.{length}
 use borrow.Author.Tests.{ne-eqb}
 use Rattle.text.specs.Class.{space}
 use Rattle.text.specs.Rest.{Rest, rest, must, mark, size}
+use Rattle.text.specs.RestLaws.{rest-out, must-true, must-false}
 use Rattle.text.specs.Numeral.{decimal, wordOf}
 use Rattle.text.specs.Reading.{Reads}
 use Rattle.sets.specs.Sets.{bit, with}
@@ -21,7 +22,10 @@ use Rattle.grammar.specs.Format.Reader.{Parsed, result, remaining, opening, clo
 use Rattle.grammar.specs.Format.ReaderLaws.{shrinking, opening-less, naming-less}
 use Rattle.grammar.specs.Format.Parse.{isBefore, lookahead, lookaheads, kernelLine, kernelLines}
 use Rattle.book.specs.Layout.{putLine, lastOf, kernelWords}
-use Rattle.book.specs.Sections.{Gives, Shrinks, size-section, Gathers, keepFrom, PutsKeyed}
+use Rattle.book.specs.Lookahead.{Names, name-out}
+use Rattle.book.specs.Order.{lastKey, next-last}
+use Rattle.book.specs.Sections.{Gives, Shrinks, size-section, Reading, reading-start, reading-less, reading-turn, reading-done, Gathers, keepFrom}
+use Rattle.book.specs.Sections.{PutsKeyed}
 
 -- the words of a kernel line
 abbrev pub KERNEL-WORDS : ℕ
@@ -98,21 +102,21 @@ seen-all : (cs : List ℕ) → keepFrom see 0 cs (seen 0 0) ≡ seen (lastOf cs)
 seen-all [] = unfold keepFrom lastOf setOf in refl
 seen-all (a ∷ cs) = seen-from 0 0 0 (a ∷ cs) ∙ (unfold lastFrom in rw (last-from a cs, set-from (a ∷ cs)))
 
-pub looks-of : {p : Parsed (List ℕ)} {text : List ℕ} {count last set next : ℕ} → Gathers see p text (seen 0 0) count next (seen last set)
+looks-of : {p : Parsed (List ℕ)} {text : List ℕ} {count last set next : ℕ} → Gathers see p text (seen 0 0) count next (seen last set)
     → Looks p text count last set next
 looks-of {p} {last = last} {set = set} g =
     let e : seen last set ≡ seen (lastOf (result p)) (setOf (result p)) = g .kept-is ∙ seen-all (result p) in
     record { remaining-is = g .remaining-is; count-is = g .count-is; last-is = cc; set-is = cc }
 
 -- the steps of one: its number, and the order
-pub lookahead-read : {text : List ℕ} {fine : Bool} {at a next : ℕ} (last : List ℕ) (p : ℕ) → Reads decimal text at a next
+lookahead-read : {text : List ℕ} {fine : Bool} {at a next : ℕ} (last : List ℕ) (p : ℕ) → Reads decimal text at a next
     → fine ≡ isBefore last (a ∷ []) → rest text p ≡ must fine (rest text next) → Gives (lookahead last (rest text at)) text a p
 unfolding lookahead result remaining
 lookahead-read last p number before due = record { result-is = cc; remaining-is = cc }
 
 -- How much a line leaves
 
-pub lookaheads-shrink : Shrinks (naming (wordOf "t")) lookahead
+lookaheads-shrink : Shrinks (naming (wordOf "t")) lookahead
 unfolding lookahead remaining
 lookaheads-shrink = record { head-less = naming-less (wordOf "t"); one-less = λ last o. search shrinking depth 20 }
 
@@ -127,6 +131,43 @@ kernel-shrinks word = record { head-less = opening-less word; one-less = λ last
 pub kernels-size : (o : Rest) → size (remaining (kernelLines o)) ≤ size o
 unfolding kernelLines
 kernels-size o = size-section (opening (wordOf "kernel")) kernelLine (λ last. kernelKey) (kernel-shrinks (wordOf "kernel")) [] o
+
+-- Amid the lookaheads of a line: how many were read, the last, the set, and the position
+
+abbrev pub Looking : Parsed (List ℕ) → List ℕ → ℕ → ℕ → ℕ → ℕ → Type 0
+Looking start text count last set p =
+    Reading (naming (wordOf "t")) lookahead (λ before. lookaheadKey) see text start (seen 0 0) (lastKey count (last ∷ [])) count p (seen last set)
+
+pub looking-start : (text : List ℕ) (at : ℕ) {set : ℕ} → set ≡ 0 → Looking (lookaheads (rest text at)) text 0 0 set at
+unfolding lookaheads lastKey
+looking-start text at e = rw e (reading-start _ _ _ _ lookaheads-shrink _ _ _ _)
+
+module _ {start : Parsed (List ℕ)} {text : List ℕ} {count last set p from a next : ℕ} (L : Looking start text count last set p)
+    (N : Names text p from a next) where
+  -- there is no other
+  pub looking-done : length text < from → Looks start text count last set p
+  looking-done h = looks-of (reading-done _ _ _ _ lookaheads-shrink _ L (N .name-is) h)
+
+  -- there is one more, which is fine or not
+  module _ {fine : Bool} {set′ : ℕ} (h : from ≤ length text) (before : fine ≡ isBefore (lastKey count (last ∷ [])) (a ∷ [])) (more : set′ ≡ with set a) where
+    read-to : {q : ℕ} → rest text q ≡ must fine (rest text next) → Gives (lookahead (lastKey count (last ∷ [])) (rest text from)) text a q
+    read-to {q} e = lookahead-read _ q (N .number-is) before e
+
+    turn-to : {q : ℕ} → rest text q ≡ must fine (rest text next) → Looking start text (count + 1) a set′ q
+    unfolding see lookaheadKey
+    turn-to e =
+        reading-turn _ _ _ _ lookaheads-shrink _ L (N .name-is) h (read-to e .remaining-is) (next-last _ (rw (read-to e .result-is)))
+        (rw (more, read-to e .result-is))
+
+    pub looking-less : fine ≡ true → size (rest text next) < size (rest text p)
+    looking-less f = reading-less _ _ _ _ lookaheads-shrink _ L (N .name-is) h (read-to (sym (must-true fine (rest text next) f)) .remaining-is)
+
+    pub looking-turn : fine ≡ true → Looking start text (count + 1) a set′ next
+    looking-turn f = turn-to (sym (must-true fine (rest text next) f))
+
+    pub looking-out : {q : ℕ} → fine ≡ false → length text < q → Looks start text (count + 1) a set′ q
+    looking-out {q} f o =
+        looks-of (reading-done _ _ _ _ lookaheads-shrink _ (turn-to (rest-out text q o ∙ sym (must-false fine (rest text next) f))) (name-out text q o) o)
 
 -- The steps of a line: state, rule and dot, the lookaheads, that there are some, the end, the order, the store
 

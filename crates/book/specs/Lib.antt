@@ -15,6 +15,7 @@ pub mod KernelLines
 pub mod Layout
 pub mod LayoutLaws
 pub mod Lines
+pub mod Lookahead
 pub mod Order
 pub mod Parts
 pub mod Sections

@@ -15,13 +15,12 @@ ghost use Rattle.book.specs.Sections.{Fills, PutsKeyed};
 ghost use Rattle.book.specs.KernelLines.{KERNEL-WORDS, Looks};
 use super::Book;
 use super::Section;
+use super::lookahead::lookahead;
 use super::order::Key;
 use super::order::Keyed;
 use super::order::ascends;
 use super::spelling::KERNEL;
-use super::spelling::T;
 use super::spelling::closing;
-use super::spelling::naming;
 use super::store::put_line;
 use lines::opening;
 
@@ -53,6 +52,7 @@ fn with_lookahead(set: u32, terminal: u32) -> u32
     set
 }
 
+// One that does not follow the others is the last that is read.
 fn lookaheads(t: &[u8; 256], text: &[u8], at: usize) -> LookaheadsRead
     requires { ⌜ Lent (now t) (now text) ⌝ }
     ensures { λ r. ⌜ Looks (lookaheads (rest (now (text .entry)) at)) (now (text .entry)) (r .count) (r .last) (r .set) (r .at) ⌝ }
@@ -63,8 +63,8 @@ fn lookaheads(t: &[u8; 256], text: &[u8], at: usize) -> LookaheadsRead
     let mut last: u32 = 0;
     let mut set = sets::empty();
     loop {
-        let a = naming(t, text, p, T);
-        if n < a {
+        let terminal = lookahead(t, text, p);
+        if n < terminal.from {
             return LookaheadsRead {
                 count,
                 last,
@@ -72,11 +72,19 @@ fn lookaheads(t: &[u8; 256], text: &[u8], at: usize) -> LookaheadsRead
                 at: p,
             };
         }
-        let terminal = text::number(t, text, a);
-        p = text::require(text, terminal.at, follows(count, last, terminal.value));
-        set = with_lookahead(set, terminal.value);
-        last = terminal.value;
+        let fine = follows(count, last, terminal.number);
+        set = with_lookahead(set, terminal.number);
+        last = terminal.number;
         count += 1;
+        if !fine {
+            return LookaheadsRead {
+                count,
+                last,
+                set,
+                at: n + 1,
+            };
+        }
+        p = terminal.at;
     }
 }
 

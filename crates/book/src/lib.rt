@@ -4,6 +4,7 @@ pub mod expression;
 pub mod goes;
 pub mod header;
 pub mod kernels;
+pub mod lookahead;
 pub mod order;
 pub mod owners;
 pub mod reading;

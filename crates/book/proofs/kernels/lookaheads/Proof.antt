@@ -1,21 +1,15 @@
-use mathlib.Core.List.{[], _∷_}
-use Rattle.text.specs.Numeral.{wordOf, spelled}
+use native.Mathlib.Omega.{arith}
+use borrow.Author.Tests.{not-true, not-false}
 use Rattle.text.specs.Rest.{rest, size}
 use Rattle.sets.specs.Sets.{empty}
-use Rattle.grammar.specs.Format.Ordered.{lookaheadKey}
-use Rattle.grammar.specs.Format.Reader.{naming}
-use Rattle.grammar.specs.Format.Parse.{lookahead, lookaheads}
-use Rattle.book.specs.Order.{lastKey, next-last}
-use Rattle.book.specs.Sections.{Reading, reading-start, reading-turn, reading-less, reading-done}
-use Rattle.book.specs.KernelLines.{seen, see, looks-of, lookahead-read, lookaheads-shrink}
+use Rattle.grammar.specs.Format.Parse.{lookaheads}
+use Rattle.book.specs.KernelLines.{Looking, looking-start, looking-done, looking-less, looking-turn, looking-out}
 use borrow.Author.Needs.{needs}
 use Rattle.book.proofs.kernels.lookaheads.Statement.{statement}
 use Rattle.book.proofs.kernels.lookaheads.Tie as tie
 
 abbrev Inv-loop : tie.InvT-loop
-Inv-loop t text at n p₀ count₀ last₀ set₀ p count last set =
-    Reading (naming (wordOf "t")) lookahead (λ before. lookaheadKey) see
-    text (lookaheads (rest text at)) (seen 0 0) (lastKey count (last ∷ [])) count p (seen last set)
+Inv-loop t text at n p₀ count₀ last₀ set₀ p count last set = Looking (lookaheads (rest text at)) text count last set p
 
 abbrev μ-loop : tie.MeasureT-loop
 μ-loop t text at n p₀ count₀ last₀ set₀ p count last set = size (rest text p)
@@ -24,24 +18,17 @@ empty-requires : tie.Need-empty-requires Inv-loop μ-loop
 empty-requires c κs = search needs
 
 loop-holds : tie.Need-loop-holds Inv-loop μ-loop
-unfolding lookaheads lastKey empty
-loop-holds c = rw (c .empty .ensures) (reading-start _ _ _ _ lookaheads-shrink _ _ _ _)
+unfolding empty
+loop-holds c = looking-start _ _ (c .empty .ensures)
 
-naming-requires : tie.Need-naming-requires Inv-loop μ-loop
-naming-requires c κs = search needs
+lookahead-requires : tie.Need-lookahead-requires Inv-loop μ-loop
+lookahead-requires c κs = search needs
 
 returns : tie.Need-returns Inv-loop μ-loop
-unfolding spelled
-returns c = looks-of (reading-done _ _ _ _ lookaheads-shrink _ (c .before .before .loop .inv) (c .before .naming .ensures) (c .if1 .taken))
-
-number-requires : tie.Need-number-requires Inv-loop μ-loop
-number-requires c κs = search needs
+returns c = looking-done (c .before .before .before .loop .inv) (c .before .before .lookahead .ensures) (c .if1 .taken)
 
 follows-requires : tie.Need-follows-requires Inv-loop μ-loop
 follows-requires c κs = search needs
-
-require-requires : tie.Need-require-requires Inv-loop μ-loop
-require-requires c κs = search needs
 
 with-lookahead-requires : tie.Need-with-lookahead-requires Inv-loop μ-loop
 with-lookahead-requires c κs = search needs
@@ -49,22 +36,26 @@ with-lookahead-requires c κs = search needs
 add-count : tie.Need-add-count Inv-loop μ-loop
 add-count c = search needs
 
+add-t12 : tie.Need-add-t12 Inv-loop μ-loop
+add-t12 c = search needs
+
+returns-2 : tie.Need-returns-2 Inv-loop μ-loop
+returns-2 c =
+    let here = c .before .before .before in
+    looking-out (here .before .before .before .loop .inv) (here .before .before .lookahead .ensures) (here .if1 .left) (c .before .before .follows .ensures)
+    (c .before .with-lookahead .ensures) (not-true _ (c .if2 .taken)) (omega arith)
+
 loop-less : tie.Need-loop-less Inv-loop μ-loop
-unfolding spelled
 loop-less c =
-    let terminal = c .before .before .before in
-    let head = terminal .before .before in
-    reading-less _ _ _ _ lookaheads-shrink _ (head .before .loop .inv) (head .naming .ensures) (terminal .before .if1 .left)
-    (lookahead-read _ _ (terminal .number .ensures) (c .before .before .follows .ensures) (c .before .require .ensures) .remaining-is)
+    let here = c .before .before .before in
+    looking-less (here .before .before .before .loop .inv) (here .before .before .lookahead .ensures) (here .if1 .left) (c .before .before .follows .ensures)
+    (c .before .with-lookahead .ensures) (not-false _ (c .if2 .left))
 
 loop-again : tie.Need-loop-again Inv-loop μ-loop
-unfolding spelled see lookaheadKey
 loop-again c =
-    let terminal = c .before .before .before in
-    let head = terminal .before .before in
-    let read = lookahead-read _ _ (terminal .number .ensures) (c .before .before .follows .ensures) (c .before .require .ensures) in
-    reading-turn _ _ _ _ lookaheads-shrink _ (head .before .loop .inv) (head .naming .ensures) (terminal .before .if1 .left)
-    (read .remaining-is) (next-last _ (rw (read .result-is))) (rw (c .with-lookahead .ensures, read .result-is))
+    let here = c .before .before .before in
+    looking-turn (here .before .before .before .loop .inv) (here .before .before .lookahead .ensures) (here .if1 .left) (c .before .before .follows .ensures)
+    (c .before .with-lookahead .ensures) (not-false _ (c .if2 .left))
 
 pub lookaheads-spec : {M : Type 1} → statement M
 lookaheads-spec =
@@ -74,12 +65,12 @@ lookaheads-spec =
     μ-loop
     empty-requires
     loop-holds
-    naming-requires
+    lookahead-requires
     returns
-    number-requires
     follows-requires
-    require-requires
     with-lookahead-requires
     add-count
+    add-t12
+    returns-2
     loop-less
     loop-again)

@@ -17,9 +17,9 @@ use Rattle.grammar.specs.Formulas.Passes.{passes}
 use Rattle.grammar.specs.Formulas.FormulaCheck.{doneIn, advance, unsplit, fresh, definitions, visit, ended, check}
 use Rattle.grammar.specs.Formulas.FormulaCheckSteps.{fresh-long}
 use Rattle.grammar.specs.Formulas.FormulaCheckAll.{fails-below}
-use Rattle.attributes.specs.Table.{HEADS, Table}
-use Rattle.attributes.specs.Buckets.{empty-table}
-use Rattle.attributes.specs.Formulas as formulas
+use Rattle.formulas.specs.Table.{HEADS, Table}
+use Rattle.formulas.specs.Buckets.{empty-table}
+use Rattle.formulas.specs.Formulas as formulas
 use Rattle.attributes.specs.SlotsHeld.{SlotsIn}
 use Rattle.attributes.specs.Owned.{KnownIn}
 use Rattle.attributes.specs.Checking.{markOf, ProgressIn, Room}

@@ -16,7 +16,7 @@ use Rattle.grammar.specs.Formulas.FormulaCheck.{Progress, progress, split, done
 use Rattle.grammar.specs.Formulas.FormulaCheckSteps.{Long}
 use Rattle.grammar.specs.Formulas.DefinitionPremises.{DefinitionPremises}
 use Rattle.book.specs.Held.{RulesIn, DefinitionsIn}
-use Rattle.attributes.specs.Table.{ROOM, HEADS, Table}
+use Rattle.formulas.specs.Table.{ROOM, HEADS, Table}
 use Rattle.attributes.specs.SlotsHeld.{SlotsIn}
 use Rattle.attributes.specs.Owned.{OwnedIn, KnownIn}
 

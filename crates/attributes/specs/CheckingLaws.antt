@@ -22,10 +22,10 @@ use Rattle.grammar.specs.Formulas.Slots.{Slots, slotAt, ownAt, settledBelow, at
 use Rattle.grammar.specs.Formulas.FormulaCheck as grammar
 use Rattle.grammar.specs.Formulas.FormulaCheck.{progress, dotOf, doneIn, enter, formulaOf, lineAt, due, visit}
 use Rattle.grammar.specs.Formulas.FormulaCheckSteps.{enter-by, done-more, done-length}
-use Rattle.attributes.specs.Table.{ROOM}
-use Rattle.attributes.specs.Meaning.{Means, means, one-formula, one-number}
-use Rattle.attributes.specs.Formulas.{SlotIn, empty, full, Asked, Formed}
-use Rattle.attributes.specs.Steps.{inherited-in}
+use Rattle.formulas.specs.Table.{ROOM}
+use Rattle.formulas.specs.Meaning.{Means, means, one-formula, one-number}
+use Rattle.formulas.specs.Formulas.{SlotIn, empty, full, Asked, Formed}
+use Rattle.formulas.specs.Steps.{inherited-in}
 use Rattle.attributes.specs.SlotsHeld.{SlotsIn, slots-kept, reads-item}
 use Rattle.attributes.specs.Owned.{isFilled, KnownIn, settled-is}
 use Rattle.attributes.specs.Checking.{memberIn, CheckHeld, markOf, ProgressIn, Reached, going, apart}

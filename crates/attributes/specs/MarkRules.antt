@@ -12,7 +12,7 @@ use Rattle.grammar.specs.Automaton.FirstSets.{Sets}
 use Rattle.grammar.specs.Automaton.ReachSets.{reachWith}
 use Rattle.grammar.specs.Automaton.CoreItems.{Core, core, entered, ofRules}
 use Rattle.book.specs.Held.{RulesIn}
-use Rattle.automaton.specs.NoItems.{Nothing, no-rules}
+use Rattle.items.specs.NoItems.{Nothing, no-rules}
 use Rattle.attributes.specs.Marks.{MarksIn, marks-item}
 
 -- a grammar in an array, with the closure `looks` of a state from word `first` on

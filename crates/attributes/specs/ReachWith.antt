@@ -9,7 +9,7 @@ use Rattle.sets.specs.Sets.{union}
 use Rattle.grammar.specs.Data.Symbol.{Rule, rightOf, after}
 use Rattle.grammar.specs.Automaton.FirstSets.{Sets, null}
 use Rattle.grammar.specs.Automaton.ReachSets.{reachWith}
-use Rattle.automaton.specs.Arrays.{flag, SuffixesIn, ReachesIn}
+use Rattle.items.specs.Arrays.{flag, SuffixesIn, ReachesIn}
 
 module _ {G : List Rule} {F : Sets} {R nulls firsts reaches : List ℕ} (N : SuffixesIn G F nulls firsts) (H : ReachesIn G F R reaches) (P D M : ℕ)
     (p : P < length G) (d : D ≤ length (rightOf G P)) where

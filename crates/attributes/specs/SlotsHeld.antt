@@ -9,9 +9,9 @@ use Rattle.grammar.specs.Data.LeavesLaws.{leaves-map}
 use Rattle.grammar.specs.Data.Book.{Place, own, at, val, Book, Expr}
 use Rattle.grammar.specs.Conditions.MeaningLaws as conditions
 use Rattle.grammar.specs.Formulas.Slots.{Slots, slotAt, ownAt}
-use Rattle.attributes.specs.Table.{Grown}
-use Rattle.attributes.specs.Formulas.{SlotIn, OwnReads, in-slot, below, Reads}
-use Rattle.attributes.specs.FormulasLaws.{slot-kept}
+use Rattle.formulas.specs.Table.{Grown}
+use Rattle.formulas.specs.Formulas.{SlotIn, OwnReads, in-slot, below, Reads}
+use Rattle.formulas.specs.FormulasLaws.{slot-kept}
 
 -- each word is the number of the slot's formula plus one, or 0
 pub record SlotsIn (table : List ℕ) (used : ℕ) (slots : Slots) (words : List ℕ) : Type 0 where

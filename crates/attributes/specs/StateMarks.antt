@@ -12,7 +12,7 @@ use Rattle.grammar.specs.Automaton.ReachSets.{reachSets}
 use Rattle.grammar.specs.Automaton.ClosureSets.{closureSets}
 use Rattle.grammar.specs.Automaton.CoreItems.{ofKernels, ofRules, coreItems}
 use Rattle.book.specs.Held.{kernelAt}
-use Rattle.automaton.specs.RestSets.{RestSetsIn}
+use Rattle.items.specs.RestSets.{RestSetsIn}
 use Rattle.automaton.specs.StatesIn.{ItemsIn, Range, kernel-there, state-range, state-starts}
 use Rattle.attributes.specs.Marks.{MarksIn, marks-none}
 use Rattle.attributes.specs.MarkRules.{LooksIn}

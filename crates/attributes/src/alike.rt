@@ -9,7 +9,7 @@ ghost use Rattle.grammar.specs.Formulas.FormulaCheck as grammar;
 ghost use Rattle.grammar.specs.Formulas.FormulaCheckAll.{SameItems};
 ghost use Rattle.attributes.specs.Checking.{memberOf, CheckHeld};
 ghost use Rattle.attributes.specs.Alike.{Agree};
-use automaton::words::word;
+use items::words::word;
 
 // The numbers below 32 that a set does not hold.
 fn others(set: u32) -> u32

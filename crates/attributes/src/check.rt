@@ -13,17 +13,17 @@ ghost use Rattle.grammar.specs.Formulas.FormulaCheck as grammar;
 ghost use Rattle.grammar.specs.Formulas.FormulaCheck.{progress, advance, unsplit, lineAt};
 ghost use Rattle.grammar.specs.Formulas.Passes as fixpoint;
 ghost use Rattle.grammar.specs.Formulas.Passes.{visits};
-ghost use Rattle.attributes.specs.Table.{ROOM};
-ghost use Rattle.attributes.specs.Meaning.{Means};
+ghost use Rattle.formulas.specs.Table.{ROOM};
+ghost use Rattle.formulas.specs.Meaning.{Means};
 ghost use Rattle.attributes.specs.Owned.{KnownIn};
 ghost use Rattle.attributes.specs.Skips.{Skips};
 ghost use Rattle.attributes.specs.Checking.{memberIn, memberOf, CheckHeld, ProgressIn, Reached, Room};
 use super::alike::alike;
-use super::formulas::formula_of;
-use super::interning::clear;
 use super::skips::skip;
-use automaton::words::fill;
-use automaton::words::word;
+use formulas::formulas::formula_of;
+use formulas::interning::clear;
+use items::words::fill;
+use items::words::word;
 
 // How far a check is: the nodes of the table, the set of the attributes that have a formula, the definitions that are done, and whether two formulas
 // of one attribute differ.

@@ -10,13 +10,13 @@ ghost use Rattle.grammar.specs.Automaton.FirstSets.{Sets};
 ghost use Rattle.grammar.specs.Automaton.ReachSets.{reachWith};
 ghost use Rattle.grammar.specs.Data.Book.{Book, Kernel};
 ghost use Rattle.grammar.specs.Automaton.CoreItems.{Core, ofRules, ofKernels};
-ghost use Rattle.automaton.specs.Arrays.{SuffixesIn, ReachesIn};
+ghost use Rattle.items.specs.Arrays.{SuffixesIn, ReachesIn};
 ghost use Rattle.attributes.specs.Marks.{MarksIn};
 ghost use Rattle.attributes.specs.MarkRules.{LooksIn};
 ghost use Rattle.attributes.specs.MarkLines.{ItemLinesIn, itemOf};
 ghost use Rattle.attributes.specs.StateMarks.{MarksHeld, StateMarksIn};
-use automaton::words::nothing;
-use automaton::words::word;
+use items::words::nothing;
+use items::words::word;
 
 // What is reached by items of a rule, with the dot after `dot` symbols and the lookaheads `own`.
 fn reach_with(nulls: &[u32], reaches: &[u32], rule: usize, dot: usize, own: u32) -> u32

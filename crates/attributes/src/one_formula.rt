@@ -9,7 +9,7 @@ ghost use Rattle.grammar.specs.Conditions.Decides.{allBelow};
 ghost use Rattle.grammar.specs.Data.Book.{Book};
 ghost use Rattle.grammar.specs.Formulas.Slots.{attributes};
 ghost use Rattle.book.specs.Held.{OwnersIn};
-ghost use Rattle.attributes.specs.Table.{ROOM};
+ghost use Rattle.formulas.specs.Table.{ROOM};
 ghost use Rattle.attributes.specs.Owned.{OwnedIn};
 ghost use Rattle.attributes.specs.Checking.{Room};
 ghost use Rattle.attributes.specs.OneFormula.{FormulasHeld, stateRight, formulasRight};

@@ -7,7 +7,7 @@ ghost use Rattle.grammar.specs.Data.Book.{Book};
 ghost use Rattle.grammar.specs.Formulas.FormulaCheck as grammar;
 ghost use Rattle.attributes.specs.Checking.{CheckHeld};
 ghost use Rattle.attributes.specs.Skips.{Skip, Skips};
-use automaton::words::word;
+use items::words::word;
 
 // A line, if its item is in the state, else the next one that is known.
 fn nearest(definitions: &[u32], line: usize, masks: &[u32], next: usize) -> usize

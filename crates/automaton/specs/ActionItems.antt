@@ -24,10 +24,10 @@ use Rattle.grammar.specs.Automaton.TestLaws.{by-test}
 use Rattle.grammar.specs.Automaton.Actions.{Cell, conflict, meld, completed, meldItem, cellFrom}
 use Rattle.book.specs.Layout.{symbolCode}
 use Rattle.book.specs.Held.{KernelsIn, kernelAt}
-use Rattle.automaton.specs.NoItems.{Nothing, no-items}
-use Rattle.automaton.specs.Arrays.{ClosuresIn}
-use Rattle.automaton.specs.SymbolCodes.{terminal-code, nonterminal-code}
-use Rattle.automaton.specs.GrammarIn.{GrammarIn, Next, after-none, after-some, right-symbol-low, set-word}
+use Rattle.items.specs.NoItems.{Nothing, no-items}
+use Rattle.items.specs.Arrays.{ClosuresIn}
+use Rattle.items.specs.SymbolCodes.{terminal-code, nonterminal-code}
+use Rattle.items.specs.GrammarIn.{GrammarIn, Next, after-none, after-some, right-symbol-low, set-word}
 use Rattle.automaton.specs.StatesIn.{StatesIn, Stands, Range, state-range, lines-next}
 use Rattle.automaton.specs.Advances.{kernel-stands}
 use Rattle.automaton.specs.Cells.{shifting, shift-code}

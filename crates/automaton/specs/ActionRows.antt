@@ -16,7 +16,7 @@ use Rattle.grammar.specs.Data.Symbol.{Symbol}
 use Rattle.grammar.specs.Automaton.States.{Action}
 use Rattle.grammar.specs.Automaton.TestLaws.{by-test, true-false}
 use Rattle.grammar.specs.Automaton.Actions.{Cell, act, conflict, meld, completed, meldItem}
-use Rattle.automaton.specs.Arrays.{cellCode}
+use Rattle.items.specs.Arrays.{cellCode}
 use Rattle.automaton.specs.Cells.{Possible, completing, Clear, acting, clear-conflict, completed-code, meld-fits, meld-clash}
 
 -- the words of state S are the cells of the terminals up to T, none of them a conflict

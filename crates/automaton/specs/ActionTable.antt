@@ -19,7 +19,7 @@ use Rattle.grammar.specs.Automaton.CoreItems.{coreItems}
 use Rattle.grammar.specs.Automaton.Actions.{Cell, free, act, conflict, cellFrom, noConflictIn}
 use Rattle.grammar.specs.Automaton.Compiled.{itemsTable, cellsTable, noConflict}
 use Rattle.grammar.specs.Automaton.CompiledTables.{cellAt, cell-at, state-past, terminal-past}
-use Rattle.automaton.specs.Arrays.{ActionsIn}
+use Rattle.items.specs.Arrays.{ActionsIn}
 use Rattle.automaton.specs.StatesIn.{ItemsIn}
 use Rattle.automaton.specs.Cells.{nothing, clear-conflict, free-code}
 use Rattle.automaton.specs.ActionRows.{Row, Clash, Melded}

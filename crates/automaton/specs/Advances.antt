@@ -21,9 +21,9 @@ use Rattle.grammar.specs.Automaton.ClosureSets.{setOf, kernelsIn, closureSets}
 use Rattle.grammar.specs.Automaton.CoreItems.{Core, core, ofKernels, entered, ofRules, coreItems}
 use Rattle.grammar.specs.Automaton.StatesCheck.{holdsItem, advancesTo, advances, allAdvance, statesAdvance}
 use Rattle.book.specs.Held.{KernelsIn, kernelAt}
-use Rattle.automaton.specs.NoItems.{Nothing, no-items}
-use Rattle.automaton.specs.Arrays.{targetCode}
-use Rattle.automaton.specs.GrammarIn.{Next, after-none, after-some, right-go, set-word}
+use Rattle.items.specs.NoItems.{Nothing, no-items}
+use Rattle.items.specs.Arrays.{targetCode}
+use Rattle.items.specs.GrammarIn.{Next, after-none, after-some, right-go, set-word}
 use Rattle.automaton.specs.StatesIn.{StatesIn, MovesIn, ItemsIn, AutomatonIn, Stands, Range, state-range, kernel-there, lines-next}
 
 -- ---- one item

@@ -15,11 +15,11 @@ use Rattle.grammar.specs.BookFacts.{small-book}
 use Rattle.grammar.specs.Automaton.FirstSets.{setsOf}
 use Rattle.grammar.specs.Automaton.FirstSetsLaws.{sets-right}
 use Rattle.book.specs.Held.{RulesIn, KernelsIn, kernelAt}
-use Rattle.automaton.specs.Arrays.{SuffixesIn, StartsIn}
-use Rattle.automaton.specs.Starts.{LinesIn}
-use Rattle.automaton.specs.Derives.{GrammarIn}
-use Rattle.automaton.specs.KernelLines.{KernelItemsIn}
-use Rattle.automaton.specs.Closures.{StateItemsIn}
+use Rattle.items.specs.Arrays.{SuffixesIn, StartsIn}
+use Rattle.items.specs.Starts.{LinesIn}
+use Rattle.items.specs.Derives.{GrammarIn}
+use Rattle.items.specs.KernelLines.{KernelItemsIn}
+use Rattle.items.specs.Closures.{StateItemsIn}
 use Rattle.automaton.specs.KernelRules.{RuledIn}
 
 line-member : (ks : List Kernel) (i : ℕ) → i < length ks → Mem (kernelAt ks i) ks

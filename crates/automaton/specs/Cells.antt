@@ -10,7 +10,7 @@ use Rattle.grammar.specs.Limits.{MAX-RULES}
 use Rattle.grammar.specs.Automaton.States.{Action, Action-discrete, shift}
 use Rattle.grammar.specs.Automaton.Actions.{Cell, free, act, conflict, sameAction, meld, completed}
 use Rattle.grammar.specs.Conditions.Decides.{Decides, true-decides, false-decides, refutes}
-use Rattle.automaton.specs.Arrays.{cellCode}
+use Rattle.items.specs.Arrays.{cellCode}
 
 -- an action that a state can have: a rule is one of at most 64, and rule 0 accepts
 pub data Possible : Action → Type 0 where

@@ -25,9 +25,9 @@ use Rattle.grammar.specs.Automaton.CoreItems.{Core, core, ofKernels, entered, o
 use Rattle.grammar.specs.Automaton.StatesCheck.{holdsItem, nextIs, comesFrom, allCome, someKernel, goLines}
 use Rattle.book.specs.Layout.{symbolCode}
 use Rattle.book.specs.Held.{KernelsIn, GoesIn, kernelAt, goAt}
-use Rattle.automaton.specs.GrammarIn.{Next, after-some, right-symbol-low, set-word}
+use Rattle.items.specs.GrammarIn.{Next, after-some, right-symbol-low, set-word}
 use Rattle.automaton.specs.StatesIn.{StatesIn, ItemsIn, Stands, Range, state-range, lines-next}
-use Rattle.automaton.specs.SymbolCodes.{code-test}
+use Rattle.items.specs.SymbolCodes.{code-test}
 use Rattle.automaton.specs.GoTable.{LineLow, line-low, at-member, go-symbol-low}
 
 -- ---- an item of a state

@@ -20,8 +20,8 @@ use Rattle.grammar.specs.Conditions.Decides.{Decides, eq-decides, and-decides, 
 use Rattle.grammar.specs.Automaton.GoLines.{sameSymbol-decides}
 use Rattle.book.specs.Layout.{symbolCode}
 use Rattle.book.specs.Held.{GoesIn, goAt}
-use Rattle.automaton.specs.Arrays.{targetCode, GoTableIn}
-use Rattle.automaton.specs.SymbolCodes.{code-low, code-same}
+use Rattle.items.specs.Arrays.{targetCode, GoTableIn}
+use Rattle.items.specs.SymbolCodes.{code-low, code-same}
 
 -- an element within a list is a member of it
 pub at-member : {A : Type 0} (l : List A) (i : ℕ) (d : A) → i < length l → Mem (getD l i d) l

@@ -18,10 +18,10 @@ use Rattle.grammar.specs.Automaton.ClosureSets.{kernelsIn}
 use Rattle.grammar.specs.Automaton.StatesCheck.{endAlone, startState, oneSymbol, otherState, otherStates, startLookaheads, kernelRules}
 use Rattle.book.specs.Layout.{symbolCode}
 use Rattle.book.specs.Held.{kernelAt}
-use Rattle.automaton.specs.Arrays.{StartsIn}
-use Rattle.automaton.specs.Starts.{by-order}
-use Rattle.automaton.specs.SymbolCodes.{code-low}
-use Rattle.automaton.specs.KernelLines.{lines, lines-none, lines-more, state-words}
+use Rattle.items.specs.Arrays.{StartsIn}
+use Rattle.items.specs.Starts.{by-order}
+use Rattle.items.specs.SymbolCodes.{code-low}
+use Rattle.items.specs.KernelLines.{lines, lines-none, lines-more, state-words}
 use Rattle.automaton.specs.KernelWords.{SpelledIn, NamedIn, startOrOther, hasBefore, wordBefore, before-low, behind-front, has-before}
 
 -- a book's rules and kernel lines in arrays, and where the lines of each state begin

@@ -17,8 +17,8 @@ use Rattle.grammar.specs.Automaton.States.{sameSymbol}
 use Rattle.grammar.specs.Automaton.StatesCheck.{endAlone}
 use Rattle.book.specs.Layout.{symbolCode, lastOf}
 use Rattle.book.specs.Held.{RulesIn, KernelsIn, kernelAt}
-use Rattle.automaton.specs.SymbolCodes.{code-low, code-test}
-use Rattle.automaton.specs.Derives.{low-at}
+use Rattle.items.specs.SymbolCodes.{code-low, code-test}
+use Rattle.items.specs.Derives.{low-at}
 
 -- kernel lines in an array, each with "one or more lookaheads, strictly ascending"
 pub record SpelledIn (ks : List Kernel) (kernels : List ℕ) : Type 0 where

@@ -15,8 +15,8 @@ use Rattle.grammar.specs.Conditions.MeaningLaws.{right-length}
 use Rattle.grammar.specs.Automaton.FirstSets.{Sets}
 use Rattle.grammar.specs.Automaton.ClosureSets.{kernelsIn}
 use Rattle.book.specs.Held.{KernelsIn, kernelAt}
-use Rattle.automaton.specs.Arrays.{StartsIn, ClosuresIn, GoTableIn}
-use Rattle.automaton.specs.GrammarIn.{GrammarIn}
+use Rattle.items.specs.Arrays.{StartsIn, ClosuresIn, GoTableIn}
+use Rattle.items.specs.GrammarIn.{GrammarIn}
 use Rattle.automaton.specs.GoTable.{at-member}
 
 -- the rules and the kernel lines, with where those of each state begin

@@ -11,14 +11,14 @@ ghost use Rattle.grammar.specs.Automaton.FirstSets.{Sets};
 ghost use Rattle.grammar.specs.Automaton.ClosureSets.{kernelsIn, closureSets};
 ghost use Rattle.grammar.specs.Automaton.CoreItems.{Core, ofKernels, entered, ofRules, coreItems};
 ghost use Rattle.grammar.specs.Automaton.Actions.{Cell, cellFrom};
-ghost use Rattle.automaton.specs.Arrays.{ClosuresIn};
-ghost use Rattle.automaton.specs.GrammarIn.{GrammarIn};
+ghost use Rattle.items.specs.Arrays.{ClosuresIn};
+ghost use Rattle.items.specs.GrammarIn.{GrammarIn};
 ghost use Rattle.automaton.specs.StatesIn.{StatesIn, ItemsIn, Stands};
 ghost use Rattle.automaton.specs.ActionRows.{Given, Row, Melded, completedBelow, itemCells};
 ghost use Rattle.automaton.specs.ActionTable.{Acted};
-use super::words::fill;
-use super::words::nothing;
-use super::words::word;
+use items::words::fill;
+use items::words::nothing;
+use items::words::word;
 
 // Gives a byte an action; whether it was free, or had the action already.
 fn give(actions: &mut [u8], place: usize, action: u8) -> bool

@@ -18,8 +18,8 @@ ghost use Rattle.automaton.specs.StatesIn.{MovesIn, ItemsIn, AutomatonIn
 ghost use Rattle.automaton.specs.HoldsItem.{isItem};
 ghost use Rattle.automaton.specs.Advances.{kernelAdvances, ruleAdvances};
 ghost use Rattle.automaton.specs.Comes.{someItem, lineComes, goComes};
-use super::words::nothing;
-use super::words::word;
+use items::words::nothing;
+use items::words::word;
 
 // Whether kernel line i is of (rule, dot) with at least the lookaheads of `set`.
 fn is_item(kernels: &[u32], i: usize, rule: usize, dot: usize, set: u32) -> bool

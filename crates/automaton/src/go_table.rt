@@ -2,10 +2,10 @@
 ghost use mathlib.Core.Path.{_≡_};
 ghost use lib.ListN.{length};
 ghost use Rattle.grammar.specs.Data.Book.{Book};
-ghost use Rattle.automaton.specs.Arrays.{GoTableIn};
+ghost use Rattle.items.specs.Arrays.{GoTableIn};
 ghost use Rattle.automaton.specs.GoTable.{GoLinesIn};
-use super::words::fill;
-use super::words::word;
+use items::words::fill;
+use items::words::word;
 
 // The target of each state and symbol, 255 where there is no go line. The lines are put in from the last to the first, so that of two lines of one
 // state and symbol the first would stand.

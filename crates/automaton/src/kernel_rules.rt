@@ -11,10 +11,10 @@ ghost use Rattle.grammar.specs.Automaton.Small.{numberOf};
 ghost use Rattle.grammar.specs.Automaton.StatesCheck.{endAlone, startState, oneSymbol, otherState, otherStates, startLookaheads, kernelRules};
 ghost use Rattle.book.specs.Layout.{symbolCode};
 ghost use Rattle.book.specs.Held.{kernelAt};
-ghost use Rattle.automaton.specs.KernelLines.{lines};
+ghost use Rattle.items.specs.KernelLines.{lines};
 ghost use Rattle.automaton.specs.KernelWords.{SpelledIn, NamedIn, wordBefore, startOrOther};
 ghost use Rattle.automaton.specs.KernelRules.{RuledIn};
-use super::words::word;
+use items::words::word;
 
 // Whether kernel line i has t0 alone. Lookaheads ascend, so the largest tells.
 fn end_alone(kernels: &[u32], i: usize) -> bool

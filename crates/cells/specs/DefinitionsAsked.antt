@@ -14,7 +14,7 @@ use Rattle.grammar.specs.Conditions.Meaning.{WithinLimits, DeclaredPlace, Decla
 use Rattle.grammar.specs.Formulas.FormulaCheck.{dotOf, lineAt}
 use Rattle.book.specs.Held.{DefinitionsIn, synthesizedAt}
 use Rattle.automaton.specs.GoTable.{at-member}
-use Rattle.attributes.specs.Steps.{step-is, inherited-in}
+use Rattle.formulas.specs.Steps.{step-is, inherited-in}
 use Rattle.cells.specs.Values.{MayRead, Asked}
 
 -- what is declared in a rule is in reach: left of a position, or on the whole right side

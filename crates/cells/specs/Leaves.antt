@@ -4,10 +4,10 @@ use Prim.Native.Nat.{ℕ, _+_, _*_, _-_, _≤_, _<_}
 use mathlib.Core.Path.{_≡_}
 use mathlib.Core.List.{List}
 use lib.ListN.{length, getD, take, drop}
-use Rattle.attributes.specs.declared.nodes.Stack.{Stack}
-use Rattle.attributes.specs.declared.nodes.Stack.the-variants.{Inherited, Synthesized}
-use Rattle.attributes.specs.declared.nodes.Leaf.{Leaf}
-use Rattle.attributes.specs.declared.nodes.Leaf.the-variants.{Attribute, TokenValue}
+use Rattle.formulas.specs.declared.nodes.Stack.{Stack}
+use Rattle.formulas.specs.declared.nodes.Stack.the-variants.{Inherited, Synthesized}
+use Rattle.formulas.specs.declared.nodes.Leaf.{Leaf}
+use Rattle.formulas.specs.declared.nodes.Leaf.the-variants.{Attribute, TokenValue}
 use Rattle.cells.specs.Frames.{cellValue, recordValue, tokenWord}
 
 -- the two stacks have room for 129 cells and 128 records

@@ -5,8 +5,8 @@ use mathlib.Core.List.{List}
 use native.Mathlib.Omega.{arith}
 use lib.ListN.{length, getD, take, drop, length-take, length-drop}
 use lib.Seq.{getD-take, getD-drop}
-use Rattle.attributes.specs.declared.nodes.Stack.{Stack}
-use Rattle.attributes.specs.declared.nodes.Stack.the-variants.{Inherited, Synthesized}
+use Rattle.formulas.specs.declared.nodes.Stack.{Stack}
+use Rattle.formulas.specs.declared.nodes.Stack.the-variants.{Inherited, Synthesized}
 use Rattle.cells.specs.Leaves.{Room, Has, width, partOf, wordOf}
 
 part-word : (w n k : ℕ) (xs : List ℕ) → k < w → getD (take w (drop n xs)) k 0 ≡ getD xs (n + k) 0

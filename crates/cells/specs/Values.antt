@@ -6,7 +6,7 @@ use lib.ListN.{getD}
 use Rattle.grammar.specs.Data.Term.{apply, choose, Leaves}
 use Rattle.grammar.specs.Data.Postfix.{Step, push, load, operate, select}
 use Rattle.grammar.specs.Data.Book.{Place, own, at, val, Expr}
-use Rattle.attributes.specs.Steps.{ExpressionIn}
+use Rattle.formulas.specs.Steps.{ExpressionIn}
 use Rattle.cells.specs.Frames.{cellValue, recordValue, tokenWord}
 
 -- what a leaf reads where the rule's first right symbol stands above height `base`

@@ -11,7 +11,7 @@ use Rattle.grammar.specs.Data.Term.{nodes, choose, eval, Leaves}
 use Rattle.grammar.specs.Data.Postfix.{Step, push, load, operate, select, postfix, evaluating, step, run, length-postfix, run-eval}
 use Rattle.grammar.specs.Data.Book.{Place, at, Expr}
 use Rattle.book.specs.Held.{nodeAt}
-use Rattle.attributes.specs.PostfixLaws.{takes, Ready, Fits, fits, ready-takes}
+use Rattle.formulas.specs.PostfixLaws.{takes, Ready, Fits, fits, ready-takes}
 use Rattle.cells.specs.Values.{MayRead, stepValue}
 
 -- ---------------------------------------------------------------- choosing

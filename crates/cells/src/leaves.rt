@@ -2,8 +2,8 @@
 ghost use mathlib.Core.Path.{_≡_};
 ghost use Prim.Native.Nat.{_<_, _≤_};
 ghost use Rattle.cells.specs.Leaves.{Room, Has, width, partOf, wordOf, Readable, leafWord};
-use attributes::nodes::Leaf;
-use attributes::nodes::Stack;
+use formulas::nodes::Leaf;
+use formulas::nodes::Stack;
 
 // The words of a cell of the inherited stack or of a record of the synthesized one.
 fn record<'a>(inherited: &'a [u32], synthesized: &'a [u32], stack: Stack, at: usize) -> &'a [u32]

@@ -4,18 +4,18 @@ ghost use Prim.Native.Nat.{_-_, _≤_};
 ghost use lib.ListN.{length};
 ghost use Rattle.grammar.specs.Data.Term.{apply, choose, eval};
 ghost use Rattle.grammar.specs.Data.Book.{Expr};
-ghost use Rattle.attributes.specs.Nodes.{operatorOf};
-ghost use Rattle.attributes.specs.PostfixLaws.{Ready};
-ghost use Rattle.attributes.specs.Steps.{stepOf};
+ghost use Rattle.formulas.specs.Nodes.{operatorOf};
+ghost use Rattle.formulas.specs.PostfixLaws.{Ready};
+ghost use Rattle.formulas.specs.Steps.{stepOf};
 ghost use Rattle.cells.specs.Leaves.{Room};
 ghost use Rattle.cells.specs.Values.{placeIn, MayRead, Asked, stepValue};
 use super::leaves::leaf_value;
-use attributes::nodes::Leaf;
-use attributes::nodes::Operator;
-use attributes::nodes::Stack;
-use attributes::steps::Step;
-use attributes::steps::operands;
-use attributes::steps::step_at;
+use formulas::nodes::Leaf;
+use formulas::nodes::Operator;
+use formulas::nodes::Stack;
+use formulas::steps::Step;
+use formulas::steps::operands;
+use formulas::steps::step_at;
 
 // "Sums and differences are taken modulo 4,294,967,296".
 fn combine(operator: Operator, x: u32, y: u32) -> u32

@@ -14,8 +14,8 @@ use Rattle.plans.specs.Plans.{PlansIn}
 use Rattle.plans.specs.PlansLaws.{plans-none}
 use Rattle.machine.specs.Moving.{Rooms, Driven}
 use Rattle.machine.specs.Running.{RunIn}
-use Rattle.machine.specs.Standing.{Message as Tokens}
-use Rattle.engine.specs.Compiling.{asked-formulas}
+use Rattle.stack.specs.Standing.{Message as Tokens}
+use Rattle.compiler.specs.Compiling.{asked-formulas}
 use Rattle.engine.specs.Evaluations.{Message, message-tokens}
 use Rattle.engine.specs.Rooms.{zeros}
 use Rattle.engine.specs.Stored.{TakenBook}

@@ -1,17 +1,8 @@
-pub mod Compiling
-pub mod Conditions
 pub mod Driving
 pub mod Evaluations
-pub mod PackingLoops
-pub mod PlacedLaws
-pub mod Prepared
 pub mod Promises
 pub mod Readings
 pub mod Rooms
 pub mod Sides
-pub mod States
-pub mod StatesRefusal
 pub mod Stored
 pub mod Tokens
-pub mod Words
-pub mod WordsLaws

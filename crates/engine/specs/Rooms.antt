@@ -7,7 +7,7 @@ use native.Mathlib.Omega.{arith}
 use lib.ListN.{length, replicate, length-replicate}
 use Rattle.book.specs.Expressions.{MAX-WAITING}
 use Rattle.book.specs.Spelling.{arrays, Roomy}
-use Rattle.engine.specs.States.{TablesRoom}
+use Rattle.compiler.specs.States.{TablesRoom}
 
 pub zeros : (n : ℕ) → length {A = ℕ} (replicate n 0) ≡ n
 zeros n = length-replicate n 0

@@ -13,10 +13,10 @@ use Rattle.book.specs.declared.Book.{Book}
 use Rattle.conditions.specs.AskedLaws.{counted, member-at}
 use Rattle.attributes.specs.Owned.{OwnedIn}
 use Rattle.attributes.specs.OneFormula.{owned-all}
-use Rattle.machine.specs.Firsts.{LinesIn}
-use Rattle.machine.specs.Lists.{Listable}
-use Rattle.machine.specs.Standing.{LeftIn}
-use Rattle.engine.specs.Prepared.{BookReady}
+use Rattle.stack.specs.Firsts.{LinesIn}
+use Rattle.stack.specs.Lists.{Listable}
+use Rattle.stack.specs.Standing.{LeftIn}
+use Rattle.compiler.specs.Prepared.{BookReady}
 
 -- the owners of both kinds, and the definitions
 pub record SidesAsked (numbers : Book) (inherited synthesized definitions : List ℕ) (b : Lines) : Type 0 where

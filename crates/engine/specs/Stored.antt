@@ -19,10 +19,10 @@ use Rattle.grammar.specs.Refusal.{Sound, bookRefusal, refusal}
 use Rattle.grammar.specs.StoredLaws.{found-stored}
 use Rattle.grammar.specs.Engine.{storedBook}
 use Rattle.book.specs.declared.Book.{Book}
-use Rattle.engine.specs.Words.{Placed}
-use Rattle.engine.specs.PlacedLaws.{placed-count, placed-first}
-use Rattle.engine.specs.Prepared.{BookReady}
-use Rattle.engine.specs.Compiling.{Compiles, book-refused, taken-got}
+use Rattle.packing.specs.Words.{Placed}
+use Rattle.packing.specs.PlacedLaws.{placed-count, placed-first}
+use Rattle.compiler.specs.Prepared.{BookReady}
+use Rattle.compiler.specs.Compiling.{Compiles, book-refused, taken-got}
 
 -- there are as many words as a stored book has, and they are the filling of the text in them
 unfoldable pub isFilling : List ℕ → Bool

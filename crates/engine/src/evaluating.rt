@@ -9,14 +9,14 @@ ghost use Rattle.conditions.specs.Answers.{Some};
 ghost use Rattle.machine.specs.RunningLaws.{Answered};
 ghost use Rattle.engine.specs.Stored.{TakenBook};
 ghost use Rattle.engine.specs.Evaluations.{Asked, Answers, Evaluates, Message};
-use super::compile::compile;
-use super::packing::clear;
 use super::sides::fill_sides;
 use super::stored::text_in;
 use super::tokens::kinds_right;
 use book::Book;
+use compiler::compile::compile;
 use machine::run::Outcome;
 use machine::run::run;
+use packing::packing::clear;
 use text::classes;
 
 // Words of all rows.

@@ -1,10 +1,7 @@
 // The two public calls: reading and evaluating.
-pub mod compile;
 pub mod evaluating;
-pub mod packing;
 pub mod reading;
 pub mod sides;
-pub mod states;
 pub mod stored;
 pub mod tokens;
 

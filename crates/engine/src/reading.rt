@@ -6,10 +6,10 @@ ghost use Rattle.grammar.specs.Limits.{MAX-TEXT};
 ghost use Rattle.grammar.specs.Refusal.{refusal};
 ghost use Rattle.grammar.specs.Engine.{readBook};
 ghost use Rattle.engine.specs.Readings.{Reads, readNumber};
-use super::compile::compile;
-use super::packing::clear;
-use super::packing::pack;
 use book::Book;
+use compiler::compile::compile;
+use packing::packing::clear;
+use packing::packing::pack;
 use text::classes;
 
 // The first of 2 to 10 that applies to a text, or 0. The book's arrays and tables are not looked at again.

@@ -7,8 +7,8 @@ ghost use Rattle.conditions.specs.Answers.{Some};
 ghost use Rattle.engine.specs.Sides.{SidesAsked, SidesIn};
 use attributes::owned::owned;
 use book::Book;
-use machine::firsts::first_lines;
-use machine::lists::fill_lists;
+use stack::firsts::first_lines;
+use stack::lists::fill_lists;
 
 // The attributes of each nonterminal, as sets and as lists, and where each rule's definitions of synthesized attributes begin.
 pub fn fill_sides(

@@ -3,9 +3,9 @@ ghost use mathlib.Core.Path.{_≡_};
 ghost use lib.ListN.{length};
 ghost use Rattle.grammar.specs.Limits.{MAX-TEXT};
 ghost use Rattle.engine.specs.Stored.{Found};
-use super::packing::filled;
-use super::packing::unpack;
 use book::Book;
+use packing::packing::filled;
+use packing::packing::unpack;
 
 // Whether words are the filling of the text in them, and how many bytes it has.
 pub struct Filling {

@@ -11,9 +11,9 @@ use Rattle.grammar.specs.Engine.{tablesOf}
 use Rattle.plans.specs.Plans.{PlansIn, PlansHeld}
 use Rattle.machine.specs.declared.moves.Moved.{Moved}
 use Rattle.machine.specs.declared.moves.Moved.the-variants.{On, Accepted, Refused}
-use Rattle.machine.specs.declared.top.Top.{Top}
-use Rattle.machine.specs.Pushes.{Stacks}
-use Rattle.machine.specs.Standing.{BookIn, Message, ConfigIn, rowsOf}
+use Rattle.stack.specs.declared.top.Top.{Top}
+use Rattle.stack.specs.Pushes.{Stacks}
+use Rattle.stack.specs.Standing.{BookIn, Message, ConfigIn, rowsOf}
 
 -- the arrays that moves change, as they are lent
 pub record Rooms (states inherited synthesized starts rows sets : List ℕ) : Type 0 where

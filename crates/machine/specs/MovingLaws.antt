@@ -14,9 +14,9 @@ use Rattle.grammar.specs.Evaluator.Tree.{Token, next}
 use Rattle.grammar.specs.Evaluator.Machine.{Config, config, refused, accepted, more, stop, perform, step}
 use Rattle.grammar.specs.Evaluator.Moves.{shift-16, shift-17, reduce-16, reduce-17}
 use Rattle.grammar.specs.Engine.{tablesOf}
-use Rattle.machine.specs.declared.top.Top.{Top}
-use Rattle.machine.specs.Goes.{shift-goes}
-use Rattle.machine.specs.Standing.{BookIn, Standing, ConfigIn, stands, rowsOf, actionOf}
+use Rattle.stack.specs.declared.top.Top.{Top}
+use Rattle.stack.specs.Goes.{shift-goes}
+use Rattle.stack.specs.Standing.{BookIn, Standing, ConfigIn, stands, rowsOf, actionOf}
 
 module _ (b : Book) where
   pub none-refused : (c : Config) → actionOf b c ≡ none → step b (tablesOf b) c ≡ stop (refused 15)

@@ -10,7 +10,7 @@ use Rattle.grammar.specs.Conditions.Decides.{count}
 use Rattle.grammar.specs.Conditions.Meaning.{WithinLimits, IsNonterminal, Declared}
 use Rattle.book.specs.Held.{OwnersIn}
 use Rattle.automaton.specs.GoTable.{at-member}
-use Rattle.machine.specs.Lists.{Listable}
+use Rattle.stack.specs.Lists.{Listable}
 
 module _ {b : Book} (limits : WithinLimits b) (declared : Declared b) where
   owners-listable : {room : ℕ} {owners array : List ℕ} → OwnersIn room owners array → length owners ≤ MAX-SYNTHESIZED

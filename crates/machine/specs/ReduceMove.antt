@@ -13,15 +13,15 @@ use Rattle.grammar.specs.Evaluator.Tree.{Token, next, TokensOf, no-tokens, and-
 use Rattle.grammar.specs.Evaluator.Machine.{Config, refused, stop, step}
 use Rattle.grammar.specs.Evaluator.TakenPremises.{premises}
 use Rattle.grammar.specs.Engine.{tablesOf}
-use Rattle.machine.specs.declared.top.Top.{Top}
-use Rattle.machine.specs.Action.{reduced}
-use Rattle.machine.specs.LeftMove.{LeftAsked}
+use Rattle.stack.specs.declared.top.Top.{Top}
+use Rattle.stack.specs.Action.{reduced}
+use Rattle.stack.specs.LeftMove.{LeftAsked}
 use Rattle.machine.specs.Moving.{Driven, Here, MovedOn}
 use Rattle.machine.specs.MovingLaws.{reduce-symbols, room-left}
-use Rattle.machine.specs.Path.{deep}
+use Rattle.stack.specs.Path.{deep}
 use Rattle.machine.specs.Setting.{TopAsked, TopSet, config-asked, config-set, config-cell}
 use Rattle.machine.specs.Shifting.{state-low}
-use Rattle.machine.specs.Standing.{BookIn, LeftIn, ConfigIn, stands, framesOf, stateOf, kindOf, actionOf, GoesOn}
+use Rattle.stack.specs.Standing.{BookIn, LeftIn, ConfigIn, stands, framesOf, stateOf, kindOf, actionOf, GoesOn}
 
 -- a reduce of rule P is due
 pub record Reduces (b : Book) (c : Config) (P state kind : ℕ) : Type 0 where

@@ -13,18 +13,18 @@ use Rattle.grammar.specs.Evaluator.Tree.{Token, next}
 use Rattle.grammar.specs.Evaluator.Rows.{page}
 use Rattle.grammar.specs.Evaluator.Machine.{Config, refused, stop, step}
 use Rattle.grammar.specs.Engine.{tokensOf, tablesOf}
-use Rattle.automaton.specs.Arrays.{ActionsIn}
+use Rattle.items.specs.Arrays.{ActionsIn}
 use Rattle.machine.specs.declared.action.Move.the-variants.{Shift, Reduce, Accept}
 use Rattle.machine.specs.declared.action.Action.{Action}
 use Rattle.machine.specs.declared.action.Action.the-variants.{Due, None}
-use Rattle.machine.specs.declared.top.Top.{Top}
-use Rattle.machine.specs.Action.{actionAt, meant, action-means}
+use Rattle.stack.specs.declared.top.Top.{Top}
+use Rattle.stack.specs.Action.{actionAt, meant, action-means}
 use Rattle.machine.specs.Moving.{Driven, Here, Accepts}
 use Rattle.machine.specs.MovingLaws.{none-refused, accept-stops}
 use Rattle.machine.specs.ReduceMove.{Reduces, next-declared}
 use Rattle.machine.specs.ShiftMove.{Shifts}
 use Rattle.machine.specs.Shifting.{state-low}
-use Rattle.machine.specs.Standing.{BookIn, LeftIn, Message, ConfigIn, stands, stateOf, kindOf, firstValue, valueOf, rowsOf, actionOf}
+use Rattle.stack.specs.Standing.{BookIn, LeftIn, Message, ConfigIn, stands, stateOf, kindOf, firstValue, valueOf, rowsOf, actionOf}
 
 -- a book that is taken and a list of tokens, in the arrays that a run reads
 pub record RunIn (b : Book) (ks : List Token) (rules : List ℕ) (count : ℕ) (definitions : List ℕ) (lines : ℕ)

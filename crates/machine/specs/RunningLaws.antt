@@ -17,10 +17,10 @@ use Rattle.cells.specs.Frames.{no-frames}
 use Rattle.machine.specs.declared.moves.Moved.{Moved}
 use Rattle.machine.specs.declared.moves.Moved.the-variants.{On, Accepted, Refused}
 use Rattle.machine.specs.declared.run.Outcome.{Outcome}
-use Rattle.machine.specs.declared.top.Top.{Top}
+use Rattle.stack.specs.declared.top.Top.{Top}
 use Rattle.machine.specs.Moving.{Rooms, Here, MovedOn, Accepts, Told, told-on, told-accepted, told-refused}
-use Rattle.machine.specs.Path.{bottom}
-use Rattle.machine.specs.Standing.{Message, ConfigIn, stands, rowsOf}
+use Rattle.stack.specs.Path.{bottom}
+use Rattle.stack.specs.Standing.{Message, ConfigIn, stands, rowsOf}
 
 -- what a run answers: the refusal and no row, or 0, the rows' count and the rows
 abbrev pub Answered : Answer → Outcome → List ℕ → Type 0

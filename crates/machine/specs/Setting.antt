@@ -30,9 +30,9 @@ use Rattle.cells.specs.Leaves.{Room}
 use Rattle.cells.specs.Cells.{cleared, linesSet, LineAsked, PlanAsked}
 use Rattle.cells.specs.CellFrames.{CellSet, cell-set}
 use Rattle.cells.specs.TakenCells.{line-asked, cell-taken}
-use Rattle.machine.specs.declared.top.Top.{Top}
-use Rattle.machine.specs.Path.{Path, deep}
-use Rattle.machine.specs.Standing.{BookIn, ConfigIn, stands, CellIn, framesOf, stateOf, kindOf}
+use Rattle.stack.specs.declared.top.Top.{Top}
+use Rattle.stack.specs.Path.{Path, deep}
+use Rattle.stack.specs.Standing.{BookIn, ConfigIn, stands, CellIn, framesOf, stateOf, kindOf}
 
 -- the frames of a path, on the stacks of some states and starts, over which the top cell is to be set
 pub record TopAsked (b : Book) (definitions inherited synthesized : List ℕ) (state height : ℕ) (states starts : List ℕ) (st : List Frame) : Type 0 where

@@ -21,17 +21,17 @@ use Rattle.grammar.specs.Evaluator.Moves.{shifted, shift-moves}
 use Rattle.grammar.specs.Evaluator.TakenPremises.{premises}
 use Rattle.grammar.specs.Engine.{tablesFrom, tablesOf}
 use Rattle.book.specs.Layout.{symbolCode}
-use Rattle.automaton.specs.Arrays.{targetCode, GoTableIn}
-use Rattle.automaton.specs.SymbolCodes.{terminal-code}
+use Rattle.items.specs.Arrays.{targetCode, GoTableIn}
+use Rattle.items.specs.SymbolCodes.{terminal-code}
 use Rattle.cells.specs.Frames.{cellValue, FramesIn, a-frame}
 use Rattle.cells.specs.FramesLaws.{Agree, agree-same, agree-set, frames-kept}
-use Rattle.machine.specs.declared.top.Top.{Top}
-use Rattle.machine.specs.Goes.{shift-goes, target-of}
-use Rattle.machine.specs.Page.{tokenStored, token-stored}
-use Rattle.machine.specs.Path.{Path, above, path-state}
-use Rattle.machine.specs.Pushes.{Stacks, TokenPushed}
-use Rattle.machine.specs.Records.{Stored, token-in}
-use Rattle.machine.specs.Standing.{BookIn, Standing, ConfigIn, stands, CellIn, stateOf, kindOf, valueOf, actionOf, GoesOn}
+use Rattle.stack.specs.declared.top.Top.{Top}
+use Rattle.stack.specs.Goes.{shift-goes, target-of}
+use Rattle.stack.specs.Page.{tokenStored, token-stored}
+use Rattle.stack.specs.Path.{Path, above, path-state}
+use Rattle.stack.specs.Pushes.{Stacks, TokenPushed}
+use Rattle.stack.specs.Records.{Stored, token-in}
+use Rattle.stack.specs.Standing.{BookIn, Standing, ConfigIn, stands, CellIn, stateOf, kindOf, valueOf, actionOf, GoesOn}
 
 module _ {b : Book} {ks : List Token} {states inherited synthesized starts rows : List ℕ} {top : Top} {st : List Frame} {S p : ℕ} {k : Token}
     {z : List Token} {rs : List Row} (C : Standing b ks states inherited synthesized starts rows top st S (k ∷ z) p rs) where

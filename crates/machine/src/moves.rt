@@ -6,9 +6,9 @@ ghost use Rattle.grammar.specs.Evaluator.Tree.{Token};
 ghost use Rattle.grammar.specs.Evaluator.Machine.{Config};
 ghost use Rattle.machine.specs.Moving.{Rooms, Driven, Here, Told};
 ghost use Rattle.machine.specs.ShiftMove.{Shifts};
-use super::pushes::push_token;
 use super::setting::set_top;
-use super::top::Top;
+use stack::pushes::push_token;
+use stack::top::Top;
 
 // "Each move hands back the machine's new top", or the run stops.
 pub enum Moved {

@@ -5,12 +5,12 @@ ghost use Rattle.grammar.specs.Evaluator.Tree.{Token};
 ghost use Rattle.grammar.specs.Evaluator.Machine.{Config};
 ghost use Rattle.machine.specs.Moving.{Rooms, Driven, Here, Told};
 ghost use Rattle.machine.specs.ReduceMove.{Reduces};
-ghost use Rattle.machine.specs.Standing.{LeftIn};
-use super::left::put_left;
+ghost use Rattle.stack.specs.Standing.{LeftIn};
 use super::moves::Moved;
 use super::setting::set_top;
-use super::top::Top;
-use automaton::words::word;
+use items::words::word;
+use stack::left::put_left;
+use stack::top::Top;
 
 // The left side of a rule in the place of its right side. Of an empty rule it is one symbol more.
 pub fn reduce(

@@ -11,7 +11,7 @@ use Rattle.grammar.specs.Data.Symbol.{Rule}
 use Rattle.grammar.specs.Data.Book.{Kernel}
 use Rattle.grammar.specs.Automaton.FirstSets.{Sets}
 use Rattle.grammar.specs.Automaton.CoreItems.{Core, ofKernels}
-use Rattle.automaton.specs.Arrays.{SuffixesIn, ReachesIn}
+use Rattle.items.specs.Arrays.{SuffixesIn, ReachesIn}
 use Rattle.attributes.specs.Marks.{MarksIn}
 use Rattle.attributes.specs.MarkLines.{ItemLinesIn, lines-start, lines-turn}
 use Rattle.attributes.proofs.masks.mark_lines.Statement.{statement}

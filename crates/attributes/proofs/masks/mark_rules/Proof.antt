@@ -9,7 +9,7 @@ use borrow.Author.Needs.{needs}
 use Rattle.grammar.specs.Data.Symbol.{Rule}
 use Rattle.grammar.specs.Automaton.FirstSets.{Sets}
 use Rattle.grammar.specs.Automaton.CoreItems.{ofRules}
-use Rattle.automaton.specs.Arrays.{SuffixesIn, ReachesIn}
+use Rattle.items.specs.Arrays.{SuffixesIn, ReachesIn}
 use Rattle.attributes.specs.Marks.{MarksIn}
 use Rattle.attributes.specs.MarkRules.{LooksIn, rules-start, rules-nothing}
 use Rattle.attributes.proofs.masks.mark_rules.Statement.{statement}

@@ -2,7 +2,7 @@
 use Prim.Native.Nat.{_+_, _*_, _<_}
 use native.Mathlib.Omega.{arith}
 use lib.ListN.{getD}
-use Rattle.automaton.specs.GrammarIn.{RuleLow, rule-low}
+use Rattle.items.specs.GrammarIn.{RuleLow, rule-low}
 use Rattle.automaton.specs.ActionItems.{item-complete, item-nonterminal, item-terminal}
 use borrow.Author.Needs.{needs}
 use Rattle.automaton.proofs.actions.give_item.Statement.{statement}

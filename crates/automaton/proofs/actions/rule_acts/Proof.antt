@@ -1,6 +1,6 @@
 -- `actions::rule_acts` meets its contract: a closure has no item of the rule, or its actions are given. Assumes nothing.
 use native.Mathlib.Omega.{arith}
-use Rattle.automaton.specs.GrammarIn.{RuleLow, rule-low, set-place}
+use Rattle.items.specs.GrammarIn.{RuleLow, rule-low, set-place}
 use Rattle.automaton.specs.ActionItems.{rule-idle, rule-busy}
 use borrow.Author.Needs.{needs}
 use Rattle.automaton.proofs.actions.rule_acts.Statement.{statement}

@@ -2,7 +2,7 @@
 use Prim.Native.Nat.{_+_, _*_, _<_}
 use native.Mathlib.Omega.{arith}
 use lib.ListN.{length, getD}
-use Rattle.automaton.specs.GrammarIn.{RuleLow, rule-low}
+use Rattle.items.specs.GrammarIn.{RuleLow, rule-low}
 use Rattle.automaton.specs.Advances.{advances-complete, advances-nowhere, advances-found, target-range, target-low}
 use Rattle.automaton.proofs.go_rules.advances.Statement.{statement}
 use Rattle.automaton.proofs.go_rules.advances.Tie as tie

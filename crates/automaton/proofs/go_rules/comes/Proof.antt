@@ -1,7 +1,7 @@
 -- `go_rules::comes` meets its contract: the dot has moved over the symbol, and the item with the dot one back is there. Assumes nothing.
 use Prim.Native.Nat.{_≤_}
 use native.Mathlib.Omega.{arith}
-use Rattle.automaton.specs.GrammarIn.{RuleLow, rule-low}
+use Rattle.items.specs.GrammarIn.{RuleLow, rule-low}
 use Rattle.automaton.specs.StatesIn.{stands-back}
 use Rattle.automaton.specs.Comes.{comes-front, comes-other, comes-item}
 use borrow.Author.Needs.{needs}

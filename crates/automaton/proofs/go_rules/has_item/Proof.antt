@@ -6,7 +6,7 @@ use Rattle.grammar.specs.Data.Book.{Book}
 use Rattle.grammar.specs.Automaton.FirstSets.{Sets}
 use Rattle.grammar.specs.Automaton.ClosureSets.{kernelsIn}
 use Rattle.grammar.specs.Automaton.StatesCheck.{holdsItem}
-use Rattle.automaton.specs.GrammarIn.{RuleLow, rule-low}
+use Rattle.items.specs.GrammarIn.{RuleLow, rule-low}
 use Rattle.automaton.specs.StatesIn.{ItemsIn, Stands, state-starts, state-range}
 use Rattle.automaton.specs.Comes.{searched, has-kernel, has-none, has-rule}
 use borrow.Author.Needs.{needs}

@@ -1,6 +1,6 @@
 -- `go_rules::rule_advances` meets its contract: a closure has no item of the rule, or the item advances. Assumes nothing.
 use native.Mathlib.Omega.{arith}
-use Rattle.automaton.specs.GrammarIn.{RuleLow, rule-low, set-place}
+use Rattle.items.specs.GrammarIn.{RuleLow, rule-low, set-place}
 use Rattle.automaton.specs.StatesIn.{moves, items}
 use Rattle.automaton.specs.Advances.{rule-idle, rule-busy}
 use Rattle.automaton.proofs.go_rules.rule_advances.Statement.{statement}

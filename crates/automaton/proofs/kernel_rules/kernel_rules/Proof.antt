@@ -3,7 +3,7 @@
 use mathlib.Core.Path.{sym, _∙_}
 use borrow.Author.Tests.{not-true, not-false}
 use Rattle.grammar.specs.Automaton.StatesCheck.{startState}
-use Rattle.automaton.specs.KernelLines.{state-words}
+use Rattle.items.specs.KernelLines.{state-words}
 use Rattle.automaton.specs.KernelRules.{state-told, rules-start, rules-others, rules-all}
 use borrow.Author.Needs.{needs}
 use Rattle.automaton.proofs.kernel_rules.kernel_rules.Statement.{statement}

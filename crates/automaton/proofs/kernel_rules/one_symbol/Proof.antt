@@ -4,7 +4,7 @@ use Prim.Native.Nat.{_-_}
 use mathlib.Core.Path.{refl, sym, _∙_}
 use native.Mathlib.Omega.{arith}
 use borrow.Author.Tests.{eq-eqb, ne-eqb}
-use Rattle.automaton.specs.KernelLines.{lines}
+use Rattle.items.specs.KernelLines.{lines}
 use Rattle.automaton.specs.KernelWords.{hasBefore, has-before}
 use Rattle.automaton.specs.KernelRules.{one-symbol, all-none, all-more, all-fails, OneSymbol}
 use borrow.Author.Needs.{needs}

@@ -3,7 +3,7 @@
 use native.Mathlib.Omega.{arith}
 use borrow.Author.Tests.{not-true, not-false}
 use Rattle.grammar.specs.Automaton.StatesCheck.{otherState}
-use Rattle.automaton.specs.KernelLines.{state-words}
+use Rattle.items.specs.KernelLines.{state-words}
 use Rattle.automaton.specs.KernelRules.{state-told, Testing, test-first, test-more, test-fails, test-all}
 use borrow.Author.Needs.{needs}
 use Rattle.automaton.proofs.kernel_rules.other_states.Statement.{statement}

@@ -7,7 +7,7 @@ use borrow.Author.Needs.{needs}
 use Rattle.grammar.specs.Data.Term as term
 use Rattle.grammar.specs.Data.Book.{Expr}
 use Rattle.book.specs.Held.{nodeAt}
-use Rattle.attributes.specs.Steps.{stepOf}
+use Rattle.formulas.specs.Steps.{stepOf}
 use Rattle.cells.specs.Values.{placeIn, Asked}
 use Rattle.cells.specs.ValuesLaws.{Running, running-start, running-end, running-ready, running-takes, running-turn}
 use Rattle.cells.proofs.values.value.Statement.{statement}

@@ -11,7 +11,7 @@ use Rattle.plans.specs.Plans.{PlansIn}
 use Rattle.machine.specs.Running.{RunIn}
 use Rattle.machine.specs.RunningLaws.{Underway, RoomsLeft, underway-start, rows-low, underway-more, underway-less, underway-refused}
 use Rattle.machine.specs.RunningLaws.{underway-accepted, on-told, accepted-told, refused-told, rooms-kept}
-use Rattle.machine.specs.Standing.{Message}
+use Rattle.stack.specs.Standing.{Message}
 use Rattle.machine.proofs.run.run.Statement.{statement}
 use Rattle.machine.proofs.run.run.Tie as tie
 

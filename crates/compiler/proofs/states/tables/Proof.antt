@@ -1,0 +1,183 @@
+-- `states::tables` meets its contract: each step prepares what the next one asks, and the first that fails is told. Assumes nothing.
+use borrow.Author.Needs.{needs}
+use borrow.Author.Tests.{not-true, not-false}
+use Rattle.grammar.specs.Automaton.FirstSets.{setsOf}
+use Rattle.compiler.specs.States.{held-closures, tabled-kernels, tabled-goes, tabled-acts, tabled-all}
+use Rattle.compiler.proofs.states.tables.Statement.{statement}
+use Rattle.compiler.proofs.states.tables.Tie as tie
+
+-- from each call back to the one before
+
+abbrev start : tie.After-kernel-states → tie.Start
+start c = c .before .before .before .before .before .before .before .before .before .before .before .before
+
+abbrev kernels-at : tie.After-fill-items → tie.After-kernel-states
+kernels-at c = c .before .before .before .before .before .before .before .before .before
+
+abbrev items-at : tie.After-moves → tie.After-fill-items
+items-at c = c .before .before .before .before .before .before .before .before .before .before .before .before
+
+abbrev moves-at : tie.After-actions → tie.After-moves
+moves-at c = c .before .before .before .before .before .before .before
+
+kernel-states-requires : tie.Need-kernel-states-requires
+kernel-states-requires c κs = search needs
+
+same-length : tie.Need-same-length
+same-length c = search needs
+
+returns : tie.Need-returns
+returns c = λ b H.
+    tabled-kernels (c .before .before .before .kernel-states .ensures b (H .kernels-held) (H .kernels-counted) .0) (not-true _ (c .if1 .taken))
+
+fill-items-requires : tie.Need-fill-items-requires
+fill-items-requires c κs =
+    let s = c .before .before .before .before .before .before .before .before in
+    let (b, H) = start s .pre .0 in
+    let room = start s .pre .1 in
+    let (k, T) = s .kernel-states .ensures b (H .kernels-held) (H .kernels-counted) in
+    ((b, H .kernels-held, H .rules-counted, T), (room .vanishes-long, room .begins-long, room .reached-long, room .closures-none))
+
+moves-requires : tie.Need-moves-requires
+moves-requires c κs =
+    let i = c .before .before .before .before .before .before .before .before .before .before .before in
+    let (b, H) = start (kernels-at i) .pre .0 in
+    let (k, T) = kernels-at i .kernel-states .ensures b (H .kernels-held) (H .kernels-counted) in
+    let I = i .fill-items .ensures b (H .kernels-held) (H .rules-counted) T in
+    ((b, H .kernels-held, H .rules-counted, H .goes-in, H .goes-counted, T, I .closures-in), start (kernels-at i) .pre .1 .table-long)
+
+same-length-2 : tie.Need-same-length-2
+same-length-2 c = search needs
+
+same-length-3 : tie.Need-same-length-3
+same-length-3 c = search needs
+
+same-length-4 : tie.Need-same-length-4
+same-length-4 c = search needs
+
+same-length-5 : tie.Need-same-length-5
+same-length-5 c = search needs
+
+same-length-6 : tie.Need-same-length-6
+same-length-6 c = search needs
+
+same-length-7 : tie.Need-same-length-7
+same-length-7 c = search needs
+
+returns-2 : tie.Need-returns-2
+returns-2 c = λ b H.
+    let m = c .before .before .before in
+    let i = items-at m in
+    let (k, T) = kernels-at i .kernel-states .ensures b (H .kernels-held) (H .kernels-counted) in
+    let I = i .fill-items .ensures b (H .kernels-held) (H .rules-counted) T in
+    let (g, G) = m .moves .ensures b (H .kernels-held) (H .rules-counted) (H .goes-in) (H .goes-counted) T (I .closures-in) in
+    tabled-goes k (not-false _ (i .before .before .before .before .before .before .if1 .left)) g (not-true _ (c .if2 .taken))
+
+actions-requires : tie.Need-actions-requires
+actions-requires c κs =
+    let i = items-at (c .before .before .before .before .before .before) in
+    let (b, H) = start (kernels-at i) .pre .0 in
+    let (k, T) = kernels-at i .kernel-states .ensures b (H .kernels-held) (H .kernels-counted) in
+    let I = i .fill-items .ensures b (H .kernels-held) (H .rules-counted) T in
+    let K = held-closures (H .kernels-held) T (I .closures-in) in
+    (start (kernels-at i) .pre .1 .actions-long, (b, setsOf (b .rules), K, H .terminals-are, H .kernels-held .states-are, H .rules-counted))
+
+same-length-8 : tie.Need-same-length-8
+same-length-8 c = search needs
+
+same-length-9 : tie.Need-same-length-9
+same-length-9 c = search needs
+
+same-length-10 : tie.Need-same-length-10
+same-length-10 c = search needs
+
+same-length-11 : tie.Need-same-length-11
+same-length-11 c = kernels-at (items-at (moves-at (c .before .before .before))) .kernel-states .kept .1 .1 .1 .1 .0
+
+same-length-12 : tie.Need-same-length-12
+same-length-12 c = search needs
+
+same-length-13 : tie.Need-same-length-13
+same-length-13 c = search needs
+
+same-length-14 : tie.Need-same-length-14
+same-length-14 c = search needs
+
+returns-3 : tie.Need-returns-3
+returns-3 c = λ b H.
+    let m = moves-at (c .before .before .before) in
+    let i = items-at m in
+    let (k, T) = kernels-at i .kernel-states .ensures b (H .kernels-held) (H .kernels-counted) in
+    let I = i .fill-items .ensures b (H .kernels-held) (H .rules-counted) T in
+    let (g, G) = m .moves .ensures b (H .kernels-held) (H .rules-counted) (H .goes-in) (H .goes-counted) T (I .closures-in) in
+    let K = held-closures (H .kernels-held) T (I .closures-in) in
+    let A = c .before .before .before .actions .ensures b (setsOf (b .rules)) K (H .terminals-are) (H .kernels-held .states-are) (H .rules-counted) in
+    tabled-acts k (not-false _ (i .before .before .before .before .before .before .if1 .left)) g (not-false _ (c .before .before .before .before .before .before .before .if2 .left)) A
+    (not-true _ (c .if3 .taken))
+
+same-length-15 : tie.Need-same-length-15
+same-length-15 c = search needs
+
+same-length-16 : tie.Need-same-length-16
+same-length-16 c = search needs
+
+same-length-17 : tie.Need-same-length-17
+same-length-17 c = search needs
+
+same-length-18 : tie.Need-same-length-18
+same-length-18 c = kernels-at (items-at (moves-at (c .before .before .before))) .kernel-states .kept .1 .1 .1 .1 .0
+
+same-length-19 : tie.Need-same-length-19
+same-length-19 c = search needs
+
+same-length-20 : tie.Need-same-length-20
+same-length-20 c = search needs
+
+same-length-21 : tie.Need-same-length-21
+same-length-21 c = search needs
+
+returns-4 : tie.Need-returns-4
+returns-4 c = λ b H.
+    let m = moves-at (c .before .before .before) in
+    let i = items-at m in
+    let (k, T) = kernels-at i .kernel-states .ensures b (H .kernels-held) (H .kernels-counted) in
+    let I = i .fill-items .ensures b (H .kernels-held) (H .rules-counted) T in
+    let (g, G) = m .moves .ensures b (H .kernels-held) (H .rules-counted) (H .goes-in) (H .goes-counted) T (I .closures-in) in
+    let K = held-closures (H .kernels-held) T (I .closures-in) in
+    let A = c .before .before .before .actions .ensures b (setsOf (b .rules)) K (H .terminals-are) (H .kernels-held .states-are) (H .rules-counted) in
+    tabled-all k (not-false _ (i .before .before .before .before .before .before .if1 .left)) g (not-false _ (c .before .before .before .before .before .before .before .if2 .left)) A
+    (not-false _ (c .if3 .left)) I T G
+
+pub tables-spec : {M : Type 1} → statement M
+tables-spec =
+    tie.close
+    (tie.spec
+    kernel-states-requires
+    same-length
+    returns
+    fill-items-requires
+    moves-requires
+    same-length-2
+    same-length-3
+    same-length-4
+    same-length-5
+    same-length-6
+    same-length-7
+    returns-2
+    actions-requires
+    same-length-8
+    same-length-9
+    same-length-10
+    same-length-11
+    same-length-12
+    same-length-13
+    same-length-14
+    returns-3
+    same-length-15
+    same-length-16
+    same-length-17
+    same-length-18
+    same-length-19
+    same-length-20
+    same-length-21
+    returns-4)

@@ -1,0 +1,5 @@
+pub mod Compiling
+pub mod Conditions
+pub mod Prepared
+pub mod States
+pub mod StatesRefusal

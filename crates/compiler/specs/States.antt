@@ -1,0 +1,176 @@
+-- A book that is spelled right (2), within the limits (3) and declared (4), in the arrays from which its states are worked out; the arrays that are
+-- filled; and the first of 7, 8 and 9 that applies. Assumes nothing.
+use Prim.Native.Nat.{ℕ, _*_}
+use mathlib.Core.Path.{_≡_, sym, _∙_}
+use mathlib.Core.Bool.{Bool, true, false}
+use mathlib.Core.List.{List}
+use native.Mathlib.Omega.{arith}
+use lib.ListN.{length, replicate}
+use Rattle.grammar.specs.Limits.{MAX-RULES}
+use Rattle.grammar.specs.Data.Book.{Book}
+use Rattle.grammar.specs.Format.Ordered.{Ordered}
+use Rattle.grammar.specs.Conditions.Meaning.{WithinLimits, Declared}
+use Rattle.grammar.specs.BookFacts.{small-book}
+use Rattle.grammar.specs.Automaton.FirstSets.{setsOf}
+use Rattle.grammar.specs.Automaton.StatesCheck.{kernelRules, goRules}
+use Rattle.grammar.specs.Automaton.Compiled.{itemsTable, itemsAt, cellsTable, noConflict}
+use Rattle.book.specs.Held.{RulesIn, KernelsIn, GoesIn}
+use Rattle.items.specs.Arrays.{SuffixesIn, StartsIn, ClosuresIn, GoTableIn, ActionsIn}
+use Rattle.items.specs.Starts.{LinesIn}
+use Rattle.items.specs.Closures.{StateItemsIn}
+use Rattle.automaton.specs.KernelRules.{RuledIn}
+use Rattle.items.specs.GrammarOf.{GrammarHeld, book-grammar}
+use Rattle.items.specs.RestSets.{RestSetsIn}
+use Rattle.automaton.specs.GoTable.{GoLinesIn}
+use Rattle.automaton.specs.StatesIn.{StatesIn, ItemsIn, AutomatonIn}
+use Rattle.automaton.specs.ActionTable.{Acted}
+use Rattle.automaton.specs.BookHeld.{lines-in, state-items-in, ruled-in}
+
+-- the rules and the kernel lines
+pub record KernelsHeld (b : Book) (rules kernels : List ℕ) (states : ℕ) : Type 0 where
+  pub ordered : Ordered b
+  pub limits : WithinLimits b
+  pub declared : Declared b
+  pub rules-in : RulesIn (b .rules) rules
+  pub kernels-in : KernelsIn (b .kernels) kernels
+  pub states-are : states ≡ b .states
+
+-- with the go lines, and the number of the lines of each kind
+pub record BookHeld (b : Book) (rules : List ℕ) (count : ℕ) (kernels : List ℕ) (items : ℕ) (goes : List ℕ) (lines terminals states : ℕ) : Type 0 where
+  pub kernels-held : KernelsHeld b rules kernels states
+  pub goes-in : GoesIn (b .goes) goes
+  pub rules-counted : count ≡ length (b .rules)
+  pub kernels-counted : items ≡ length (b .kernels)
+  pub goes-counted : lines ≡ length (b .goes)
+  pub terminals-are : terminals ≡ b .terminals
+
+-- the go rules (8), no conflict (9)
+
+abbrev pub goesRight : Book → Bool
+goesRight b = goRules b (itemsAt b (itemsTable b (setsOf (b .rules))))
+
+abbrev pub actsRight : Book → Bool
+actsRight b = noConflict b (cellsTable b (itemsTable b (setsOf (b .rules))))
+
+-- the first of 7, 8 and 9 that applies, or 0
+unfoldable pub tablesRefusal : Book → ℕ
+tablesRefusal b =
+    elim (kernelRules b) [
+      | false ↦ 7
+      | true ↦ elim (goesRight b) [ false ↦ 8 | true ↦ elim (actsRight b) [ false ↦ 9 | true ↦ 0 ] ]
+    ]
+
+-- the sets of the rules' rests, and the closures
+pub record ItemsFilled (b : Book) (vanishes begins reached closures : List ℕ) : Type 0 where
+  pub rests-in : RestSetsIn (b .rules) vanishes begins reached
+  pub closures-in : ClosuresIn b (setsOf (b .rules)) closures
+
+-- with where the kernel lines of each state begin, the go table and the actions
+pub record TablesIn (b : Book) (vanishes begins reached starts closures table actions : List ℕ) : Type 0 where
+  pub items-filled : ItemsFilled b vanishes begins reached closures
+  pub starts-in : StartsIn (b .kernels) (b .states) starts
+  pub table-in : GoTableIn b table
+  pub actions-in : ActionsIn b (setsOf (b .rules)) actions
+
+-- the arrays as they are lent
+pub record TablesRoom (vanishes begins reached starts closures table actions : List ℕ) : Type 0 where
+  pub vanishes-long : length vanishes ≡ 9 * MAX-RULES
+  pub begins-long : length begins ≡ 9 * MAX-RULES
+  pub reached-long : length reached ≡ 9 * MAX-RULES
+  pub starts-long : length starts ≡ 129
+  pub closures-none : closures ≡ replicate 4096 0
+  pub table-long : length table ≡ 8192
+  pub actions-long : length actions ≡ 4096
+
+-- the refusal r is told, and the arrays are filled where there is none
+pub record Tabled (b : Book) (r : ℕ) (vanishes begins reached starts closures table actions : List ℕ) : Type 0 where
+  pub told : r ≡ tablesRefusal b
+  pub filled : r ≡ 0 → TablesIn b vanishes begins reached starts closures table actions
+
+-- ---- what the functions over these arrays ask
+
+module _ {b : Book} {rules kernels : List ℕ} {states : ℕ} (h : KernelsHeld b rules kernels states) where
+  pub held-lines : {count : ℕ} → count ≡ length (b .kernels) → LinesIn (b .kernels) count states kernels
+  held-lines e = rw (e, h .states-are) (lines-in (h .ordered) (h .limits) (h .declared) (h .kernels-in))
+
+  pub held-grammar : {count : ℕ} → count ≡ length (b .rules) → GrammarHeld (b .rules) rules count
+  held-grammar e = book-grammar (h .limits) (small-book (h .ordered) (h .limits) (h .declared)) (h .rules-in) e
+
+  pub held-moves : {goes : List ℕ} {lines : ℕ} → GoesIn (b .goes) goes → lines ≡ length (b .goes) → GoLinesIn b goes lines states
+  held-moves g e = record { limits = h .limits; declared = h .declared; lines-in = g; count-is = e; states-is = h .states-are }
+
+  module _ {starts : List ℕ} where
+    pub held-starts : StartsIn (b .kernels) states starts → StartsIn (b .kernels) (b .states) starts
+    held-starts T = rw (h .states-are) at T
+
+    module _ (T : StartsIn (b .kernels) (b .states) starts) where
+      pub held-rules : RuledIn b rules kernels starts states
+      held-rules = rw (h .states-are) (ruled-in (h .ordered) (h .limits) (h .declared) (h .rules-in) (h .kernels-in) T)
+
+      pub held-items : {count : ℕ} {vanishes begins : List ℕ} → count ≡ length (b .rules) → SuffixesIn (b .rules) (setsOf (b .rules)) vanishes begins
+          → StateItemsIn b (setsOf (b .rules)) rules count kernels starts states vanishes begins
+      held-items e S = rw (e, h .states-are) (state-items-in (h .ordered) (h .limits) (h .declared) (h .rules-in) S (h .kernels-in) T)
+
+      pub held-states : StatesIn b rules kernels starts
+      held-states = record {
+        grammar-in = record { limits = h .limits; declared = h .declared; rules-in = h .rules-in };
+        kernels-in = h .kernels-in;
+        starts-in = T;
+      }
+
+      module _ {closures : List ℕ} (C : ClosuresIn b (setsOf (b .rules)) closures) where
+        pub held-closures : ItemsIn b (setsOf (b .rules)) rules kernels starts closures
+        held-closures = record { states-in = held-states; closures-in = C }
+
+        pub held-automaton : {table : List ℕ} → GoTableIn b table → AutomatonIn b (setsOf (b .rules)) rules kernels starts closures table
+        held-automaton G = record { states-in = held-states; closures-in = C; table-in = G }
+
+-- ---- the refusal, by what was asked first
+
+module _ (b : Book) where
+  pub kernels-refused : kernelRules b ≡ false → tablesRefusal b ≡ 7
+  unfolding tablesRefusal
+  kernels-refused e = rw (e, tablesRefusal)
+
+  module _ (k : kernelRules b ≡ true) where
+    pub goes-refused : goesRight b ≡ false → tablesRefusal b ≡ 8
+    unfolding tablesRefusal
+    goes-refused e = rw (k, e, tablesRefusal)
+
+    module _ (g : goesRight b ≡ true) where
+      pub acts-refused : actsRight b ≡ false → tablesRefusal b ≡ 9
+      unfolding tablesRefusal
+      acts-refused e = rw (k, g, e, tablesRefusal)
+
+      pub none-refused : actsRight b ≡ true → tablesRefusal b ≡ 0
+      unfolding tablesRefusal
+      none-refused e = rw (k, g, e, tablesRefusal)
+
+-- ---- the answer, by what the steps told
+
+module _ {b : Book} {vanishes begins reached starts closures table actions : List ℕ} {k : Bool} (k-is : k ≡ kernelRules b) where
+  pub tabled-kernels : k ≡ false → Tabled b 7 vanishes begins reached starts closures table actions
+  tabled-kernels f = record { told = sym (kernels-refused b (sym k-is ∙ f)); filled = λ z. absurd (omega arith) }
+
+  module _ (k-right : k ≡ true) {g : Bool} (g-is : g ≡ goesRight b) where
+    pub tabled-goes : g ≡ false → Tabled b 8 vanishes begins reached starts closures table actions
+    tabled-goes f = record { told = sym (goes-refused b (sym k-is ∙ k-right) (sym g-is ∙ f)); filled = λ z. absurd (omega arith) }
+
+    module _ (g-right : g ≡ true) {a : Bool} (acted : Acted b (setsOf (b .rules)) actions a) where
+      pub tabled-acts : a ≡ false → Tabled b 9 vanishes begins reached starts closures table actions
+      tabled-acts f = record {
+        told = sym (acts-refused b (sym k-is ∙ k-right) (sym g-is ∙ g-right) (sym (acted .told) ∙ f));
+        filled = λ z. absurd (omega arith);
+      }
+
+      pub tabled-all : a ≡ true → ItemsFilled b vanishes begins reached closures → StartsIn (b .kernels) (b .states) starts → GoTableIn b table
+          → Tabled b 0 vanishes begins reached starts closures table actions
+      tabled-all t I T G = record {
+        told = sym (none-refused b (sym k-is ∙ k-right) (sym g-is ∙ g-right) (sym (acted .told) ∙ t));
+        filled = λ z. record { items-filled = I; starts-in = T; table-in = G; actions-in = acted .table t };
+      }
+
+-- opens every definition of this module
+unfoldable pub opens : Unit {0}
+unfolding tablesRefusal
+opens = tt

@@ -1,0 +1,286 @@
+// From the text of a book to its arrays and tables, or to the first of conditions 2 to 10 that applies.
+// A contract asks that the arrays hold some book, and says what it says of every book that they hold.
+ghost use mathlib.Core.Path.{_≡_};
+ghost use mathlib.Core.List.{List};
+ghost use Prim.Native.Nat.{ℕ, _≤_};
+ghost use lib.ListN.{length};
+ghost use Rattle.text.specs.Reading.{Lent};
+ghost use Rattle.grammar.specs.Limits.{MAX-INHERITED};
+ghost use Rattle.grammar.specs.Data.Book.{Book as Lines};
+ghost use Rattle.book.specs.Expressions.{MAX-WAITING};
+ghost use Rattle.book.specs.Held.{OwnersIn};
+ghost use Rattle.book.specs.Spelling.{arrays, Roomy};
+ghost use Rattle.conditions.specs.Answers.{Some};
+ghost use Rattle.attributes.specs.OneFormula.{FormulasHeld, formulasRight};
+ghost use Rattle.compiler.specs.States.{TablesRoom};
+ghost use Rattle.compiler.specs.Conditions.{BookKept, conditionsRefusal};
+ghost use Rattle.compiler.specs.Prepared.{Prepared};
+ghost use Rattle.compiler.specs.Compiling.{Checked, Compiles};
+use super::states::tables;
+use attributes::one_formula::one_formula;
+use book::Book;
+use book::reading::spelling;
+use conditions::declared::declared;
+use conditions::defined::defined;
+use conditions::limits::within_limits;
+use conditions::owned::owned;
+
+// The first of 3, 4, 5 and 6 that applies, or 0.
+fn conditions(
+    book: Book,
+    inherited: &[u32],
+    synthesized: &[u32],
+    rules: &[u32],
+    definitions: &[u32],
+    kernels: &[u32],
+    goes: &[u32],
+) -> u32
+    requires { ⌜ Some (BookKept book (now inherited) (now synthesized) (now rules) (now definitions) (now kernels) (now goes)) ⌝ }
+    ensures { λ r. ⌜ ((b : Lines) → BookKept book (now (inherited .entry)) (now (synthesized .entry)) (now (rules .entry)) (now (definitions .entry))
+        (now (kernels .entry)) (now (goes .entry)) b → r ≡ conditionsRefusal b) ⌝ }
+{
+    if !within_limits(book, inherited, synthesized, rules, definitions, kernels) {
+        return 3;
+    }
+    if !declared(
+        book,
+        inherited,
+        synthesized,
+        rules,
+        definitions,
+        kernels,
+        goes,
+    ) {
+        return 4;
+    }
+    if !owned(book, inherited, synthesized, rules, definitions) {
+        return 5;
+    }
+    if !defined(book, inherited, synthesized, rules, definitions) {
+        return 6;
+    }
+    0
+}
+
+// Fills the tables of a book, up to the first of 3 to 9 that applies; that, or 0.
+fn prepare(
+    book: Book,
+    inherited: &[u32],
+    synthesized: &[u32],
+    rules: &[u32],
+    definitions: &[u32],
+    kernels: &[u32],
+    goes: &[u32],
+    vanishes: &mut [u32],
+    begins: &mut [u32],
+    reached: &mut [u32],
+    starts: &mut [u32],
+    lookaheads: &mut [u32],
+    table: &mut [u8],
+    cells: &mut [u8],
+) -> u32
+    requires { ⌜ Some (BookKept book (now inherited) (now synthesized) (now rules) (now definitions) (now kernels) (now goes)) ⌝ }
+    requires { ⌜ TablesRoom (now vanishes) (now begins) (now reached) (now starts) (now lookaheads) (now table) (now cells) ⌝ }
+    ensures { λ r. ⌜ ((b : Lines) → BookKept book (now (inherited .entry)) (now (synthesized .entry)) (now (rules .entry)) (now (definitions .entry))
+        (now (kernels .entry)) (now (goes .entry)) b
+        → Prepared r book (now (inherited .entry)) (now (synthesized .entry)) (now (rules .entry)) (now (definitions .entry)) (now (kernels .entry))
+        (now (goes .entry)) (now (vanishes .exit)) (now (begins .exit)) (now (reached .exit)) (now (starts .exit)) (now (lookaheads .exit))
+        (now (table .exit)) (now (cells .exit)) b) ⌝ }
+{
+    let first = conditions(
+        book,
+        inherited,
+        synthesized,
+        rules,
+        definitions,
+        kernels,
+        goes,
+    );
+    if first != 0 {
+        return first;
+    }
+    tables(
+        rules,
+        book.rules,
+        kernels,
+        book.kernels,
+        goes,
+        book.goes,
+        book.terminals,
+        book.states,
+        vanishes,
+        begins,
+        reached,
+        starts,
+        lookaheads,
+        table,
+        cells,
+    )
+}
+
+// Whether each attribute has one formula in every partial state (10).
+fn formulas_right(
+    book: Book,
+    inherited: &[u32],
+    rules: &[u32],
+    definitions: &[u32],
+    kernels: &[u32],
+    starts: &[u32],
+    lookaheads: &[u32],
+    vanishes: &[u32],
+    reached: &[u32],
+) -> bool
+    requires { ⌜ ((b : Lines) × (begins : List ℕ) × FormulasHeld b (now rules) (book .rules) (now definitions) (book .«inherited_definitions») (now kernels)
+        (now starts) (now lookaheads) (now vanishes) begins (now reached) (book .terminals) (book .states)
+        × OwnersIn MAX-INHERITED (b .inheritedOwners) (now inherited) × (book .inherited ≡ length (b .inheritedOwners))) ⌝ }
+    ensures { λ r. ⌜ ((b : Lines) (begins : List ℕ) → FormulasHeld b (now (rules .entry)) (book .rules) (now (definitions .entry))
+        (book .«inherited_definitions») (now (kernels .entry)) (now (starts .entry)) (now (lookaheads .entry)) (now (vanishes .entry)) begins
+        (now (reached .entry)) (book .terminals) (book .states)
+        → OwnersIn MAX-INHERITED (b .inheritedOwners) (now (inherited .entry)) → book .inherited ≡ length (b .inheritedOwners) → r ≡ formulasRight b) ⌝ }
+{
+    let mut nodes = [0u32; 7680];
+    let mut nexts = [0u32; 1920];
+    one_formula(
+        inherited,
+        book.inherited,
+        rules,
+        book.rules,
+        definitions,
+        book.inherited_definitions,
+        kernels,
+        starts,
+        lookaheads,
+        vanishes,
+        reached,
+        book.terminals,
+        book.states,
+        &mut nodes,
+        &mut nexts,
+    )
+}
+
+// Fills the tables of a book, up to the first of 3 to 10 that applies; that, or 0.
+fn check(
+    book: Book,
+    inherited: &[u32],
+    synthesized: &[u32],
+    rules: &[u32],
+    definitions: &[u32],
+    kernels: &[u32],
+    goes: &[u32],
+    vanishes: &mut [u32],
+    begins: &mut [u32],
+    reached: &mut [u32],
+    starts: &mut [u32],
+    lookaheads: &mut [u32],
+    table: &mut [u8],
+    cells: &mut [u8],
+) -> u32
+    requires { ⌜ Some (BookKept book (now inherited) (now synthesized) (now rules) (now definitions) (now kernels) (now goes)) ⌝ }
+    requires { ⌜ TablesRoom (now vanishes) (now begins) (now reached) (now starts) (now lookaheads) (now table) (now cells) ⌝ }
+    ensures { λ r. ⌜ ((b : Lines) → BookKept book (now (inherited .entry)) (now (synthesized .entry)) (now (rules .entry)) (now (definitions .entry))
+        (now (kernels .entry)) (now (goes .entry)) b
+        → Checked r book (now (inherited .entry)) (now (synthesized .entry)) (now (rules .entry)) (now (definitions .entry)) (now (kernels .entry))
+        (now (goes .entry)) (now (vanishes .exit)) (now (begins .exit)) (now (reached .exit)) (now (starts .exit)) (now (lookaheads .exit))
+        (now (table .exit)) (now (cells .exit)) b) ⌝ }
+{
+    let first = prepare(
+        book,
+        inherited,
+        synthesized,
+        rules,
+        definitions,
+        kernels,
+        goes,
+        vanishes,
+        begins,
+        reached,
+        starts,
+        lookaheads,
+        table,
+        cells,
+    );
+    if first != 0 {
+        return first;
+    }
+    if formulas_right(
+        book,
+        inherited,
+        rules,
+        definitions,
+        kernels,
+        starts,
+        lookaheads,
+        vanishes,
+        reached,
+    ) {
+        return 0;
+    }
+    10
+}
+
+// The refusal of a text, or 0, and the numbers of its book.
+pub struct Compiled {
+    pub refusal: u32,
+    pub book: Book,
+}
+
+// Reads a text into the arrays of its lines and fills the tables, up to the first of 2 to 10 that applies.
+pub fn compile(
+    t: &[u8; 256],
+    text: &[u8],
+    waits: &mut [u8],
+    inherited: &mut [u32],
+    synthesized: &mut [u32],
+    rules: &mut [u32],
+    definitions: &mut [u32],
+    kernels: &mut [u32],
+    goes: &mut [u32],
+    vanishes: &mut [u32],
+    begins: &mut [u32],
+    reached: &mut [u32],
+    starts: &mut [u32],
+    lookaheads: &mut [u32],
+    table: &mut [u8],
+    cells: &mut [u8],
+) -> Compiled
+    requires { ⌜ Lent (now t) (now text) × (MAX-WAITING ≤ length (now waits))
+        × Roomy (arrays (now inherited) (now synthesized) (now rules) (now definitions) (now kernels) (now goes)) ⌝ }
+    requires { ⌜ TablesRoom (now vanishes) (now begins) (now reached) (now starts) (now lookaheads) (now table) (now cells) ⌝ }
+    ensures { λ r. ⌜ Compiles (now (text .entry)) (r .refusal) (r .book) (now (inherited .exit)) (now (synthesized .exit)) (now (rules .exit))
+        (now (definitions .exit)) (now (kernels .exit)) (now (goes .exit)) (now (vanishes .exit)) (now (begins .exit)) (now (reached .exit))
+        (now (starts .exit)) (now (lookaheads .exit)) (now (table .exit)) (now (cells .exit)) ⌝ }
+{
+    let read = spelling(
+        t,
+        text,
+        waits,
+        inherited,
+        synthesized,
+        rules,
+        definitions,
+        kernels,
+        goes,
+    );
+    let book = read.book;
+    if !read.spelled {
+        return Compiled { refusal: 2, book };
+    }
+    let refusal = check(
+        book,
+        inherited,
+        synthesized,
+        rules,
+        definitions,
+        kernels,
+        goes,
+        vanishes,
+        begins,
+        reached,
+        starts,
+        lookaheads,
+        table,
+        cells,
+    );
+    Compiled { refusal, book }
+}

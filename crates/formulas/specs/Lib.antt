@@ -1,0 +1,9 @@
+pub mod Buckets
+pub mod Formulas
+pub mod FormulasLaws
+pub mod Meaning
+pub mod Nodes
+pub mod PostfixLaws
+pub mod Rows
+pub mod Steps
+pub mod Table

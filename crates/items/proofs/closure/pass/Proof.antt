@@ -1,0 +1,74 @@
+-- `automaton::closure::pass` meets its contract: the rules below the one looked at have been visited.
+-- Assumes nothing.
+use Prim.Native.Nat.{_-_, _<_}
+use mathlib.Core.Logic.{⊎-elim}
+use native.Mathlib.Omega.{arith}
+use lib.ListN.{length}
+use borrow.Author.Needs.{needs}
+use Rattle.grammar.specs.Automaton.LeastLaws.{Family}
+use Rattle.items.specs.Passes.{pass-begins, pass-ends, turn-more, turn-same}
+use Rattle.items.specs.ClosurePasses.{Sweeping, closure-fits}
+use Rattle.items.proofs.closure.pass.Statement.{statement}
+use Rattle.items.proofs.closure.pass.Tie as tie
+
+abbrev Inv-loop : tie.InvT-loop
+Inv-loop rules count nulls firsts looks₀ changed₀ rule₀ looks changed rule =
+    Sweeping rules nulls firsts count looks₀ looks changed rule
+
+abbrev μ-loop : tie.MeasureT-loop
+μ-loop rules count nulls firsts looks₀ changed₀ rule₀ looks changed rule = count - rule
+
+-- the words lent are sets
+family : (c : tie.After-slice-known Inv-loop μ-loop) → Family 32 (c .before .before .before .before .args .looks .now)
+family c = record { long = c .before .before .before .before .pre .1; low = λ i. c .slice-known .given i .fits }
+
+loop-holds : tie.Need-loop-holds Inv-loop μ-loop
+loop-holds c = λ b F H e. pass-begins (closure-fits H e (family c))
+
+visit-requires : tie.Need-visit-requires Inv-loop μ-loop
+visit-requires c κs = let g = c .before .before .before .before .before .before .before .pre .0 in (
+  (g .0, g .1, g .2, omega (arith, g .3, c .before .loop-test .taken)),
+  omega (
+    arith,
+    (c .before .before .loop .inv (g .0) (g .1) (g .2) (g .3)) .family .long,
+    c .before .before .before .before .before .before .before .pre .1,
+  ),
+)
+
+add-rule : tie.Need-add-rule Inv-loop μ-loop
+add-rule c = search needs
+
+loop-less : tie.Need-loop-less Inv-loop μ-loop
+loop-less c = search needs
+
+loop-again : tie.Need-loop-again Inv-loop μ-loop
+loop-again c = let h = c .before .before .before .before .before .loop-test .taken in
+    let told = c .before .before .before .visit .ensures in
+    λ b F H e.
+    let fits = closure-fits H e (family (c .before .before .before .before .before .before .before)) in
+    let inv = c .before .before .before .before .before .before .loop .inv b F H e in
+    let p : c .before .before .before .before .before .before .loop .rule < length (b .rules) = omega arith in
+    ⊎-elim (λ w. rw (w .1) (turn-more fits inv h (told b F H p) (w .0 .taken))) (λ w. rw (w .1) (turn-same fits inv h (told b F H p) (w .0 .left)))
+    (c .if1 .came)
+
+same-length : tie.Need-same-length Inv-loop μ-loop
+same-length c =
+    let g = c .before .before .before .before .before .before .pre .0 in
+    omega (arith, (c .before .loop .inv (g .0) (g .1) (g .2) (g .3)) .family .long)
+
+returns : tie.Need-returns Inv-loop μ-loop
+returns c = λ b F H e. pass-ends (closure-fits H e (family (c .before .before))) (c .before .loop .inv b F H e) (c .loop-test .left)
+
+pub pass-spec : {M : Type 1} → statement M
+pass-spec =
+    tie.close
+    (tie.spec
+    Inv-loop
+    μ-loop
+    loop-holds
+    visit-requires
+    add-rule
+    loop-less
+    loop-again
+    same-length
+    returns)

@@ -1,0 +1,46 @@
+// The closures of all states, 32 words each. The array is lent with zeros; each state fills its part.
+ghost use mathlib.Core.Path.{_≡_};
+ghost use lib.ListN.{replicate};
+ghost use Rattle.grammar.specs.Data.Book.{Book};
+ghost use Rattle.grammar.specs.Automaton.FirstSets.{Sets};
+ghost use Rattle.items.specs.Arrays.{ClosuresIn};
+ghost use Rattle.items.specs.Closures.{StateItemsIn};
+use super::closure::closure;
+use super::words::word;
+
+pub fn closures(
+    rules: &[u32],
+    count: u32,
+    kernels: &[u32],
+    starts: &[u32],
+    states: u32,
+    nulls: &[u32],
+    firsts: &[u32],
+    closures: &mut [u32],
+)
+    requires { ⌜ ((b : Book) × (F : Sets)
+        × StateItemsIn b F (now rules) count (now kernels) (now starts) states (now nulls) (now firsts))
+        × (now closures ≡ replicate 4096 0) ⌝ }
+    ensures { λ _. ⌜ ((b : Book) (F : Sets)
+        → StateItemsIn b F (now (rules .entry)) count (now (kernels .entry)) (now (starts .entry)) states (now (nulls .entry)) (now (firsts .entry))
+        → ClosuresIn b F (now (closures .exit))) ⌝ }
+{
+    let mut s = 0;
+    while s < states as usize {
+        let from = word(starts, s);
+        let to = word(starts, s + 1);
+        let at = 32 * s;
+        let end = at + 32;
+        closure(
+            rules,
+            count as usize,
+            kernels,
+            from,
+            to,
+            nulls,
+            firsts,
+            &mut closures[at..end],
+        );
+        s += 1;
+    }
+}

@@ -1,0 +1,36 @@
+// The sets of every rest of every rule, of a grammar in an array: whether it vanishes, what can begin it, what is reached before it ends.
+ghost use mathlib.Core.Path.{_≡_};
+ghost use mathlib.Core.List.{List};
+ghost use Prim.Native.Nat.{_*_};
+ghost use lib.ListN.{length};
+ghost use Rattle.grammar.specs.Limits.{MAX-RULES};
+ghost use Rattle.grammar.specs.Data.Symbol.{Rule};
+ghost use Rattle.items.specs.GrammarOf.{GrammarHeld};
+ghost use Rattle.items.specs.RestSets.{RestSetsIn};
+use super::first::first_sets;
+use super::nullable::nullable;
+use super::reach::reach_sets;
+use super::reach::reaches;
+use super::suffixes::suffixes;
+
+// Fills three arrays of nine words a rule.
+pub fn rests(
+    rules: &[u32],
+    count: u32,
+    vanishes: &mut [u32],
+    begins: &mut [u32],
+    reached: &mut [u32],
+)
+    requires { ⌜ ((G : List Rule) × GrammarHeld G (now rules) count) ⌝ }
+    requires { ⌜ (length (now vanishes) ≡ 9 * MAX-RULES) × (length (now begins) ≡ 9 * MAX-RULES) × (length (now reached) ≡ 9 * MAX-RULES) ⌝ }
+    ensures { λ _. ⌜ ((G : List Rule) → GrammarHeld G (now (rules .entry)) count
+        → RestSetsIn G (now (vanishes .exit)) (now (begins .exit)) (now (reached .exit))) ⌝ }
+{
+    let nulls = nullable(rules, count);
+    let mut firsts = [0u32; 32];
+    first_sets(rules, count, nulls, &mut firsts);
+    suffixes(rules, count, nulls, &firsts, vanishes, begins);
+    let mut inside = [0u32; 32];
+    reach_sets(rules, count, nulls, vanishes, begins, &mut inside);
+    reaches(rules, count, nulls, vanishes, begins, &inside, reached);
+}

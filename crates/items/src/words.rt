@@ -1,0 +1,41 @@
+// Words read as indices, bytes filled, and words looked at.
+ghost use mathlib.Core.Path.{_≡_};
+ghost use mathlib.Core.Bool.{true};
+ghost use mathlib.Core.List.{_++_};
+ghost use Prim.Native.Nat.{_+_, _<_, _≤_};
+ghost use lib.ListN.{length, getD, drop, replicate};
+ghost use Rattle.items.specs.NoItems.{Nothing};
+
+// Word i as an index.
+pub fn word(words: &[u32], i: usize) -> usize
+    requires { ⌜ i < length (now words) ⌝ }
+    ensures { λ r. ⌜ r ≡ getD (now (words .entry)) i 0 ⌝ }
+{
+    words[i] as usize
+}
+
+// The first `count` bytes become `value`.
+pub fn fill(bytes: &mut [u8], count: usize, value: u8)
+    requires { ⌜ count ≤ length (now bytes) ⌝ }
+    ensures { λ _. ⌜ now (bytes .exit) ≡ replicate count value ++ drop count (now (bytes .entry)) ⌝ }
+{
+    let mut i = 0;
+    while i < count {
+        bytes[i] = value;
+        i += 1;
+    }
+}
+
+// Whether 32 words are 0, from a place on: their bits are gathered, with no way out of the loop.
+pub fn nothing(words: &[u32], first: usize) -> bool
+    requires { ⌜ first + 32 ≤ length (now words) ⌝ }
+    ensures { λ r. ⌜ (r ≡ true → Nothing (now (words .entry)) first 32) ⌝ }
+{
+    let mut bits = 0u32;
+    let mut i = 0;
+    while i < 32 {
+        bits |= words[first + i];
+        i += 1;
+    }
+    bits == 0
+}

@@ -1,0 +1,67 @@
+-- `packing::put_whole` meets its contract: four stores.
+-- Assumes nothing.
+use native.Mathlib.Omega.{arith}
+use lib.ListN.{length-set}
+use Rattle.packing.specs.Words.{bytesOf}
+use Rattle.packing.specs.PlacedLaws.{placed-four}
+use borrow.Author.Needs.{needs}
+use Rattle.packing.proofs.packing.put_whole.Statement.{statement}
+use Rattle.packing.proofs.packing.put_whole.Tie as tie
+
+cast-text : tie.Need-cast-text
+cast-text c = search needs
+
+slice-write-text : tie.Need-slice-write-text
+slice-write-text c = search needs
+
+cast-text-2 : tie.Need-cast-text-2
+cast-text-2 c = search needs
+
+add-text : tie.Need-add-text
+add-text c = search needs
+
+slice-write-text-2 : tie.Need-slice-write-text-2
+slice-write-text-2 c = simp length-set (omega arith)
+
+cast-text-3 : tie.Need-cast-text-3
+cast-text-3 c = search needs
+
+add-text-2 : tie.Need-add-text-2
+add-text-2 c = search needs
+
+slice-write-text-3 : tie.Need-slice-write-text-3
+slice-write-text-3 c = simp length-set (omega arith)
+
+cast-text-4 : tie.Need-cast-text-4
+cast-text-4 c = search needs
+
+add-text-3 : tie.Need-add-text-3
+add-text-3 c = search needs
+
+slice-write-text-4 : tie.Need-slice-write-text-4
+slice-write-text-4 c = simp length-set (omega arith)
+
+same-length : tie.Need-same-length
+same-length c = search needs
+
+returns : tie.Need-returns
+unfolding bytesOf
+returns c = placed-four (c .args .text .now) (c .args .at) (c .pre) _ _ _ _
+
+pub put-whole-spec : {M : Type 1} → statement M
+put-whole-spec =
+    tie.close
+    (tie.spec
+    cast-text
+    slice-write-text
+    cast-text-2
+    add-text
+    slice-write-text-2
+    cast-text-3
+    add-text-2
+    slice-write-text-3
+    cast-text-4
+    add-text-3
+    slice-write-text-4
+    same-length
+    returns)

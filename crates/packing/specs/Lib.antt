@@ -1,0 +1,4 @@
+pub mod PackingLoops
+pub mod PlacedLaws
+pub mod Words
+pub mod WordsLaws

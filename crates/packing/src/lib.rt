@@ -1,0 +1,2 @@
+// The words of a stored book.
+pub mod packing;

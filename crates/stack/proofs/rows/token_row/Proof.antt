@@ -1,0 +1,62 @@
+-- `machine::rows::token_row` meets its contract. Assumes nothing.
+use mathlib.Core.Path.{refl}
+use native.Mathlib.Omega.{arith}
+use lib.ListN.{length-set}
+use borrow.Author.Needs.{needs}
+use Rattle.stack.specs.Page.{tokenStored}
+use Rattle.stack.proofs.rows.token_row.Statement.{statement}
+use Rattle.stack.proofs.rows.token_row.Tie as tie
+
+mul-place : tie.Need-mul-place
+mul-place c = search needs
+
+add-rows : tie.Need-add-rows
+add-rows c = search needs
+
+mul-rows : tie.Need-mul-rows
+mul-rows c = search needs
+
+slice-write-rows : tie.Need-slice-write-rows
+slice-write-rows c = search needs
+
+add-rows-2 : tie.Need-add-rows-2
+add-rows-2 c = search needs
+
+mul-rows-2 : tie.Need-mul-rows-2
+mul-rows-2 c = search needs
+
+slice-write-rows-2 : tie.Need-slice-write-rows-2
+slice-write-rows-2 c = simp length-set (omega arith)
+
+add-rows-3 : tie.Need-add-rows-3
+add-rows-3 c = search needs
+
+mul-rows-3 : tie.Need-mul-rows-3
+mul-rows-3 c = search needs
+
+slice-write-rows-3 : tie.Need-slice-write-rows-3
+slice-write-rows-3 c = simp length-set (omega arith)
+
+same-length : tie.Need-same-length
+same-length c = search needs
+
+returns : tie.Need-returns
+unfolding tokenStored
+returns c = refl
+
+pub token-row-spec : {M : Type 1} → statement M
+token-row-spec =
+    tie.close
+    (tie.spec
+    mul-place
+    add-rows
+    mul-rows
+    slice-write-rows
+    add-rows-2
+    mul-rows-2
+    slice-write-rows-2
+    add-rows-3
+    mul-rows-3
+    slice-write-rows-3
+    same-length
+    returns)

@@ -8,13 +8,14 @@ use lib.ListN.{length, getD}
 use Rattle.grammar.specs.Limits.{MAX-INHERITED, MAX-SYNTHESIZED, MAX-RIGHT, MAX-DEFINITIONS, MAX-NODES}
 use Rattle.grammar.specs.Data.Symbol.{Rule, rightOf}
 use Rattle.grammar.specs.Data.Term.{nodes}
-use Rattle.grammar.specs.Data.Book.{InheritedDefinition, Kernel, Book as Lines}
+use Rattle.grammar.specs.Data.Book.{InheritedDefinition, Kernel, Book as Lines, inheritedOwner, synthesizedOwner}
 use Rattle.grammar.specs.Conditions.Meaning.{WithinLimits, Declared}
 use Rattle.grammar.specs.Conditions.Tests.{withinLimits, declared, allLeaves, declaredPlace}
 use Rattle.grammar.specs.Conditions.Decides.{OneTo}
 use Rattle.grammar.specs.Format.Ordered.{Ascending, kernelKey, Ordered}
 use Rattle.book.specs.declared.Book.{Book}
 use Rattle.book.specs.Held.{OwnersIn, RulesIn, DefinitionIn, DefinitionsIn, KernelsIn, GoesIn, kept}
+use Rattle.conditions.specs.Links.{Links}
 
 -- the numbers are the book's
 pub record Counted (numbers : Book) (b : Lines) : Type 0 where
@@ -191,7 +192,8 @@ pub record DeclaredBook (numbers : Book) (inherited synthesized rules definition
   pub counted : Counted numbers b
   pub lines : DeclaredLines inherited synthesized rules definitions b
 
--- What is asked of the definitions of inherited attributes: a book, a rule p, a position j, an attribute k
+-- What is asked of the definitions of inherited attributes: a book, the same with its attributes linked, a rule p and the line from which on its
+-- definitions are looked for, a position j
 
 pub record InheritedSide (inherited rules definitions : List ℕ) (attributes n count : ℕ) (b : Lines) : Type 0 where
   pub symbols-in : SymbolsIn rules b
@@ -201,36 +203,48 @@ pub record InheritedSide (inherited rules definitions : List ℕ) (attributes n 
   pub definitions-are : n ≡ length (b .inheritedDefinitions)
   pub rules-are : count ≡ length (b .rules)
 
-pub record InheritedRule (inherited rules definitions : List ℕ) (attributes n p : ℕ) (b : Lines) : Type 0 where
-  pub side : InheritedSide inherited rules definitions attributes n (length (b .rules)) b
+pub record InheritedRules (rules definitions heads nexts : List ℕ) (attributes n count : ℕ) (b : Lines) : Type 0 where
+  pub symbols-in : SymbolsIn rules b
+  pub definitions-in : DefinitionsIn (b .inheritedDefinitions) (b .synthesizedDefinitions) definitions
+  pub attributes-are : attributes ≡ length (b .inheritedOwners)
+  pub definitions-are : n ≡ length (b .inheritedDefinitions)
+  pub rules-are : count ≡ length (b .rules)
+  pub links : Links (inheritedOwner b) attributes heads nexts
+
+pub record InheritedRule (rules definitions heads nexts : List ℕ) (attributes n start p : ℕ) (b : Lines) : Type 0 where
+  pub side : InheritedRules rules definitions heads nexts attributes n (length (b .rules)) b
+  pub start-there : start ≤ n
   pub rule-there : p < length (b .rules)
   pub size-is : getD rules (10 * p + 1) 0 ≡ length (rightOf (b .rules) p)
   pub few-right : length (rightOf (b .rules) p) ≤ MAX-RIGHT
 
-pub record InheritedPlace (inherited rules definitions : List ℕ) (attributes n p j : ℕ) (b : Lines) : Type 0 where
-  pub rule : InheritedRule inherited rules definitions attributes n p b
+pub record InheritedPlace (rules definitions heads nexts : List ℕ) (attributes n start p j : ℕ) (b : Lines) : Type 0 where
+  pub rule : InheritedRule rules definitions heads nexts attributes n start p b
   pub position-there : OneTo (length (rightOf (b .rules) p)) j
-
-pub record InheritedAttribute (inherited rules definitions : List ℕ) (n p j k : ℕ) (b : Lines) : Type 0 where
-  pub place : InheritedPlace inherited rules definitions (length (b .inheritedOwners)) n p j b
-  pub attribute-there : k < length (b .inheritedOwners)
-  pub owner-low : getD inherited k 0 < 32
+  pub symbol-low : getD rules (10 * p + 1 + j) 0 < 64
 
 -- The same of synthesized attributes
 
 pub record SynthesizedSide (synthesized rules definitions : List ℕ) (attributes first n count : ℕ) (b : Lines) : Type 0 where
-  pub rules-in : RulesIn (b .rules) rules
+  pub symbols-in : SymbolsIn rules b
   pub synthesized-in : OwnersIn MAX-SYNTHESIZED (b .synthesizedOwners) synthesized
   pub definitions-in : DefinitionsIn (b .inheritedDefinitions) (b .synthesizedDefinitions) definitions
   pub attributes-are : attributes ≡ length (b .synthesizedOwners)
-  pub start : first ≡ length (b .inheritedDefinitions)
+  pub first-is : first ≡ length (b .inheritedDefinitions)
   pub definitions-are : n ≡ length (b .synthesizedDefinitions)
   pub rules-are : count ≡ length (b .rules)
 
-pub record SynthesizedRule (synthesized rules definitions : List ℕ) (attributes first n p : ℕ) (b : Lines) : Type 0 where
-  pub side : SynthesizedSide synthesized rules definitions attributes first n (length (b .rules)) b
-  pub rule-there : p < length (b .rules)
+pub record SynthesizedRules (rules definitions heads nexts : List ℕ) (attributes first n count : ℕ) (b : Lines) : Type 0 where
+  pub symbols-in : SymbolsIn rules b
+  pub definitions-in : DefinitionsIn (b .inheritedDefinitions) (b .synthesizedDefinitions) definitions
+  pub attributes-are : attributes ≡ length (b .synthesizedOwners)
+  pub first-is : first ≡ length (b .inheritedDefinitions)
+  pub definitions-are : n ≡ length (b .synthesizedDefinitions)
+  pub rules-are : count ≡ length (b .rules)
+  pub links : Links (synthesizedOwner b) attributes heads nexts
 
-pub record SynthesizedAttribute (synthesized rules definitions : List ℕ) (first n p k : ℕ) (b : Lines) : Type 0 where
-  pub rule : SynthesizedRule synthesized rules definitions (length (b .synthesizedOwners)) first n p b
-  pub attribute-there : k < length (b .synthesizedOwners)
+pub record SynthesizedRule (rules definitions heads nexts : List ℕ) (attributes first n start p : ℕ) (b : Lines) : Type 0 where
+  pub side : SynthesizedRules rules definitions heads nexts attributes first n (length (b .rules)) b
+  pub start-there : start ≤ n
+  pub rule-there : p < length (b .rules)
+  pub left-low : getD rules (10 * p) 0 < 32

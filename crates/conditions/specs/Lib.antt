@@ -8,6 +8,7 @@ pub mod DefinedTests
 pub mod Leaves
 pub mod LimitLaws
 pub mod LimitTests
+pub mod Links
 pub mod OwnedLaws
 pub mod OwnedLines
 pub mod OwnedTests

@@ -67,6 +67,13 @@ module _ {rules : List ℕ} {b : Lines} (h : SymbolsIn rules b) where
         let e : 10 * P + 1 + J ≡ 10 * P + 2 + (J - 1) = omega arith in
         rw e (h .rules-in .symbol-is P (J - 1) there (omega arith) (omega (arith, right-length (h .within) P)))
 
+    pub right-low : getD rules (10 * P + 1 + J) 0 < 64
+    right-low = rw right-word (go (symbolAt (b .rules) P J) right-there)
+      where
+        go : (X : Symbol) → RightSymbol b X → symbolCode X < 64
+        go (terminal t) r = rw (terminal-code (h .within) r) (omega (arith, r .high, h .within .terminals-limit .high))
+        go (nonterminal B) r = rw (nonterminal-code (h .within) r) (omega (arith, r .high, h .within .nonterminals-limit .high))
+
     pub nonterminal-word : (A : ℕ) → A < 32 → eqb (getD rules (10 * P + 1 + J) 0) (32 + A) ≡ nonterminalAt b P J A
     unfolding nonterminalAt isNonterminal
     nonterminal-word A l = ap (λ (code : ℕ). eqb code (32 + A)) right-word ∙ go (symbolAt (b .rules) P J) right-there

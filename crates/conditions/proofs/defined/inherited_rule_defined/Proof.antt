@@ -15,11 +15,11 @@ use Rattle.conditions.proofs.defined.inherited_rule_defined.Statement.{
 use Rattle.conditions.proofs.defined.inherited_rule_defined.Tie as tie
 
 abbrev Inv-loop : tie.InvT-loop
-Inv-loop inherited rules definitions attributes n p size d₀ d = Passing (InheritedRule inherited rules definitions attributes n p)
+Inv-loop rules definitions heads nexts attributes n start p size d₀ d = Passing (InheritedRule rules definitions heads nexts attributes n start p)
     (λ b m. positionDefined p (suc m) b) size d
 
 abbrev μ-loop : tie.MeasureT-loop
-μ-loop inherited rules definitions attributes n p size d₀ d = size - d
+μ-loop rules definitions heads nexts attributes n start p size d₀ d = size - d
 
 mul-size : tie.Need-mul-size Inv-loop μ-loop
 mul-size c = search needs
@@ -43,14 +43,14 @@ add-position-defined : tie.Need-add-position-defined Inv-loop μ-loop
 add-position-defined c = search needs
 
 position-defined-requires : tie.Need-position-defined-requires Inv-loop μ-loop
-position-defined-requires c κs = let h = c .before .before .before .before .before .before .pre in
+position-defined-requires c κs = let h = c .before .before .before .before .before .before .before .pre in
     (h .0, inherited-place (c .before .loop .d) (h .1) (omega (arith, h .1 .size-is)))
 
 returns : tie.Need-returns Inv-loop μ-loop
 unfolding inheritedRuleDefined allOneTo
 returns c = let a = c .before in
     let k = a .before .before in
-    let p = k .before .before .before .before .before .args .p in
+    let p = k .before .before .before .before .before .before .args .p in
     answers-same (λ b h. ap (λ (m : ℕ). allBelow m (λ i. positionDefined p (suc i) b)) (h .size-is)) (passing-stop (k .loop .inv) (omega arith)
     (answers-same (λ b h. ap (λ (j : ℕ). positionDefined p j b) (add-one (k .loop .d)))
     (answers-where (λ b h. inherited-place (k .loop .d) h (omega (arith, h .size-is))) (a .position-defined .ensures))) (not-true _ (c .if1 .taken)))
@@ -64,7 +64,7 @@ loop-less c = search needs
 loop-again : tie.Need-loop-again Inv-loop μ-loop
 loop-again c = let a = c .before in
     let k = a .before .before in
-    let p = k .before .before .before .before .before .args .p in
+    let p = k .before .before .before .before .before .before .args .p in
     passing-turn (k .loop .inv) (omega arith)
     (answers-same (λ b h. ap (λ (j : ℕ). positionDefined p j b) (add-one (k .loop .d)))
     (answers-where (λ b h. inherited-place (k .loop .d) h (omega (arith, h .size-is))) (a .position-defined .ensures))) (not-false _ (c .if1 .left))
@@ -72,7 +72,7 @@ loop-again c = let a = c .before in
 returns-2 : tie.Need-returns-2 Inv-loop μ-loop
 unfolding inheritedRuleDefined allOneTo
 returns-2 c = let k = c .before in
-    let p = k .before .before .before .before .before .args .p in
+    let p = k .before .before .before .before .before .before .args .p in
     answers-same (λ b h. ap (λ (m : ℕ). allBelow m (λ i. positionDefined p (suc i) b)) (h .size-is)) (passing-end (k .loop .inv) (c .loop-test .left))
 
 pub inherited-rule-defined-spec : {M : Type 1} → statement M

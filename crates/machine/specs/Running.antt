@@ -14,9 +14,9 @@ use Rattle.grammar.specs.Evaluator.Rows.{page}
 use Rattle.grammar.specs.Evaluator.Machine.{Config, refused, stop, step}
 use Rattle.grammar.specs.Engine.{tokensOf, tablesOf}
 use Rattle.items.specs.Arrays.{ActionsIn}
-use Rattle.machine.specs.declared.action.Move.the-variants.{Shift, Reduce, Accept}
-use Rattle.machine.specs.declared.action.Action.{Action}
-use Rattle.machine.specs.declared.action.Action.the-variants.{Due, None}
+use Rattle.stack.specs.declared.action.Move.the-variants.{Shift, Reduce, Accept}
+use Rattle.stack.specs.declared.action.Action.{Action}
+use Rattle.stack.specs.declared.action.Action.the-variants.{Due, None}
 use Rattle.stack.specs.declared.top.Top.{Top}
 use Rattle.stack.specs.Action.{actionAt, meant, action-means}
 use Rattle.machine.specs.Moving.{Driven, Here, Accepts}

@@ -1,5 +1,4 @@
 // The stack evaluator (01, "The stack evaluator") over arrays.
-pub mod action;
 pub mod moves;
 pub mod reduce;
 pub mod run;

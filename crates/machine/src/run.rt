@@ -12,13 +12,13 @@ ghost use Rattle.machine.specs.Moving.{Rooms, Here, Told};
 ghost use Rattle.machine.specs.Running.{RunIn};
 ghost use Rattle.machine.specs.RunningLaws.{Answered};
 ghost use Rattle.stack.specs.Standing.{Message};
-use super::action::Action;
-use super::action::Move;
-use super::action::action_of;
 use super::moves::Moved;
 use super::moves::shift;
 use super::reduce::reduce;
 use items::words::word;
+use stack::action::Action;
+use stack::action::Move;
+use stack::action::action_of;
 use stack::top::Top;
 
 // The answer: 0 or the refusal, and the number of rows.

@@ -1,4 +1,5 @@
-// The two stacks and the rows of a message: the top, records of values, rows, what a move puts on the stacks and what a reduction leaves.
+// What the moves of a message go by: its top, the action, the two stacks with their records, the rows, what a reduction leaves.
+pub mod action;
 pub mod firsts;
 pub mod left;
 pub mod lists;

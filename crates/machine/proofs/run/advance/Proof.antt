@@ -4,7 +4,7 @@ use mathlib.Core.Path.{_≡_, ap, _∙_}
 use native.Mathlib.Omega.{arith}
 use lib.ListN.{getD}
 use borrow.Author.Needs.{needs}
-use Rattle.machine.specs.declared.action.Action.the-variants.{Due}
+use Rattle.stack.specs.declared.action.Action.the-variants.{Due}
 use Rattle.machine.specs.Moving.{told-accepted, told-refused}
 use Rattle.machine.specs.Running.{TopLow, Facing, top-low, facing, due-none, due-accept, due-shift, due-reduce}
 use Rattle.machine.proofs.run.advance.Statement.{statement}

@@ -1,9 +1,9 @@
 -- `machine::action::action_of` meets its contract, test by test. Assumes nothing.
 use mathlib.Core.Path.{sym}
 use borrow.Author.Needs.{needs}
 use Rattle.stack.specs.Action.{code-free, code-shift, code-accept, code-conflict, code-reduce}
-use Rattle.machine.proofs.action.action_of.Statement.{statement}
-use Rattle.machine.proofs.action.action_of.Tie as tie
+use Rattle.stack.proofs.action.action_of.Statement.{statement}
+use Rattle.stack.proofs.action.action_of.Tie as tie
 
 returns : tie.Need-returns
 returns c = sym (code-free _ (c .if1 .taken))

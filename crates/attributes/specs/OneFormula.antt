@@ -5,7 +5,7 @@ use mathlib.Core.Path.{_≡_, refl, ap, _∙_}
 use mathlib.Core.Bool.{Bool, true, false}
 use mathlib.Core.List.{List}
 use lib.ListN.{length}
-use Rattle.grammar.specs.Conditions.Decides.{allBelow}
+use Rattle.grammar.specs.Conditions.Decides.{false-of, allBelow}
 use Rattle.grammar.specs.Data.Book.{Book, ownerAt}
 use Rattle.grammar.specs.Format.Ordered.{Ordered}
 use Rattle.grammar.specs.Conditions.Meaning.{WithinLimits, Declared, Owned, Defined}
@@ -18,7 +18,7 @@ use Rattle.grammar.specs.Automaton.Compiled.{itemsTable, partsTable, oneFormula
 use Rattle.grammar.specs.Formulas.Slots.{attributes}
 use Rattle.grammar.specs.Formulas.PartialLaws.{partialAt, partial-items}
 use Rattle.grammar.specs.Formulas.FormulaCheck as grammar
-use Rattle.grammar.specs.Formulas.FormulaCheck.{check, checkAll, listed}
+use Rattle.grammar.specs.Formulas.FormulaCheck.{dotOf, lineAt, check, checkAll, listed}
 use Rattle.grammar.specs.Formulas.FormulaCheckLaws.{Tells}
 use Rattle.grammar.specs.Formulas.FormulaCheckAll.{listed-tells, book-checkAll}
 use Rattle.book.specs.Held.{DefinitionsIn}
@@ -28,6 +28,8 @@ use Rattle.attributes.specs.Checking.{memberOf, CheckHeld}
 use Rattle.attributes.specs.CheckHeldLaws.{check-held}
 use Rattle.attributes.specs.StateMarks.{MarksHeld, StateMarksIn}
 use Rattle.attributes.specs.Telling.{check-told}
+use Rattle.attributes.specs.Wanted.{all-below}
+use Rattle.attributes.specs.Idle.{Idle, check-idle}
 
 -- in every partial state each attribute has one formula (10)
 abbrev pub formulasRight : Book → Bool
@@ -102,6 +104,12 @@ module _ {b : Book} {rules : List ℕ} {count : ℕ} {definitions : List ℕ} {l
   state-told S {masks} M =
       same-below (λ a. check b (memberOf masks a)) (λ a. check b (listedIn b S a)) (suc (b .terminals)) λ a l.
       check-told limits declared (H .ordered) S M a (omega (arith, limits .terminals-limit .high)) (listed-tell S a)
+
+  -- of a state where nothing is to be checked
+  pub state-idle : (S : ℕ) → Idle b S → true ≡ stateRight b S
+  state-idle S idle = all-below (λ a. check b (listedIn b S a)) (suc (b .terminals)) λ a l.
+      check-idle b (listedIn b S a) λ d h.
+      false-of (listed-tell S a (lineAt b d .rule) (dotOf (lineAt b d))) λ (c, there). idle d c h (there .0)
 
   -- of all states
   pub states-told : allBelow (b .states) (stateRight b) ≡ formulasRight b

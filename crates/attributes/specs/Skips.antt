@@ -83,7 +83,7 @@ meets-nothing wanted = by (meets 0 wanted) refl
 
 module _ (b : Book) (member : ℕ → ℕ → Bool) where
   -- a definition whose item is not there is not visited
-  visit-absent : (d : ℕ) → member (lineAt b d .rule) (dotOf (lineAt b d)) ≡ false → (s : Progress) → visit b member d s ≡ s
+  pub visit-absent : (d : ℕ) → member (lineAt b d .rule) (dotOf (lineAt b d)) ≡ false → (s : Progress) → visit b member d s ≡ s
   unfolding visit due
   visit-absent d e split = refl
   visit-absent d e (progress slots done) = by (getD done d true) refl

@@ -1,6 +1,7 @@
 // The items of partial states, and the check that each attribute has one formula there (10).
 pub mod alike;
 pub mod check;
+pub mod idle;
 pub mod masks;
 pub mod one_formula;
 pub mod owned;

@@ -8,22 +8,27 @@ ghost use Rattle.grammar.specs.Limits.{MAX-INHERITED};
 ghost use Rattle.grammar.specs.Conditions.Decides.{allBelow};
 ghost use Rattle.grammar.specs.Data.Book.{Book};
 ghost use Rattle.grammar.specs.Formulas.Slots.{attributes};
+ghost use Rattle.grammar.specs.Formulas.FormulaCheck as grammar;
 ghost use Rattle.book.specs.Held.{OwnersIn};
 ghost use Rattle.formulas.specs.Table.{ROOM};
 ghost use Rattle.attributes.specs.Owned.{OwnedIn};
 ghost use Rattle.attributes.specs.Checking.{Room};
+ghost use Rattle.attributes.specs.Idle.{PlacesIn};
 ghost use Rattle.attributes.specs.OneFormula.{FormulasHeld, stateRight, formulasRight};
 use super::check::check_state;
+use super::idle::idle;
+use super::idle::mark_places;
 use super::masks::masks;
 use super::owned::owned;
 
-// 10, of the partial states of one state: their items, then the check.
+// 10, of the partial states of one state: nothing if it is idle, else their items, then the check.
 fn state_right(
     rules: &[u32],
     count: u32,
     definitions: &[u32],
     lines: u32,
     owned: &[u32],
+    places: &[u32],
     kernels: &[u32],
     starts: &[u32],
     closures: &[u32],
@@ -39,12 +44,17 @@ fn state_right(
     nexts: &mut [u32],
 ) -> bool
     requires { ⌜ ((b : Book) × (firsts : List ℕ) × (states : ℕ) × FormulasHeld b (now rules) count (now definitions) lines (now kernels) (now starts)
-        (now closures) (now nulls) firsts (now reaches) terminals states × OwnedIn (b .inheritedOwners) (attributes b) (now owned) × (state < states))
+        (now closures) (now nulls) firsts (now reaches) terminals states × OwnedIn (b .inheritedOwners) (attributes b) (now owned)
+        × PlacesIn b (grammar.definitions b) (now places) × (state < states))
         × (length (now sets) ≡ 576) × Room (now slots) (now done) (now table) (now heads) (now nexts) ⌝ }
     ensures { λ r. ⌜ ((b : Book) (firsts : List ℕ) (states : ℕ) → FormulasHeld b (now (rules .entry)) count (now (definitions .entry)) lines
         (now (kernels .entry)) (now (starts .entry)) (now (closures .entry)) (now (nulls .entry)) firsts (now (reaches .entry)) terminals states
-        → OwnedIn (b .inheritedOwners) (attributes b) (now (owned .entry)) → state < states → r ≡ stateRight b state) ⌝ }
+        → OwnedIn (b .inheritedOwners) (attributes b) (now (owned .entry)) → PlacesIn b (grammar.definitions b) (now (places .entry))
+        → state < states → r ≡ stateRight b state) ⌝ }
 {
+    if idle(kernels, starts, closures, state, places) {
+        return true;
+    }
     masks(
         rules,
         count as usize,
@@ -78,6 +88,7 @@ fn states_right(
     definitions: &[u32],
     lines: u32,
     owned: &[u32],
+    places: &[u32],
     kernels: &[u32],
     starts: &[u32],
     closures: &[u32],
@@ -93,11 +104,13 @@ fn states_right(
     nexts: &mut [u32],
 ) -> bool
     requires { ⌜ ((b : Book) × (firsts : List ℕ) × FormulasHeld b (now rules) count (now definitions) lines (now kernels) (now starts) (now closures)
-        (now nulls) firsts (now reaches) terminals states × OwnedIn (b .inheritedOwners) (attributes b) (now owned))
+        (now nulls) firsts (now reaches) terminals states × OwnedIn (b .inheritedOwners) (attributes b) (now owned)
+        × PlacesIn b (grammar.definitions b) (now places))
         × (length (now sets) ≡ 576) × Room (now slots) (now done) (now table) (now heads) (now nexts) ⌝ }
     ensures { λ r. ⌜ ((b : Book) (firsts : List ℕ) → FormulasHeld b (now (rules .entry)) count (now (definitions .entry)) lines (now (kernels .entry))
         (now (starts .entry)) (now (closures .entry)) (now (nulls .entry)) firsts (now (reaches .entry)) terminals states
-        → OwnedIn (b .inheritedOwners) (attributes b) (now (owned .entry)) → r ≡ allBelow (b .states) (stateRight b)) ⌝ }
+        → OwnedIn (b .inheritedOwners) (attributes b) (now (owned .entry)) → PlacesIn b (grammar.definitions b) (now (places .entry))
+        → r ≡ allBelow (b .states) (stateRight b)) ⌝ }
 {
     let n = states as usize;
     let mut state = 0;
@@ -108,6 +121,7 @@ fn states_right(
             definitions,
             lines,
             owned,
+            places,
             kernels,
             starts,
             closures,
@@ -156,6 +170,8 @@ pub fn one_formula(
 {
     let mut own = [0u32; 32];
     owned(owners, attributes as usize, &mut own);
+    let mut places = [0u32; 608];
+    mark_places(definitions, lines as usize, rules, &mut places);
     let mut sets = [0u32; 576];
     let mut slots = [0u32; 16];
     let mut done = [0u8; 128];
@@ -166,6 +182,7 @@ pub fn one_formula(
         definitions,
         lines,
         &own,
+        &places,
         kernels,
         starts,
         closures,

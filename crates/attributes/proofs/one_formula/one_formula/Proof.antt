@@ -1,17 +1,28 @@
 -- `one_formula::one_formula` meets its contract: the check of all states is that of the tables.
 -- Assumes nothing.
+use Prim.Native.Nat.{ℕ}
 use mathlib.Core.Path.{_≡_, refl, sym, _∙_}
+use mathlib.Core.List.{List}
 use native.Mathlib.Omega.{arith}
+use lib.ListN.{replicate, length-replicate}
 use borrow.Author.Needs.{needs}
-use Rattle.attributes.specs.OneFormula.{owned-all, owner-low, states-told}
+use Rattle.grammar.specs.Data.Book.{Book}
+use Rattle.grammar.specs.Formulas.Slots.{attributes}
+use Rattle.attributes.specs.Owned.{OwnedIn}
+use Rattle.attributes.specs.Checking.{CheckHeld}
+use Rattle.attributes.specs.OneFormula.{FormulasHeld, owned-all, owner-low, held-check, states-told}
 use Rattle.attributes.proofs.one_formula.one_formula.Statement.{statement}
 use Rattle.attributes.proofs.one_formula.one_formula.Tie as tie
 
--- the entry, as the place where the states are checked knows it
-abbrev entry : tie.After-states-right-arg2 → tie.Start
-entry c =
-    let o = c .before .before .before .before .before .before .before .before in
-    o .before .before .before .before .before .before .before .before .before .before .before .before
+-- the entry, as the place after the attributes' owners are read knows it
+abbrev entry : tie.After-owned → tie.Start
+entry c = c .before .before .before .before .before .before .before .before .before .before .before .before
+
+-- what the places are worked out from
+held : {b : Book} {rules : List ℕ} {count : ℕ} {definitions : List ℕ} {lines : ℕ} {kernels starts closures nulls firsts reaches sets : List ℕ}
+    {terminals states : ℕ} → FormulasHeld b rules count definitions lines kernels starts closures nulls firsts reaches terminals states
+    → OwnedIn (b .inheritedOwners) (attributes b) sets → CheckHeld b definitions rules sets (replicate 576 0)
+held H O = held-check H O (length-replicate {A = ℕ} 576 0)
 
 slice-aggregate-owned : tie.Need-slice-aggregate-owned
 slice-aggregate-owned c = search needs
@@ -20,6 +31,16 @@ owned-requires : tie.Need-owned-requires
 owned-requires c κs =
     let g = c .before .before .before .before .before .before .before .before .before .before .before .pre .0 in
     ((g .0 .inheritedOwners, g .3, sym (g .4), λ K l. owner-low (g .2) K (omega (arith, l, g .4))), refl)
+
+slice-aggregate-mark-places : tie.Need-slice-aggregate-mark-places
+slice-aggregate-mark-places c = search needs
+
+mark-places-requires : tie.Need-mark-places-requires
+mark-places-requires c κs =
+    let o = c .before .before in
+    let g = entry o .pre .0 in
+    let sets = owned-all (g .4) (o .owned .ensures (g .0 .inheritedOwners) (g .3) (sym (g .4))) in
+    ((g .0, _, _, held (g .2) sets, g .2 .definitions-counted), refl)
 
 slice-aggregate-states-right : tie.Need-slice-aggregate-states-right
 slice-aggregate-states-right c = search needs
@@ -36,13 +57,17 @@ slice-aggregate-states-right-4 c = search needs
 slice-aggregate-states-right-5 : tie.Need-slice-aggregate-states-right-5
 slice-aggregate-states-right-5 c = search needs
 
+slice-aggregate-states-right-6 : tie.Need-slice-aggregate-states-right-6
+slice-aggregate-states-right-6 c = search needs
+
 states-right-requires : tie.Need-states-right-requires
 states-right-requires c κs =
-    let s = entry c in
+    let m = c .before .before .before .before .before .before .before .before .before in
+    let o = m .before .before .before in
+    let s = entry o in
     let g = s .pre .0 in
-    let o = c .before .before .before .before .before .before .before .before in
     let sets = owned-all (g .4) (o .owned .ensures (g .0 .inheritedOwners) (g .3) (sym (g .4))) in (
-      (g .0, g .1, g .2, sets),
+      (g .0, g .1, g .2, sets, m .mark-places .ensures (g .0) _ _ (held (g .2) sets) (g .2 .definitions-counted)),
       refl,
       record { words-long = refl; marks-long = refl; table-long = s .pre .1; heads-long = refl; nexts-long = s .pre .2 },
     )
@@ -56,8 +81,9 @@ same-length-2 c = search needs
 returns : tie.Need-returns
 returns c = λ b firsts H I e.
     let v = c .before .before .before .before .before .before .before .before in
-    let o = v .before .before .before .before .before .before .before .before .before in
-    v .states-right .ensures b firsts H (owned-all e (o .owned .ensures (b .inheritedOwners) I (sym e))) ∙ states-told H
+    let m = v .before .before .before .before .before .before .before .before .before .before in
+    let sets = owned-all e (m .before .before .before .owned .ensures (b .inheritedOwners) I (sym e)) in
+    v .states-right .ensures b firsts H sets (m .mark-places .ensures b _ _ (held H sets) (H .definitions-counted)) ∙ states-told H
 
 pub one-formula-spec : {M : Type 1} → statement M
 one-formula-spec =
@@ -65,11 +91,14 @@ one-formula-spec =
     (tie.spec
     slice-aggregate-owned
     owned-requires
+    slice-aggregate-mark-places
+    mark-places-requires
     slice-aggregate-states-right
     slice-aggregate-states-right-2
     slice-aggregate-states-right-3
     slice-aggregate-states-right-4
     slice-aggregate-states-right-5
+    slice-aggregate-states-right-6
     states-right-requires
     same-length
     same-length-2

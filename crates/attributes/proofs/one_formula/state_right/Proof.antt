@@ -1,27 +1,41 @@
--- `one_formula::state_right` meets its contract: the check by the sets is that of the state.
+-- `one_formula::state_right` meets its contract: an idle state is right, and the check by the sets is that of the state.
 -- Assumes nothing.
 use native.Mathlib.Omega.{arith}
 use mathlib.Core.Path.{_≡_, _∙_}
 use borrow.Author.Needs.{needs}
-use Rattle.attributes.specs.OneFormula.{terminals-low, held-check, state-told}
+use Rattle.attributes.specs.OneFormula.{terminals-low, held-check, state-told, state-idle}
 use Rattle.attributes.proofs.one_formula.state_right.Statement.{statement}
 use Rattle.attributes.proofs.one_formula.state_right.Tie as tie
 
--- the entry, as the place where the sets are made knows it
+-- the entry, as the places where the state is tested and where the sets are made know it
+abbrev start : tie.After-slice-known6 → tie.Start
+start c = c .before .before .before .before .before .before .before .before .before .before .before .before .before .before .before
+
 abbrev entry : tie.After-masks-arg → tie.Start
-entry c = c .before .before .before .before .before .before .before .before .before .before .before .before .before .before .before
+entry c = start (c .before .before .before)
+
+idle-requires : tie.Need-idle-requires
+idle-requires c κs =
+    let g = start c .pre .0 in
+    ((g .0, _, g .3 .marks-held .items-in, omega (arith, g .6, g .3 .states-are)), g .5 .long)
+
+returns : tie.Need-returns
+returns c = λ b firsts states H O L l.
+    let v = c .before in
+    state-idle H (start (v .before) .args .state)
+    (v .idle .ensures (c .if1 .taken) b _ (H .ordered) (H .marks-held .items-in) L (omega (arith, l, H .states-are)))
 
 masks-requires : tie.Need-masks-requires
 masks-requires c κs =
     let s = entry c in
-    let g = s .pre .0 in ((g .0, g .1, g .3 .marks-held, g .3 .rules-counted, omega (arith, g .5, g .3 .states-are)), s .pre .1)
+    let g = s .pre .0 in ((g .0, g .1, g .3 .marks-held, g .3 .rules-counted, omega (arith, g .6, g .3 .states-are)), s .pre .1)
 
 check-state-requires : tie.Need-check-state-requires
 check-state-requires c κs =
     let m = c .before .before .before .before .before .before .before .before in
     let s = entry (m .before) in
     let g = s .pre .0 in
-    let M = m .masks .ensures (g .0) (g .1) (g .3 .marks-held) (g .3 .rules-counted) (omega (arith, g .5, g .3 .states-are)) in (
+    let M = m .masks .ensures (g .0) (g .1) (g .3 .marks-held) (g .3 .rules-counted) (omega (arith, g .6, g .3 .states-are)) in (
       (g .0, held-check (g .3) (g .4) (M .long), g .3 .definitions-counted),
       terminals-low (g .3),
       s .pre .2,
@@ -45,8 +59,8 @@ same-length-5 c = search needs
 same-length-6 : tie.Need-same-length-6
 same-length-6 c = search needs
 
-returns : tie.Need-returns
-returns c = λ b firsts states H O l.
+returns-2 : tie.Need-returns-2
+returns-2 c = λ b firsts states H O L l.
     let v = c .before .before .before .before .before .before .before .before .before .before in
     let m = v .before .before .before .before .before .before .before .before .before in
     let M = m .masks .ensures b firsts (H .marks-held) (H .rules-counted) (omega (arith, l, H .states-are)) in
@@ -57,6 +71,8 @@ pub state-right-spec : {M : Type 1} → statement M
 state-right-spec =
     tie.close
     (tie.spec
+    idle-requires
+    returns
     masks-requires
     check-state-requires
     same-length
@@ -65,4 +81,4 @@ state-right-spec =
     same-length-4
     same-length-5
     same-length-6
-    returns)
+    returns-2)

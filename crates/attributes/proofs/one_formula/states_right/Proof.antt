@@ -10,42 +10,44 @@ use borrow.Author.Needs.{needs}
 use Rattle.grammar.specs.Conditions.Decides.{allBelow}
 use Rattle.grammar.specs.Data.Book.{Book}
 use Rattle.grammar.specs.Formulas.Slots.{attributes}
+use Rattle.grammar.specs.Formulas.FormulaCheck as grammar
 use Rattle.attributes.specs.Owned.{OwnedIn}
+use Rattle.attributes.specs.Idle.{PlacesIn}
 use Rattle.attributes.specs.CheckLaws.{all-start, all-turn, one-fails}
 use Rattle.attributes.specs.OneFormula.{FormulasHeld, stateRight, states-low}
 use Rattle.attributes.proofs.one_formula.states_right.Statement.{statement}
 use Rattle.attributes.proofs.one_formula.states_right.Tie as tie
 
 abbrev Inv-loop : tie.InvT-loop
-Inv-loop rules count definitions lines owned kernels starts closures nulls reaches terminals states sets₀ slots₀ done₀ table₀ heads₀ nexts₀
+Inv-loop rules count definitions lines owned places kernels starts closures nulls reaches terminals states sets₀ slots₀ done₀ table₀ heads₀ nexts₀
     n state₀ sets slots done table heads nexts state =
     (state ≤ states) × (length sets ≡ length sets₀) × (length slots ≡ length slots₀) × (length done ≡ length done₀)
     × (length table ≡ length table₀) × (length heads ≡ length heads₀) × (length nexts ≡ length nexts₀)
     × ((b : Book) (firsts : List ℕ) → FormulasHeld b rules count definitions lines kernels starts closures nulls firsts reaches terminals states
-    → OwnedIn (b .inheritedOwners) (attributes b) owned → allBelow state (stateRight b) ≡ true)
+    → OwnedIn (b .inheritedOwners) (attributes b) owned → PlacesIn b (grammar.definitions b) places → allBelow state (stateRight b) ≡ true)
 
 abbrev μ-loop : tie.MeasureT-loop
-μ-loop rules count definitions lines owned kernels starts closures nulls reaches terminals states sets₀ slots₀ done₀ table₀ heads₀ nexts₀
+μ-loop rules count definitions lines owned places kernels starts closures nulls reaches terminals states sets₀ slots₀ done₀ table₀ heads₀ nexts₀
     n state₀ sets slots done table heads nexts state =
     states - state
 
 -- Places: the entry, and the turn whose state was checked
 
 abbrev entry : tie.At-loop Inv-loop μ-loop → tie.Start Inv-loop μ-loop
-entry c = c .before .before .before .before .before .before .before .before .before .before .before .before .before .before .before
+entry c = c .before .before .before .before .before .before .before .before .before .before .before .before .before .before .before .before
 
 abbrev turn : tie.After-state-right Inv-loop μ-loop → tie.In-loop Inv-loop μ-loop
 turn c = c .before .before .before .before .before .before .before
 
 loop-holds : tie.Need-loop-holds Inv-loop μ-loop
-loop-holds c = (omega arith, refl, refl, refl, refl, refl, refl, λ b firsts H O. all-start _)
+loop-holds c = (omega arith, refl, refl, refl, refl, refl, refl, λ b firsts H O L. all-start _)
 
 state-right-requires : tie.Need-state-right-requires Inv-loop μ-loop
 state-right-requires c κs =
     let t = c .before .before .before .before .before .before in
     let at = t .before .loop in
     let g = entry (t .before) .pre in (
-      (g .0 .0, g .0 .1, entry (t .before) .args .states, g .0 .2, g .0 .3, t .loop-test .taken),
+      (g .0 .0, g .0 .1, entry (t .before) .args .states, g .0 .2, g .0 .3, g .0 .4, t .loop-test .taken),
       at .inv .1 ∙ g .1,
       record {
         words-long = at .inv .2 ∙ g .2 .words-long;
@@ -75,11 +77,11 @@ same-length-6 : tie.Need-same-length-6 Inv-loop μ-loop
 same-length-6 c = search needs
 
 returns : tie.Need-returns Inv-loop μ-loop
-returns c = λ b firsts H O.
+returns c = λ b firsts H O L.
     let v = c .before .before .before .before .before .before .before .before .before .before .before .before .before in
     let l = turn v .before in
     one-fails (stateRight b) (l .loop .state) _ (omega (arith, turn v .loop-test .taken, H .states-are))
-    (v .state-right .ensures b firsts (entry l .args .states) H O (turn v .loop-test .taken)) (c .if1 .taken)
+    (v .state-right .ensures b firsts (entry l .args .states) H O L (turn v .loop-test .taken)) (c .if1 .taken)
 
 add-state : tie.Need-add-state Inv-loop μ-loop
 add-state c =
@@ -100,9 +102,9 @@ loop-again c =
       search needs,
       search needs,
       search needs,
-      λ b firsts H O.
-          all-turn (stateRight b) (l .loop .state) (l .loop .inv .7 b firsts H O)
-          (v .state-right .ensures b firsts (entry l .args .states) H O (turn v .loop-test .taken)) (c .if1 .left),
+      λ b firsts H O L.
+          all-turn (stateRight b) (l .loop .state) (l .loop .inv .7 b firsts H O L)
+          (v .state-right .ensures b firsts (entry l .args .states) H O L (turn v .loop-test .taken)) (c .if1 .left),
     )
 
 same-length-7 : tie.Need-same-length-7 Inv-loop μ-loop
@@ -124,10 +126,10 @@ same-length-12 : tie.Need-same-length-12 Inv-loop μ-loop
 same-length-12 c = c .before .loop .inv .6
 
 returns-2 : tie.Need-returns-2 Inv-loop μ-loop
-returns-2 c = λ b firsts H O.
+returns-2 c = λ b firsts H O L.
     let at = c .before .loop in
     let end : at .state ≡ b .states = omega (arith, at .inv .0, c .loop-test .left, H .states-are) in
-    sym (rw end at (at .inv .7 b firsts H O))
+    sym (rw end at (at .inv .7 b firsts H O L))
 
 pub states-right-spec : {M : Type 1} → statement M
 states-right-spec =

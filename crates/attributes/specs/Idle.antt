@@ -1,0 +1,216 @@
+-- States at whose items no inherited attribute is defined: nothing is to be checked there. The places of the definitions stand in 608 words: word 9 * P + D
+-- is full if a definition is of the symbol behind the dot of the item (P, D), word 576 + A if one is of the first symbol of a rule of A. Assumes nothing.
+use Prim.Native.Nat.{ℕ, suc, _+_, _*_, _-_, _^_, _<_, _≤_}
+use native.Mathlib.Omega.{arith}
+use native.Mathlib.Decide.{ℕ-discrete}
+use mathlib.Core.Path.{_≡_, refl, sym, ap, _∙_}
+use mathlib.Core.Logic.{inl, inr}
+use mathlib.Core.Bool.{Bool, true, false}
+use mathlib.Core.List.{List, _∷_, List·Memᴰ as Mem, List·Memᴰ·head as in-head, List·Memᴰ·tail as in-tail}
+use lib.Bits.{bitAnd, bitOr, or-add-and, and-le-l, and-le-r, and-mask}
+use lib.ListN.{length, getD, set, take, replicate, length-set, length-replicate}
+use lib.Seq.{getD-set-same, getD-set-other, slice, length-slice, getD-take, getD-drop}
+use Rattle.sets.specs.Sets.{bit}
+use Rattle.grammar.specs.Data.Symbol.{leftOf}
+use Rattle.grammar.specs.Data.Book.{Book, Kernel}
+use Rattle.grammar.specs.Format.Ordered.{Ordered}
+use Rattle.grammar.specs.BookFacts.{small-book}
+use Rattle.grammar.specs.Automaton.Members.{some-not-none}
+use Rattle.grammar.specs.Automaton.Fixpoint.{setAt}
+use Rattle.grammar.specs.Automaton.LeastLaws.{below-suc}
+use Rattle.grammar.specs.Automaton.FirstSets.{setsOf}
+use Rattle.grammar.specs.Automaton.FirstSetsLaws.{sets-right}
+use Rattle.grammar.specs.Automaton.Items.{kernel-item, Closure}
+use Rattle.grammar.specs.Automaton.KernelLines.{in-state}
+use Rattle.grammar.specs.Automaton.ClosureSets.{closureSets}
+use Rattle.grammar.specs.Automaton.ClosureLaws.{Shape, closure-shape, closure-family}
+use Rattle.grammar.specs.Automaton.Small.{SmallBook}
+use Rattle.grammar.specs.Formulas.Passes.{passes-keep}
+use Rattle.grammar.specs.Formulas.FormulaCheck as grammar
+use Rattle.grammar.specs.Formulas.FormulaCheck.{Progress, dotOf, lineAt, advance, fresh, unsplit, visit, ended, check}
+use Rattle.book.specs.Held.{noKernel, kernelAt}
+use Rattle.automaton.specs.StatesIn.{ItemsIn, Range, state-range}
+use Rattle.attributes.specs.Checking.{CheckHeld}
+use Rattle.attributes.specs.CheckingLaws.{rule-low, position-high, position-word, left-word, left-below, place-is}
+use Rattle.attributes.specs.Skips.{visit-absent}
+
+-- every bit of a word
+abbrev full : ℕ
+full = 4294967295
+
+-- The places of the definitions
+
+-- those of the first n
+pub record PlacesIn (b : Book) (n : ℕ) (places : List ℕ) : Type 0 where
+  pub long : length places ≡ 608
+  pub item-is : (d : ℕ) → d < n → getD places (9 * lineAt b d .rule + dotOf (lineAt b d)) 0 ≡ full
+  pub front-is : (d : ℕ) → d < n → dotOf (lineAt b d) ≡ 0 → getD places (576 + leftOf (b .rules) (lineAt b d .rule)) 0 ≡ full
+
+full-stays : (places : List ℕ) (k j : ℕ) → k < length places → getD places j 0 ≡ full → getD (set places k full) j 0 ≡ full
+full-stays places k j h e = by (ℕ-discrete j k)
+  where
+    by : Dec (j ≡ k) → getD (set places k full) j 0 ≡ full
+    by (yes p) = rw p (getD-set-same places k full 0 h)
+    by (no n) = getD-set-other places k j full 0 n ∙ e
+
+pub places-none : (b : Book) {places : List ℕ} → places ≡ replicate 608 0 → PlacesIn b 0 places
+places-none b e = record {
+  long = ap (length {A = ℕ}) e ∙ length-replicate {A = ℕ} 608 0;
+  item-is = λ d l. absurd (omega arith);
+  front-is = λ d l. absurd (omega arith);
+}
+
+-- one definition more
+places-more : (b : Book) (d : ℕ) {places more : List ℕ} → PlacesIn b d places → length more ≡ 608
+    → ((j : ℕ) → getD places j 0 ≡ full → getD more j 0 ≡ full) → getD more (9 * lineAt b d .rule + dotOf (lineAt b d)) 0 ≡ full
+    → (dotOf (lineAt b d) ≡ 0 → getD more (576 + leftOf (b .rules) (lineAt b d .rule)) 0 ≡ full) → PlacesIn b (d + 1) more
+places-more b d {more = more} L long keep item front = record {
+  long = long;
+  item-is = λ e l.
+      below-suc (λ n. getD more (9 * lineAt b n .rule + dotOf (lineAt b n)) 0 ≡ full) d e (omega arith) (λ h. keep _ (L .item-is e h)) item;
+  front-is = λ e l.
+      below-suc (λ n. dotOf (lineAt b n) ≡ 0 → getD more (576 + leftOf (b .rules) (lineAt b n .rule)) 0 ≡ full) d e (omega arith)
+      (λ h z. keep _ (L .front-is e h z)) front;
+}
+
+-- by the words that were read
+module _ {b : Book} {definitions rules owned masks : List ℕ} (H : CheckHeld b definitions rules owned masks) {d : ℕ} (l : d < grammar.definitions b)
+    (places : List ℕ) (L : PlacesIn b d places) {rule position : ℕ} (r : rule ≡ getD definitions (49 * d) 0) (p : position ≡ getD definitions (49 * d + 1) 0)
+  where
+    abbrev item : ℕ
+    item = 9 * rule + position - 1
+
+    abbrev first : List ℕ
+    first = set places item full
+
+    there : item < length places
+    there = omega (arith, r, p, rule-low H l, position-high H l, L .long)
+
+    long : length first ≡ 608
+    long = length-set places item full ∙ L .long
+
+    here : getD first (9 * lineAt b d .rule + dotOf (lineAt b d)) 0 ≡ full
+    here = rw (place-is H l r p) (getD-set-same places item full 0 there)
+
+    pub places-behind : (position ≡ 1 → ⊥) → PlacesIn b (d + 1) first
+    places-behind n =
+        places-more b d L long (λ j. full-stays places item j there) here
+        (λ z. absurd (n (omega (arith, p, position-word H l, H .line-in d l .position-low))))
+
+    pub places-front : {left : ℕ} → left ≡ getD rules (10 * rule) 0 → PlacesIn b (d + 1) (set first (576 + left) full)
+    places-front {left} q =
+        let is : left ≡ leftOf (b .rules) (lineAt b d .rule) = q ∙ ap (λ (P : ℕ). getD rules (10 * P) 0) r ∙ left-word H l in
+        let low : 576 + left < length first = omega (arith, long, is, left-word H l, left-below H l) in
+        places-more b d L (length-set first (576 + left) full ∙ long)
+        (λ j e. full-stays first (576 + left) j low (full-stays places item j there e))
+        (full-stays first (576 + left) _ low here)
+        (λ z. rw (← is) (getD-set-same first (576 + left) full 0 low))
+
+-- What the test looks at
+
+-- the first n of a closure's words have nothing where a definition is of a first symbol
+pub record FrontFree (closures : List ℕ) (first : ℕ) (places : List ℕ) (n : ℕ) : Type 0 where
+  pub free : (A : ℕ) → A < n → bitAnd (getD closures (first + A) 0) (getD places (576 + A) 0) ≡ 0
+
+module _ {closures : List ℕ} {first : ℕ} {places : List ℕ} where
+  pub front-none : FrontFree closures first places 0
+  front-none = record { free = λ A l. absurd (omega arith) }
+
+  -- the bits of one more word are gathered
+  pub front-more : {n bits : ℕ} → (bits ≡ 0 → FrontFree closures first places n)
+      → bitOr bits (bitAnd (getD closures (first + n) 0) (getD places (576 + n) 0)) ≡ 0 → FrontFree closures first places (n + 1)
+  front-more {n} {bits} before e =
+      let w : ℕ = bitAnd (getD closures (first + n) 0) (getD places (576 + n) 0) in
+      let earlier = before (omega (arith, or-add-and bits w, and-le-r bits w)) in
+      record {
+        free = λ A l.
+            below-suc (λ k. bitAnd (getD closures (first + k) 0) (getD places (576 + k) 0) ≡ 0) n A (omega arith) (earlier .free A)
+            (omega (arith, or-add-and bits w, and-le-l bits w));
+      }
+
+  pub front-all : {n : ℕ} → FrontFree closures first places n → 32 ≤ n → FrontFree closures first places 32
+  front-all F h = record { free = λ A l. F .free A (omega arith) }
+
+-- the kernel lines from one up to another are of items without definitions
+pub record LinesFree (kernels : List ℕ) (first last : ℕ) (places : List ℕ) : Type 0 where
+  pub free : (i : ℕ) → first ≤ i → i < last → getD places (9 * getD kernels (5 * i + 1) 0 + getD kernels (5 * i + 2) 0) 0 ≡ 0
+
+module _ {kernels : List ℕ} {first : ℕ} {places : List ℕ} where
+  pub lines-none : LinesFree kernels first first places
+  lines-none = record { free = λ i l h. absurd (omega arith) }
+
+  pub lines-more : {i : ℕ} → LinesFree kernels first i places → getD places (9 * getD kernels (5 * i + 1) 0 + getD kernels (5 * i + 2) 0) 0 ≡ 0
+      → LinesFree kernels first (i + 1) places
+  lines-more {i} F e = record {
+    free = λ j l h.
+        below-suc (λ n. getD places (9 * getD kernels (5 * n + 1) 0 + getD kernels (5 * n + 2) 0) 0 ≡ 0) i j (omega arith) (F .free j l) e;
+  }
+
+  pub lines-all : {i last : ℕ} → LinesFree kernels first i places → last ≤ i → LinesFree kernels first last places
+  lines-all F h = record { free = λ j l k. F .free j l (omega arith) }
+
+-- The closure of a state
+
+-- no item of it is that of a definition
+abbrev pub Idle : Book → ℕ → Type 0
+Idle b S = (d a : ℕ) → d < grammar.definitions b → Closure b S (lineAt b d .rule) (dotOf (lineAt b d)) a → ⊥
+
+member-at : {A : Type 0} (l : List A) (x : A) {y : A} → Mem y l → (i : ℕ) × (i < length l) × (getD l i x ≡ y)
+member-at (z ∷ l) x (in-head e) = (0, omega arith, sym e)
+member-at (z ∷ l) x (in-tail m) = let (i, h, e) = member-at l x m in (suc i, omega arith, e)
+
+module _ {b : Book} {rules kernels starts closures places : List ℕ} (ordered : Ordered b) (I : ItemsIn b (setsOf (b .rules)) rules kernels starts closures)
+    (L : PlacesIn b (grammar.definitions b) places) {S first last : ℕ} (s : S < b .states) (first-is : first ≡ getD starts S 0)
+    (last-is : last ≡ getD starts (S + 1) 0) where
+  small : SmallBook b
+  small = small-book ordered (I .states-in .grammar-in .limits) (I .states-in .grammar-in .declared)
+
+  range : Range b S first last
+  range = rw (first-is, last-is) (state-range (I .states-in) S s)
+
+  module _ (d : ℕ) (l : d < grammar.definitions b) where
+    abbrev P : ℕ
+    P = lineAt b d .rule
+
+    abbrev D : ℕ
+    D = dotOf (lineAt b d)
+
+    line-free : LinesFree kernels first last places → {k : Kernel} → Mem k (b .kernels) → k .state ≡ S → k .rule ≡ P → k .dot ≡ D → ⊥
+    line-free K {k} m of-state rule dot =
+        let part : Mem k (slice first last (b .kernels)) = rw (range .lines-are) at (in-state m of-state) in
+        let (j, h, e) = member-at (slice first last (b .kernels)) noKernel part in
+        let below : first + j < last = omega (arith, h, length-slice first last (b .kernels) (range .within)) in
+        let is : kernelAt (b .kernels) (first + j) ≡ k =
+        sym (getD-take last (b .kernels) (first + j) noKernel below) ∙ sym (getD-drop first (take last (b .kernels)) j noKernel) ∙ e in
+        let inside : first + j < length (b .kernels) = omega (arith, range .within) in
+        let words = I .states-in .kernels-in in
+        let rule-word : getD kernels (5 * (first + j) + 1) 0 ≡ P = words .rule-is (first + j) inside ∙ ap (λ (x : Kernel). x .rule) is ∙ rule in
+        let dot-word : getD kernels (5 * (first + j) + 2) 0 ≡ D = words .dot-is (first + j) inside ∙ ap (λ (x : Kernel). x .dot) is ∙ dot in
+        let none : getD places (9 * P + D) 0 ≡ 0 = rw (rule-word, dot-word) at (K .free (first + j) (omega arith) below) in
+        omega (arith, none, L .item-is d l)
+
+    rule-free : FrontFree closures (32 * S) places 32 → D ≡ 0 → P < length (b .rules) → (a : ℕ)
+        → bit (setAt (closureSets b (setsOf (b .rules)) S) (leftOf (b .rules) P)) a ≡ true → ⊥
+    rule-free F z h a e =
+        let A : ℕ = leftOf (b .rules) P in
+        let w : ℕ = setAt (closureSets b (setsOf (b .rules)) S) A in
+        let low : A < 32 = small .small-rules .left-low P h in
+        let fits : w < 2 ^ 32 = closure-family small (sets-right (b .rules) (small .small-rules)) S .low A in
+        let none : bitAnd w full ≡ 0 = rw (I .closures-in .set-is S A s low, L .front-is d l z) at (F .free A low) in
+        some-not-none w a e (omega (arith, fits, none, and-mask w 32))
+
+  pub idle-state : FrontFree closures (32 * S) places 32 → LinesFree kernels first last places → Idle b S
+  idle-state F K d a l c = by (closure-shape small (sets-right (b .rules) (small .small-rules)) c)
+    where
+      by : Shape b (setsOf (b .rules)) S (lineAt b d .rule) (dotOf (lineAt b d)) a → ⊥
+      by (inl (kernel-item m q r t u)) = line-free d l K m q r t
+      by (inr (z, h, e)) = rule-free d l F z h a e
+
+-- no definition is visited in the check of its partial states
+pub check-idle : (b : Book) (member : ℕ → ℕ → Bool) → ((d : ℕ) → d < grammar.definitions b → member (lineAt b d .rule) (dotOf (lineAt b d)) ≡ false)
+    → check b member ≡ true
+unfolding check ended unsplit
+check-idle b member none =
+    ap unsplit
+    (passes-keep (visit b member) (λ (s : Progress). s ≡ fresh) advance (grammar.definitions b)
+    (λ d l s e. visit-absent b member d (none d l) s ∙ e) fresh refl)

@@ -2,7 +2,7 @@
 // A contract asks that the arrays hold some book, and says what it says of every book that they hold.
 ghost use mathlib.Core.Path.{_≡_};
 ghost use mathlib.Core.List.{List};
-ghost use Prim.Native.Nat.{ℕ, _≤_};
+ghost use Prim.Native.Nat.{ℕ, _*_, _≤_};
 ghost use lib.ListN.{length};
 ghost use Rattle.text.specs.Reading.{Lent};
 ghost use Rattle.grammar.specs.Limits.{MAX-INHERITED};
@@ -11,6 +11,7 @@ ghost use Rattle.book.specs.Expressions.{MAX-WAITING};
 ghost use Rattle.book.specs.Held.{OwnersIn};
 ghost use Rattle.book.specs.Spelling.{arrays, Roomy};
 ghost use Rattle.conditions.specs.Answers.{Some};
+ghost use Rattle.formulas.specs.Table.{ROOM};
 ghost use Rattle.attributes.specs.OneFormula.{FormulasHeld, formulasRight};
 ghost use Rattle.compiler.specs.States.{TablesRoom};
 ghost use Rattle.compiler.specs.Conditions.{BookKept, conditionsRefusal};
@@ -118,7 +119,7 @@ fn prepare(
     )
 }
 
-// Whether each attribute has one formula in every partial state (10).
+// Whether each attribute has one formula in every partial state (10). `room` is for the nodes of formulas, whatever it holds.
 fn formulas_right(
     book: Book,
     inherited: &[u32],
@@ -129,16 +130,17 @@ fn formulas_right(
     lookaheads: &[u32],
     vanishes: &[u32],
     reached: &[u32],
+    room: &mut [u32],
 ) -> bool
     requires { ⌜ ((b : Lines) × (begins : List ℕ) × FormulasHeld b (now rules) (book .rules) (now definitions) (book .«inherited_definitions») (now kernels)
         (now starts) (now lookaheads) (now vanishes) begins (now reached) (book .terminals) (book .states)
         × OwnersIn MAX-INHERITED (b .inheritedOwners) (now inherited) × (book .inherited ≡ length (b .inheritedOwners))) ⌝ }
+    requires { ⌜ length (now room) ≡ 4 * ROOM ⌝ }
     ensures { λ r. ⌜ ((b : Lines) (begins : List ℕ) → FormulasHeld b (now (rules .entry)) (book .rules) (now (definitions .entry))
         (book .«inherited_definitions») (now (kernels .entry)) (now (starts .entry)) (now (lookaheads .entry)) (now (vanishes .entry)) begins
         (now (reached .entry)) (book .terminals) (book .states)
         → OwnersIn MAX-INHERITED (b .inheritedOwners) (now (inherited .entry)) → book .inherited ≡ length (b .inheritedOwners) → r ≡ formulasRight b) ⌝ }
 {
-    let mut nodes = [0u32; 7680];
     let mut nexts = [0u32; 1920];
     one_formula(
         inherited,
@@ -154,12 +156,12 @@ fn formulas_right(
         reached,
         book.terminals,
         book.states,
-        &mut nodes,
+        room,
         &mut nexts,
     )
 }
 
-// Fills the tables of a book, up to the first of 3 to 10 that applies; that, or 0.
+// Fills the tables of a book, up to the first of 3 to 10 that applies; that, or 0. `room` is for the nodes of formulas.
 fn check(
     book: Book,
     inherited: &[u32],
@@ -175,9 +177,11 @@ fn check(
     lookaheads: &mut [u32],
     table: &mut [u8],
     cells: &mut [u8],
+    room: &mut [u32],
 ) -> u32
     requires { ⌜ Some (BookKept book (now inherited) (now synthesized) (now rules) (now definitions) (now kernels) (now goes)) ⌝ }
     requires { ⌜ TablesRoom (now vanishes) (now begins) (now reached) (now starts) (now lookaheads) (now table) (now cells) ⌝ }
+    requires { ⌜ length (now room) ≡ 4 * ROOM ⌝ }
     ensures { λ r. ⌜ ((b : Lines) → BookKept book (now (inherited .entry)) (now (synthesized .entry)) (now (rules .entry)) (now (definitions .entry))
         (now (kernels .entry)) (now (goes .entry)) b
         → Checked r book (now (inherited .entry)) (now (synthesized .entry)) (now (rules .entry)) (now (definitions .entry)) (now (kernels .entry))
@@ -213,6 +217,7 @@ fn check(
         lookaheads,
         vanishes,
         reached,
+        room,
     ) {
         return 0;
     }
@@ -226,6 +231,7 @@ pub struct Compiled {
 }
 
 // Reads a text into the arrays of its lines and fills the tables, up to the first of 2 to 10 that applies.
+// `waits` and `room` are room, whatever they hold: for what waits in an expression, and for the nodes of formulas.
 pub fn compile(
     t: &[u8; 256],
     text: &[u8],
@@ -243,10 +249,12 @@ pub fn compile(
     lookaheads: &mut [u32],
     table: &mut [u8],
     cells: &mut [u8],
+    room: &mut [u32],
 ) -> Compiled
     requires { ⌜ Lent (now t) (now text) × (MAX-WAITING ≤ length (now waits))
         × Roomy (arrays (now inherited) (now synthesized) (now rules) (now definitions) (now kernels) (now goes)) ⌝ }
     requires { ⌜ TablesRoom (now vanishes) (now begins) (now reached) (now starts) (now lookaheads) (now table) (now cells) ⌝ }
+    requires { ⌜ length (now room) ≡ 4 * ROOM ⌝ }
     ensures { λ r. ⌜ Compiles (now (text .entry)) (r .refusal) (r .book) (now (inherited .exit)) (now (synthesized .exit)) (now (rules .exit))
         (now (definitions .exit)) (now (kernels .exit)) (now (goes .exit)) (now (vanishes .exit)) (now (begins .exit)) (now (reached .exit))
         (now (starts .exit)) (now (lookaheads .exit)) (now (table .exit)) (now (cells .exit)) ⌝ }
@@ -281,6 +289,7 @@ pub fn compile(
         lookaheads,
         table,
         cells,
+        room,
     );
     Compiled { refusal, book }
 }

@@ -57,12 +57,12 @@ module _ {numbers : Book} {inherited synthesized rules definitions kernels goes 
   plans-of l = plans-none b refl l (h .ready .conditions-met .limits .states-limit .high)
 
 -- the stacks as they are before the first move
-pub run-room : {rows : List ℕ} → rows ≡ replicate PAGE-WORDS 0
-    → Rooms (replicate 129 0) (replicate 2064 0) (replicate 4224 0) (replicate 128 0) rows (replicate 576 0)
-run-room e = record {
+pub run-room : {records rows : List ℕ} → rows ≡ replicate PAGE-WORDS 0 → length records ≡ 4224
+    → Rooms (replicate 129 0) (replicate 2064 0) records (replicate 128 0) rows (replicate 576 0)
+run-room e l = record {
   stacks = record {
     states-long = zeros 129;
-    synthesized-long = zeros 4224;
+    synthesized-long = l;
     starts-long = zeros 128;
     rows-long = ap length e ∙ zeros PAGE-WORDS;
   };

@@ -44,7 +44,7 @@ fn asked(tokens: &[u32], terminals: u32, lent: usize) -> u32
     0
 }
 
-// Runs the machine over a book that is taken and the tokens of a message.
+// Runs the machine over a book that is taken and the tokens of a message. `lists` and `records` are room, whatever they hold.
 fn message(
     book: Book,
     inherited: &[u32],
@@ -61,12 +61,14 @@ fn message(
     table: &[u8],
     actions: &[u8],
     lists: &mut [u8],
+    records: &mut [u32],
     tokens: &[u32],
     rows: &mut [u32],
 ) -> Outcome
     requires { ⌜ Some (TakenBook book (now inherited) (now synthesized) (now rules) (now definitions) (now kernels) (now goes) (now vanishes) (now begins)
         (now reached) (now starts) (now lookaheads) (now table) (now actions)) ⌝ }
-    requires { ⌜ Message (book .terminals) (now tokens) × (now rows ≡ replicate PAGE-WORDS 0) × (length (now lists) ≡ MAX-TEXT) ⌝ }
+    requires { ⌜ Message (book .terminals) (now tokens) × (now rows ≡ replicate PAGE-WORDS 0) × (length (now lists) ≡ MAX-TEXT)
+        × (length (now records) ≡ 4224) ⌝ }
     ensures { λ r. ⌜ ((b : Lines) → TakenBook book (now (inherited .entry)) (now (synthesized .entry)) (now (rules .entry)) (now (definitions .entry))
         (now (kernels .entry)) (now (goes .entry)) (now (vanishes .entry)) (now (begins .entry)) (now (reached .entry)) (now (starts .entry))
         (now (lookaheads .entry)) (now (table .entry)) (now (actions .entry)) b
@@ -91,7 +93,6 @@ fn message(
     let mut counts = [0u8; 4096];
     let mut states = [0u32; 129];
     let mut cells = [0u32; 2064];
-    let mut records = [0u32; 4224];
     let mut bounds = [0u32; 128];
     run(
         rules,
@@ -115,7 +116,7 @@ fn message(
         lists,
         &mut states,
         &mut cells,
-        &mut records,
+        records,
         &mut bounds,
         rows,
     )
@@ -146,6 +147,7 @@ fn number(words: &[u32], tokens: &[u32], rows: &mut [u32], count: &mut u32) -> u
     let mut lookaheads = [0u32; 4096];
     let mut table = [0u8; 8192];
     let mut cells = [0u8; 4096];
+    let mut room = [0u32; 7680];
     let n = found.count;
     let compiled = compile(
         &t,
@@ -164,6 +166,7 @@ fn number(words: &[u32], tokens: &[u32], rows: &mut [u32], count: &mut u32) -> u
         &mut lookaheads,
         &mut table,
         &mut cells,
+        &mut room,
     );
     if compiled.refusal != 0 {
         return 11;
@@ -190,6 +193,7 @@ fn number(words: &[u32], tokens: &[u32], rows: &mut [u32], count: &mut u32) -> u
         &table,
         &cells,
         &mut text,
+        &mut room[..4224],
         tokens,
         rows,
     );

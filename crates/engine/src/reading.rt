@@ -2,7 +2,7 @@
 ghost use mathlib.Core.Path.{_≡_};
 ghost use Prim.Native.Nat.{_≤_};
 ghost use lib.ListN.{length};
-ghost use Rattle.grammar.specs.Limits.{MAX-TEXT};
+ghost use Rattle.grammar.specs.Limits.{MAX-TEXT, BOOK-WORDS};
 ghost use Rattle.grammar.specs.Refusal.{refusal};
 ghost use Rattle.grammar.specs.Engine.{readBook};
 ghost use Rattle.engine.specs.Readings.{Reads, readNumber};
@@ -12,9 +12,9 @@ use packing::packing::clear;
 use packing::packing::pack;
 use text::classes;
 
-// The first of 2 to 10 that applies to a text, or 0. The book's arrays and tables are not looked at again.
-fn refusal(text: &[u8]) -> u32
-    requires { ⌜ length (now text) ≤ MAX-TEXT ⌝ }
+// The first of 2 to 10 that applies to a text, or 0. The book's arrays and tables are not looked at again; the words are room.
+fn refusal(text: &[u8], words: &mut [u32]) -> u32
+    requires { ⌜ (length (now text) ≤ MAX-TEXT) × (length (now words) ≡ BOOK-WORDS) ⌝ }
     ensures { λ r. ⌜ r ≡ refusal (now (text .entry)) ⌝ }
 {
     let t = classes();
@@ -49,28 +49,29 @@ fn refusal(text: &[u8]) -> u32
         &mut lookaheads,
         &mut table,
         &mut cells,
+        &mut words[..7680],
     );
     compiled.refusal
 }
 
-// 1 for the lengths, else the number of the text.
-fn number(text: &[u8], lent: usize) -> u32
-    ensures { λ r. ⌜ r ≡ readNumber (now (text .entry)) lent ⌝ }
+// 1 for the lengths, else the number of the text. What is in the words afterwards is not said.
+fn number(text: &[u8], words: &mut [u32]) -> u32
+    ensures { λ r. ⌜ r ≡ readNumber (now (text .entry)) (length (now (words .entry))) ⌝ }
 {
     if Book::MAX_TEXT < text.len() {
         return 1;
     }
-    if lent != Book::BOOK_WORDS {
+    if words.len() != Book::BOOK_WORDS {
         return 1;
     }
-    refusal(text)
+    refusal(text, words)
 }
 
 // 0 where the text is taken, and its packing in the words; else the refusal, and zeros.
 pub fn read(text: &[u8], words: &mut [u32]) -> u32
     ensures { λ r. ⌜ Reads (readBook (now (text .entry)) (length (now (words .entry)))) r (now (words .exit)) ⌝ }
 {
-    let n = number(text, words.len());
+    let n = number(text, words);
     if n == 0 {
         pack(text, words);
         return 0;

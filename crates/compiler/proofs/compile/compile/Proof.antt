@@ -7,11 +7,11 @@ use Rattle.compiler.proofs.compile.compile.Tie as tie
 
 -- from each call back to the one before
 
-abbrev lent-at : tie.After-spelling → tie.After-slice-known14
+abbrev lent-at : tie.After-spelling → tie.After-slice-known15
 lent-at c = c .before .before .before .before .before .before .before .before
 
 abbrev start : tie.After-spelling → tie.Start
-start c = lent-at c .before .before .before .before .before .before .before .before .before .before .before .before .before .before .before
+start c = lent-at c .before .before .before .before .before .before .before .before .before .before .before .before .before .before .before .before
 
 abbrev read-of : tie.After-struct-known → tie.After-spelling
 read-of c = c .before .before .before .before .before .before .before .before .before .before .before .before .before .before .before .before
@@ -20,10 +20,10 @@ abbrev spelling-at : tie.Else1 → tie.After-spelling
 spelling-at c = read-of (c .before)
 
 abbrev read-at : tie.After-check → tie.Else1
-read-at c = c .before .before .before .before .before .before .before .before .before .before .before .before .before .before
+read-at c = c .before .before .before .before .before .before .before .before .before .before .before .before .before .before .before
 
-abbrev check-at : tie.After-slice-known28 → tie.After-check
-check-at c = c .before .before .before .before .before .before .before .before .before .before .before .before .before .before
+abbrev check-at : tie.After-slice-known30 → tie.After-check
+check-at c = c .before .before .before .before .before .before .before .before .before .before .before .before .before .before .before .before
 
 spelling-requires : tie.Need-spelling-requires
 spelling-requires c κs = search needs
@@ -53,7 +53,7 @@ returns : tie.Need-returns
 returns c = compiles-misspelt (read-of (c .before) .spelling .ensures) (not-true _ (c .if1 .taken))
 
 check-requires : tie.Need-check-requires
-check-requires c κs = let e = c .before .before .before .before .before .before .before .before .before .before .before .before .before in
+check-requires c κs = let e = c .before .before .before .before .before .before .before .before .before .before .before .before .before .before in
     let s = spelling-at e in
     (read-some (s .spelling .ensures) (start s .pre .0 .2) (not-false _ (e .if1 .left)), start s .pre .1)
 
@@ -70,7 +70,7 @@ same-length-11 : tie.Need-same-length-11
 same-length-11 c = spelling-at (read-at (check-at c)) .spelling .kept .1 .1 .1 .1 .1 .0
 
 same-length-12 : tie.Need-same-length-12
-same-length-12 c = search needs
+same-length-12 c = spelling-at (read-at (check-at c)) .spelling .kept .1 .1 .1 .1 .1 .1 .0
 
 same-length-13 : tie.Need-same-length-13
 same-length-13 c = search needs
@@ -98,6 +98,9 @@ same-length-20 c = search needs
 
 same-length-21 : tie.Need-same-length-21
 same-length-21 c = search needs
+
+same-length-22 : tie.Need-same-length-22
+same-length-22 c = search needs
 
 returns-2 : tie.Need-returns-2
 returns-2 c = let k = check-at c in
@@ -133,4 +136,5 @@ compile-spec =
     same-length-19
     same-length-20
     same-length-21
+    same-length-22
     returns-2)

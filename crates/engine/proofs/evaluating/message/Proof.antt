@@ -9,9 +9,9 @@ use Rattle.engine.proofs.evaluating.message.Tie as tie
 -- from each call back to the entry
 
 abbrev sides-start : tie.After-up → tie.Start
-sides-start c = c .before .before .before .before .before .before .before .before .before .before .before .before .before .before .before .before .before .before .before .before
+sides-start c = c .before .before .before .before .before .before .before .before .before .before .before .before .before .before .before .before .before .before .before .before .before
 
-abbrev sides-at : tie.After-run-arg2 → tie.After-fill-sides
+abbrev sides-at : tie.After-run-arg3 → tie.After-fill-sides
 sides-at c = c .before .before .before .before .before .before .before .before .before .before .before .before .before .before .before .before
 
 slice-aggregate-fill-sides : tie.Need-slice-aggregate-fill-sides
@@ -57,15 +57,12 @@ slice-aggregate-run-8 c = search needs
 slice-aggregate-run-9 : tie.Need-slice-aggregate-run-9
 slice-aggregate-run-9 c = search needs
 
-slice-aggregate-run-10 : tie.Need-slice-aggregate-run-10
-slice-aggregate-run-10 c = search needs
-
 run-requires : tie.Need-run-requires
 run-requires c κs = let o = sides-at c in
     let s = sides-start (o .before) in
     let t = s .pre .0 .1 in
     let m = s .pre .1 .0 in (
-      (run-room (s .pre .1 .1), s .pre .1 .1),
+      (run-room (s .pre .1 .1) (s .pre .1 .3), s .pre .1 .1),
       (
         s .pre .0 .0,
         m .list,
@@ -81,8 +78,11 @@ same-length c = search needs
 same-length-2 : tie.Need-same-length-2
 same-length-2 c = search needs
 
+same-length-3 : tie.Need-same-length-3
+same-length-3 c = search needs
+
 returns : tie.Need-returns
-returns c = λ b t m. let k = c .before .before .before .before .before .before .before .before .before .before in
+returns c = λ b t m. let k = c .before .before .before .before .before .before .before .before .before .before .before in
     let o = sides-at (k .before) in
     k .run .ensures b (m .list) (run-in t (o .fill-sides .ensures b (asked-sides (t .ready))) (m .tokens-are)) (tokens-of t m)
     (plans-of t (sides-start (o .before) .pre .1 .2))
@@ -105,8 +105,8 @@ message-spec =
     slice-aggregate-run-7
     slice-aggregate-run-8
     slice-aggregate-run-9
-    slice-aggregate-run-10
     run-requires
     same-length
     same-length-2
+    same-length-3
     returns)

@@ -1,11 +1,11 @@
 -- `evaluating::number` meets its contract: the book is asked first, then the message; then the machine runs. Assumes nothing.
 use Prim.Native.Nat.{_≤_}
-use mathlib.Core.Path.{sym, ap, _∙_}
+use mathlib.Core.Path.{_≡_, sym, ap, _∙_}
 use native.Mathlib.Omega.{arith}
 use lib.ListN.{length, take, length-take, replicate}
 use borrow.Author.Tests.{not-true, not-false}
 use Rattle.grammar.specs.Limits.{MAX-TEXT}
-use Rattle.engine.specs.Rooms.{waits-room, lines-room, tables-room}
+use Rattle.engine.specs.Rooms.{zeros, records-room, waits-room, lines-room, tables-room}
 use Rattle.conditions.specs.AskedLaws.{counted}
 use Rattle.engine.specs.Stored.{unfilled, found-none, found-book}
 use Rattle.engine.specs.Evaluations.{answers-none, answers-asked, answers-run}
@@ -25,16 +25,21 @@ abbrev found-at : tie.After-text3 → tie.Else1
 found-at c = classes-at c .before
 
 abbrev lent-at : tie.After-compile → tie.After-text3
-lent-at c = c .before .before .before .before .before .before .before .before .before .before .before .before .before .before .before
+lent-at c = c .before .before .before .before .before .before .before .before .before .before .before .before .before .before .before .before
 
 abbrev compile-at : tie.Else2 → tie.After-compile
-compile-at c = c .before .before .before .before .before .before .before .before .before .before .before .before .before .before .before .before
+compile-at c = c .before .before .before .before .before .before .before .before .before .before .before .before .before .before .before .before .before
 
 abbrev book-at : tie.Else3 → tie.Else2
 book-at c = c .before .before .before
 
 abbrev clear-at : tie.After-cells3 → tie.After-clear
 clear-at c = c .before .before .before .before .before .before .before .before .before .before .before .before .before .before .before
+
+-- the room after compiling
+records-long : (k : tie.After-compile) → length (take 4224 (k .compile .last .1 .1 .1 .1 .1 .1 .1 .1 .1 .1 .1 .1 .1 .1 .1 .1 .0)) ≡ 4224
+records-long k =
+    records-room (k .compile .last .1 .1 .1 .1 .1 .1 .1 .1 .1 .1 .1 .1 .1 .1 .1 .1 .0) (k .compile .kept .1 .1 .1 .1 .1 .1 .1 .1 .1 .1 .1 .1 .1 .1 .1 .1 .0)
 
 slice-aggregate-text-in : tie.Need-slice-aggregate-text-in
 slice-aggregate-text-in c = search needs
@@ -97,15 +102,19 @@ slice-aggregate-compile-14 c = search needs
 slice-aggregate-compile-15 : tie.Need-slice-aggregate-compile-15
 slice-aggregate-compile-15 c = search needs
 
+slice-aggregate-compile-16 : tie.Need-slice-aggregate-compile-16
+slice-aggregate-compile-16 c = search needs
+
 compile-requires : tie.Need-compile-requires
-compile-requires c κs = let t = c .before .before .before .before .before .before .before .before .before .before .before .before .before .before in
+compile-requires c κs = let t = c .before .before .before .before .before .before .before .before .before .before .before .before .before .before .before in
     let f = text-at (found-at t) .text-in in
     let short : length (take (f .result .count) (f .last .1 .0)) ≤ MAX-TEXT =
     omega (arith, length-take (f .result .count) (f .last .1 .0), f .ensures .within) in
-    ((record { table-is = classes-at t .classes .ensures; short = short }, waits-room, lines-room), tables-room)
+    ((record { table-is = classes-at t .classes .ensures; short = short }, waits-room, lines-room), (tables-room, zeros 7680))
 
 returns-2 : tie.Need-returns-2
-returns-2 c = let k = c .before .before .before .before .before .before .before .before .before .before .before .before .before .before .before .before in
+returns-2 c =
+    let k = c .before .before .before .before .before .before .before .before .before .before .before .before .before .before .before .before .before in
     let e = found-at (lent-at k) in
     answers-none _ _ _ (found-none (text-at e .text-in .ensures) (not-false _ (e .if1 .left)) (k .compile .ensures) (c .if2 .taken))
 
@@ -165,8 +174,15 @@ slice-aggregate-message-14 : tie.Need-slice-aggregate-message-14
 slice-aggregate-message-14 c = let k = text-at (found-at (lent-at (compile-at (book-at (clear-at (c .before) .before .before))))) in
     sym (k .text-in .kept .1 .0)
 
+array-borrow-prefix-room : tie.Need-array-borrow-prefix-room
+array-borrow-prefix-room c = search needs
+
+slice-aggregate-message-15 : tie.Need-slice-aggregate-message-15
+slice-aggregate-message-15 c = let k = compile-at (book-at (clear-at (c .before .before) .before .before)) in
+    sym (records-long k)
+
 message-requires : tie.Need-message-requires
-message-requires c κs = let r = clear-at (c .before .before) in
+message-requires c κs = let r = clear-at (c .before .before .before) in
     let a = r .before .before in
     let f = book-at a in
     let k = compile-at f in
@@ -177,6 +193,7 @@ message-requires c κs = let r = clear-at (c .before .before) in
         a .before .asked .ensures .passed (a .if3 .left),
         r .clear .ensures ∙ ap (λ n. replicate n 0) (a .before .asked .ensures .all-rows (a .if3 .left)),
         text-at e .text-in .kept .1 .0,
+        records-long k,
       ),
     )
 
@@ -184,8 +201,8 @@ same-length : tie.Need-same-length
 same-length c = search needs
 
 returns-4 : tie.Need-returns-4
-returns-4 c = let m = c .before .before .before in
-    let r = clear-at (m .before .before .before) in
+returns-4 c = let m = c .before .before .before .before in
+    let r = clear-at (m .before .before .before .before) in
     let a = r .before .before in
     let f = book-at a in
     let k = compile-at f in
@@ -218,6 +235,7 @@ number-spec =
     slice-aggregate-compile-13
     slice-aggregate-compile-14
     slice-aggregate-compile-15
+    slice-aggregate-compile-16
     compile-requires
     returns-2
     asked-requires
@@ -237,6 +255,8 @@ number-spec =
     slice-aggregate-message-12
     slice-aggregate-message-13
     slice-aggregate-message-14
+    array-borrow-prefix-room
+    slice-aggregate-message-15
     message-requires
     same-length
     returns-4)

@@ -14,8 +14,14 @@ returns-2 c = sym (unfit-number _ _ (c .before .if1 .left) (c .if2 .taken))
 refusal-requires : tie.Need-refusal-requires
 refusal-requires c κs = search needs
 
+same-length : tie.Need-same-length
+same-length c = search needs
+
 returns-3 : tie.Need-returns-3
-returns-3 c = c .refusal .ensures ∙ sym (text-number _ _ (c .before .before .if1 .left) (c .before .if2 .left))
+returns-3 c = let k = c .before .before in
+    let e = k .before .before in
+    k .refusal .ensures ∙ sym (text-number _ _ (e .before .if1 .left) (e .if2 .left))
 
 pub number-spec : {M : Type 1} → statement M
-number-spec = tie.close (tie.spec returns returns-2 refusal-requires returns-3)
+number-spec =
+    tie.close (tie.spec returns returns-2 refusal-requires same-length returns-3)

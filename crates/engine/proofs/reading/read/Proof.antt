@@ -1,5 +1,9 @@
 -- `reading::read` meets its contract: the number says what is in the words. Assumes nothing.
-use Rattle.engine.specs.Readings.{read-taken, read-refused, taken-fits}
+use Prim.Native.Nat.{ℕ}
+use mathlib.Core.Path.{sym, ap, _∙_}
+use lib.ListN.{replicate}
+use Rattle.grammar.specs.Format.Packing.{pack}
+use Rattle.engine.specs.Readings.{readNumber, read-taken, read-refused, taken-fits}
 use borrow.Author.Needs.{needs}
 use Rattle.engine.proofs.reading.read.Statement.{statement}
 use Rattle.engine.proofs.reading.read.Tie as tie
@@ -8,7 +12,9 @@ number-requires : tie.Need-number-requires
 number-requires c κs = search needs
 
 pack-requires : tie.Need-pack-requires
-pack-requires c κs = taken-fits _ _ (c .before .before .number .ensures) (c .before .if1 .taken)
+pack-requires c κs = let t = c .before in
+    let n = t .before .before .before in
+    taken-fits _ _ (n .number .ensures ∙ ap (readNumber _) (sym (n .number .kept .1 .0))) (t .if1 .taken)
 
 same-length : tie.Need-same-length
 same-length c = search needs
@@ -16,7 +22,9 @@ same-length c = search needs
 returns : tie.Need-returns
 returns c = let k = c .before .before in
     let t = k .before .before in
-    read-taken _ _ (t .before .number .ensures) (t .if1 .taken) (k .pack .ensures)
+    let n = t .before .before .before in
+    let text = n .before .before .before .before .args .text .now in
+    read-taken _ _ (n .number .ensures) (t .if1 .taken) (k .pack .ensures ∙ ap (λ (m : ℕ). pack m text) (n .number .kept .1 .0))
 
 clear-requires : tie.Need-clear-requires
 clear-requires c κs = search needs
@@ -27,7 +35,8 @@ same-length-2 c = search needs
 returns-2 : tie.Need-returns-2
 returns-2 c = let k = c .before .before in
     let e = k .before .before in
-    read-refused _ _ (e .before .number .ensures) (e .if1 .left) (k .clear .ensures)
+    let n = e .before .before .before in
+    read-refused _ _ (n .number .ensures) (e .if1 .left) (k .clear .ensures ∙ ap (λ (m : ℕ). replicate m 0) (n .number .kept .1 .0))
 
 pub read-spec : {M : Type 1} → statement M
 read-spec =

@@ -1,8 +1,18 @@
 -- `reading::refusal` meets its contract: the arrays have room, and what is compiled tells the refusal. Assumes nothing.
-use Rattle.engine.specs.Rooms.{waits-room, lines-room, tables-room}
+use mathlib.Core.Path.{sym}
+use native.Mathlib.Omega.{arith}
+use Rattle.engine.specs.Rooms.{waits-room, lines-room, tables-room, formulas-room}
 use borrow.Author.Needs.{needs}
 use Rattle.engine.proofs.reading.refusal.Statement.{statement}
 use Rattle.engine.proofs.reading.refusal.Tie as tie
+
+-- from the last array back to the first, and to the entry
+
+abbrev lent-at : tie.After-cells → tie.After-t
+lent-at c = c .before .before .before .before .before .before .before .before .before .before .before .before .before .before
+
+abbrev start : tie.After-cells → tie.Start
+start c = lent-at c .before .before .before .before
 
 classes-requires : tie.Need-classes-requires
 classes-requires c κs = search needs
@@ -49,9 +59,21 @@ slice-aggregate-compile-13 c = search needs
 slice-aggregate-compile-14 : tie.Need-slice-aggregate-compile-14
 slice-aggregate-compile-14 c = search needs
 
+slice-relend-prefix-compile : tie.Need-slice-relend-prefix-compile
+slice-relend-prefix-compile c = omega (arith, start c .pre .1)
+
+slice-aggregate-compile-15 : tie.Need-slice-aggregate-compile-15
+slice-aggregate-compile-15 c = let s = start (c .before) in sym (formulas-room (s .args .words .now) (s .pre .1))
+
 compile-requires : tie.Need-compile-requires
-compile-requires c κs = let t = c .before .before .before .before .before .before .before .before .before .before .before .before .before .before in
-    ((record { table-is = t .before .classes .ensures; short = t .before .before .before .pre }, waits-room, lines-room), tables-room)
+compile-requires c κs = let t = lent-at (c .before) in
+    let s = start (c .before) in (
+      (record { table-is = t .before .classes .ensures; short = s .pre .0 }, waits-room, lines-room),
+      (tables-room, formulas-room (s .args .words .now) (s .pre .1)),
+    )
+
+same-length : tie.Need-same-length
+same-length c = search needs
 
 returns : tie.Need-returns
 returns c = search needs
@@ -75,5 +97,8 @@ refusal-spec =
     slice-aggregate-compile-12
     slice-aggregate-compile-13
     slice-aggregate-compile-14
+    slice-relend-prefix-compile
+    slice-aggregate-compile-15
     compile-requires
+    same-length
     returns)

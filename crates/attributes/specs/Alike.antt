@@ -1,18 +1,15 @@
 -- Terminals that the definitions' items do not tell apart: their partial states have one answer (`check-same` of the grammar). Assumes nothing.
-use Prim.Native.Nat.{ℕ, zero, suc, _+_, _*_, _-_, _/_, _%_, _^_, _<_}
+use Prim.Native.Nat.{ℕ, _+_, _*_, _-_, _<_}
 use native.Mathlib.Omega.{arith}
 use native.Mathlib.Decide.{ℕ-discrete}
 use mathlib.Core.Path.{_≡_, refl, sym, ap, _∙_}
 use mathlib.Core.Logic.{_⊎_, inl, inr}
 use mathlib.Core.Bool.{Bool, true, false, not}
 use mathlib.Core.List.{List}
-use lib.Bits.{bitXor, differ, xor-step, xor-shr}
-use lib.Dec.{eqb}
 use lib.ListN.{getD}
-use borrow.Author.Tests.{eqb-true, not-false}
-use Rattle.sets.specs.Sets.{bit, empty, collect, union}
+use borrow.Author.Tests.{not-false}
+use Rattle.sets.specs.Sets.{bit, empty, union}
 use Rattle.sets.specs.SetsLaws.{bit-empty, union-left, union-right, union-either}
-use Rattle.sets.specs.Bits.{bit-collect}
 use Rattle.grammar.specs.Automaton.TestLaws.{true-false}
 use Rattle.grammar.specs.Data.Book.{Book}
 use Rattle.grammar.specs.Formulas.FormulaCheck as grammar
@@ -20,31 +17,6 @@ use Rattle.grammar.specs.Formulas.FormulaCheck.{dotOf, lineAt, check}
 use Rattle.grammar.specs.Formulas.FormulaCheckAll.{SameItems, check-same}
 use Rattle.attributes.specs.Checking.{memberOf, CheckHeld}
 use Rattle.attributes.specs.CheckingLaws.{place-is}
-
--- The numbers below 32 that a set does not hold
-
-abbrev full : ℕ
-full = 4294967295
-
-pub bit-full : (i : ℕ) → i < 32 → bit full i ≡ true
-bit-full i h = ap (λ (s : ℕ). bit s i) all ∙ bit-collect (λ _. true) 32 i h
-  where
-    all : full ≡ collect 32 (λ _. true)
-    all = unfold collect in refl
-
-flip : (x z : ℕ) → x < 2 → eqb ((z * 2 + differ x 1) % 2) 1 ≡ not (eqb x 1)
-flip zero z h = let e : (z * 2 + 1) % 2 ≡ 1 = omega arith in ap (λ (n : ℕ). eqb n 1) e
-flip (suc zero) z h = let e : (z * 2 + 0) % 2 ≡ 0 = omega arith in ap (λ (n : ℕ). eqb n 1) e
-flip (suc (suc x)) z h = absurd (omega arith)
-
-pub bit-others : (s i : ℕ) → i < 32 → bit (bitXor s 4294967295) i ≡ not (bit s i)
-unfolding bit
-bit-others s i h =
-    let x : ℕ = s / 2 ^ i in
-    let y : ℕ = full / 2 ^ i in
-    let odd : y % 2 ≡ 1 = eqb-true (y % 2) 1 (bit-full i h) in
-    ap (λ (n : ℕ). eqb (n % 2) 1) (xor-shr s full i ∙ xor-step x y ∙ ap (λ (n : ℕ). bitXor (x / 2) (y / 2) * 2 + differ (x % 2) n) odd)
-    ∙ flip (x % 2) (bitXor (x / 2) (y / 2)) (omega arith)
 
 -- What tells terminals apart
 

@@ -11,13 +11,13 @@ use lib.Bits.{bitAnd, bitOr, or-add-and, and-le-l, and-le-r, and-mask}
 use lib.ListN.{length, getD, set, take, replicate, length-set, length-replicate}
 use lib.Seq.{getD-set-same, getD-set-other, slice, length-slice, getD-take, getD-drop}
 use Rattle.sets.specs.Sets.{bit}
+use Rattle.sets.specs.Bits.{below-suc}
 use Rattle.grammar.specs.Data.Symbol.{leftOf}
 use Rattle.grammar.specs.Data.Book.{Book, Kernel}
 use Rattle.grammar.specs.Format.Ordered.{Ordered}
 use Rattle.grammar.specs.BookFacts.{small-book}
 use Rattle.grammar.specs.Automaton.Members.{some-not-none}
 use Rattle.grammar.specs.Automaton.Fixpoint.{setAt}
-use Rattle.grammar.specs.Automaton.LeastLaws.{below-suc}
 use Rattle.grammar.specs.Automaton.FirstSets.{setsOf}
 use Rattle.grammar.specs.Automaton.FirstSetsLaws.{sets-right}
 use Rattle.grammar.specs.Automaton.Items.{kernel-item, Closure}

@@ -15,13 +15,13 @@ use lib.Seq.{getD-set-same, getD-set-other}
 use borrow.Author.Tests.{eq-eqb, ne-eqb, eqb-true, eqb-false}
 use Rattle.sets.specs.Sets.{bit, empty, with, subset}
 use Rattle.sets.specs.SetsLaws.{bit-empty, bit-with, with-keeps, with-self, subset-holds, subset-true}
+use Rattle.grammar.specs.Conditions.Decides.{decides-same}
 use Rattle.grammar.specs.Automaton.TestLaws.{true-false}
 use Rattle.grammar.specs.Data.Book.{ownerAt}
 use Rattle.grammar.specs.Formulas.Formula.{Formula}
 use Rattle.grammar.specs.Formulas.Slots.{Slots, slotAt, settledBelow}
 use Rattle.grammar.specs.Formulas.SlotsFill.{Filled}
 use Rattle.grammar.specs.Formulas.SlotsTests.{settledBelow-decides}
-use Rattle.grammar.specs.Formulas.FormulaCheckAll.{decides-same}
 
 -- the attributes below a number that A owns
 unfoldable pub ownedBelow : List ℕ → ℕ → ℕ → ℕ

@@ -1,7 +1,7 @@
 -- The sets of terminals of all items of a state (`coreItems` of the grammar), from a book in arrays. Assumes nothing.
 use Prim.Native.Nat.{ℕ, _+_, _*_, _<_, _≤_}
 use native.Mathlib.Omega.{arith}
-use mathlib.Core.Path.{_≡_, _∙_}
+use mathlib.Core.Path.{_≡_}
 use mathlib.Core.List.{List, [], _++_}
 use lib.ListN.{length, getD, replicate}
 use lib.Seq.{slice}
@@ -37,13 +37,14 @@ module _ {b : Book} {rules kernels starts closures nulls firsts reaches : List �
   pub item-lines : ItemLinesIn (b .rules) (b .kernels) kernels
   item-lines =
       let states = H .items-in .states-in in
+      let declared = states .grammar-in .declared in
       record {
         kernels-in = states .kernels-in;
         few-rules = states .grammar-in .rules-in .fits;
-        rule-there = λ i h. kernel-there states i h .rule-there;
-        dot-there = λ i h. kernel-there states i h .dot-there;
+        rule-there = λ i h. kernel-there declared i h .rule-there;
+        dot-there = λ i h. kernel-there declared i h .dot-there;
         short = λ i h.
-            omega (arith, kernel-there states i h .dot-there, right-length (states .grammar-in .limits) (kernelAt (b .kernels) i .rule));
+            omega (arith, kernel-there declared i h .dot-there, right-length (states .grammar-in .limits) (kernelAt (b .kernels) i .rule));
       }
 
   module _ {S : ℕ} (s : S < b .states) where

@@ -1,6 +1,6 @@
 -- A state's sets of terminals tell the items of its partial states (`Tells` of the grammar), within the words that items have; the definitions' items are
 -- all within. Assumes nothing.
-use Prim.Native.Nat.{ℕ, _-_, _<_, _≤_}
+use Prim.Native.Nat.{ℕ, _<_, _≤_}
 use native.Mathlib.Omega.{arith}
 use mathlib.Core.Path.{_≡_, refl, sym, _∙_}
 use mathlib.Core.Bool.{Bool, true, false}
@@ -8,7 +8,7 @@ use mathlib.Core.List.{List, List·Memᴰ as Mem}
 use lib.Dec.{ltb}
 use lib.ListN.{length}
 use borrow.Author.Tests.{ltb-true, ltb-false, lt-ltb}
-use Rattle.grammar.specs.Conditions.Decides.{Decides, false-decides}
+use Rattle.grammar.specs.Conditions.Decides.{Decides, decides-same, false-decides}
 use Rattle.grammar.specs.Data.Symbol.{rightOf}
 use Rattle.grammar.specs.Data.Book.{Book}
 use Rattle.grammar.specs.Format.Ordered.{Ordered}
@@ -20,9 +20,9 @@ use Rattle.grammar.specs.Automaton.ReachSets.{reachSets}
 use Rattle.grammar.specs.Automaton.CoreItems.{core, coreItems}
 use Rattle.grammar.specs.Automaton.ItemsRight.{ItemsRight}
 use Rattle.grammar.specs.Automaton.ItemsRightLaws.{book-items-right}
-use Rattle.grammar.specs.Formulas.FormulaCheck.{noDefinition, dotOf, definitions, lineAt, check}
+use Rattle.grammar.specs.Formulas.FormulaCheck.{noDefinition, dotOf, lineAt, check}
 use Rattle.grammar.specs.Formulas.FormulaCheckLaws.{Tells}
-use Rattle.grammar.specs.Formulas.FormulaCheckAll.{CoreIn, core-tells, SameItems, check-same, decides-same}
+use Rattle.grammar.specs.Formulas.FormulaCheckAll.{CoreIn, core-tells, SameItems, check-same}
 use Rattle.automaton.specs.GoTable.{at-member}
 use Rattle.attributes.specs.Checking.{memberOf}
 use Rattle.attributes.specs.StateMarks.{StateMarksIn}

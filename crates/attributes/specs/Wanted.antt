@@ -4,12 +4,10 @@ use native.Mathlib.Omega.{arith}
 use mathlib.Core.Path.{_≡_, refl, ap, sym, _∙_}
 use mathlib.Core.Bool.{Bool, true, false}
 use mathlib.Core.List.{List}
-use lib.Dec.{eqb}
-use lib.ListN.{getD}
 use borrow.Author.Tests.{eqb-true, eq-eqb}
 use Rattle.sets.specs.Sets.{bit, single, meets}
 use Rattle.sets.specs.SetsLaws.{bit-single, meets-holds, meets-true}
-use Rattle.grammar.specs.Automaton.TestLaws.{true-false}
+use Rattle.sets.specs.Operations.{bit-full}
 use Rattle.grammar.specs.Conditions.Decides.{allBelow}
 use Rattle.grammar.specs.Data.Book.{InheritedDefinition, Book}
 use Rattle.grammar.specs.Formulas.Slots.{Slots, ready}
@@ -17,7 +15,6 @@ use Rattle.grammar.specs.Formulas.FormulaCheck.{dotOf, due, check}
 use Rattle.grammar.specs.Formulas.FormulaCheckLaws.{check-part}
 use Rattle.grammar.specs.Formulas.FormulaCheckAll.{check-same}
 use Rattle.attributes.specs.Checking.{memberOf, memberIn, CheckHeld}
-use Rattle.attributes.specs.Alike.{bit-full}
 
 meets-single : (s a : ℕ) → a < 32 → meets s (single a) ≡ bit s a
 meets-single s a h = by (meets s (single a)) refl (bit s a) refl

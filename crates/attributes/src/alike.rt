@@ -1,6 +1,6 @@
 // Terminals whose partial states have the same items, as far as the inherited attributes' definitions ask: one check serves them all.
 ghost use mathlib.Core.Path.{_≡_};
-ghost use mathlib.Core.Bool.{true, false, not};
+ghost use mathlib.Core.Bool.{true, false};
 ghost use mathlib.Core.List.{List};
 ghost use Prim.Native.Nat.{ℕ, _<_};
 ghost use Rattle.sets.specs.Sets.{bit};
@@ -10,13 +10,6 @@ ghost use Rattle.grammar.specs.Formulas.FormulaCheckAll.{SameItems};
 ghost use Rattle.attributes.specs.Checking.{memberOf, CheckHeld};
 ghost use Rattle.attributes.specs.Alike.{Agree};
 use items::words::word;
-
-// The numbers below 32 that a set does not hold.
-fn others(set: u32) -> u32
-    ensures { λ r. ⌜ ((i : ℕ) → i < 32 → bit r i ≡ not (bit set i)) ⌝ }
-{
-    set ^ 4294967295
-}
 
 // The terminals that the item of the definition in a line tells from a terminal.
 fn item_apart(definitions: &[u32], line: usize, terminal: u32, masks: &[u32]) -> u32
@@ -29,7 +22,7 @@ fn item_apart(definitions: &[u32], line: usize, terminal: u32, masks: &[u32]) ->
     let position = word(definitions, 49 * line + 1);
     let set = masks[9 * rule + position - 1];
     if sets::has(set, terminal) {
-        return others(set);
+        return sets::others(set);
     }
     set
 }
@@ -49,5 +42,5 @@ pub fn alike(definitions: &[u32], lines: usize, terminal: u32, masks: &[u32]) ->
         apart = sets::union(apart, more);
         i += 1;
     }
-    others(apart)
+    sets::others(apart)
 }

@@ -127,7 +127,7 @@ module _ {b : Book} {rules kernels starts : List ℕ} (h : StatesIn b rules kern
     {rule dot : ℕ} (rule-is : rule ≡ getD kernels (5 * i + 1) 0) (dot-is : dot ≡ getD kernels (5 * i + 2) 0) where
   pub kernel-stands : Stands b S rule dot
   kernel-stands =
-      let d : DeclaredKernel b (kernelAt (b .kernels) i) = kernel-there h i l in
+      let d : DeclaredKernel b (kernelAt (b .kernels) i) = kernel-there (h .grammar-in .declared) i l in
       rw (rule-is, dot-is, h .kernels-in .rule-is i l, h .kernels-in .dot-is i l)
       (record { state-there = s; rule-there = d .rule-there; dot-there = d .dot-there })
 

@@ -2,13 +2,13 @@
 -- Assumes nothing.
 use Prim.Native.Nat.{ℕ, zero, suc, _<_, _≤_}
 use mathlib.Core.Path.{refl}
-use mathlib.Core.List.{List, [], _∷_, List·Memᴰ as Mem, List·Memᴰ·head as in-head, List·Memᴰ·tail as in-tail}
+use mathlib.Core.List.{List, [], _∷_}
 use native.Mathlib.Omega.{arith}
 use lib.ListN.{length}
 use Rattle.grammar.specs.Data.Book.{Book, Kernel}
-use Rattle.grammar.specs.Format.Ordered.{Before, before-less, before-same, Ascends, ascends-∷, Every, every-∷, kernelKey, Lookaheads, Ordered}
-use Rattle.grammar.specs.Format.OrderLaws.{ascends-above}
-use Rattle.grammar.specs.Conditions.Meaning.{WithinLimits, Declared, DeclaredKernel}
+use Rattle.grammar.specs.Format.Ordered.{Before, Ascends, ascends-∷, Every, every-∷, kernelKey, Lookaheads, Ordered}
+use Rattle.grammar.specs.Format.OrderLaws.{before-first, ascends-above}
+use Rattle.grammar.specs.Conditions.Meaning.{WithinLimits, Declared}
 use Rattle.grammar.specs.Conditions.MeaningLaws.{right-length}
 use Rattle.grammar.specs.Automaton.Small.{Small}
 use Rattle.grammar.specs.BookFacts.{small-book}
@@ -20,29 +20,22 @@ use Rattle.items.specs.Starts.{LinesIn}
 use Rattle.items.specs.Derives.{GrammarIn}
 use Rattle.items.specs.KernelLines.{KernelItemsIn}
 use Rattle.items.specs.Closures.{StateItemsIn}
+use Rattle.automaton.specs.GoTable.{at-member}
+use Rattle.automaton.specs.StatesIn.{kernel-there}
 use Rattle.automaton.specs.KernelRules.{RuledIn}
-
-line-member : (ks : List Kernel) (i : ℕ) → i < length ks → Mem (kernelAt ks i) ks
-line-member [] i h = absurd (omega arith)
-line-member (k ∷ ks) zero h = in-head refl
-line-member (k ∷ ks) (suc i) h = in-tail (line-member ks i (omega arith))
 
 -- ---- lines that ascend strictly ascend by their states
 
-first-number : {x y : ℕ} {xs ys : List ℕ} → Before (x ∷ xs) (y ∷ ys) → x ≤ y
-first-number (before-less h) = omega arith
-first-number (before-same h) = omega arith
-
 key-state : (k l : Kernel) → Before (kernelKey k) (kernelKey l) → k .state ≤ l .state
 unfolding kernelKey
-key-state k l h = first-number h
+key-state k l h = before-first h
 
 states-ascend : {last : List ℕ} (ks : List Kernel) → Ascends kernelKey last ks → (i j : ℕ) → i ≤ j → j < length ks
     → kernelAt ks i .state ≤ kernelAt ks j .state
 states-ascend [] a i j h l = absurd (omega arith)
 states-ascend (k ∷ ks) (ascends-∷ b a) zero zero h l = omega arith
 states-ascend (k ∷ ks) (ascends-∷ b a) zero (suc j) h l =
-    key-state k (kernelAt ks j) (ascends-above a (line-member ks j (omega arith)))
+    key-state k (kernelAt ks j) (ascends-above a (at-member ks j _ (omega arith)))
 states-ascend (k ∷ ks) (ascends-∷ b a) (suc i) zero h l = absurd (omega arith)
 states-ascend (k ∷ ks) (ascends-∷ b a) (suc i) (suc j) h l = states-ascend ks a i j (omega arith) (omega arith)
 
@@ -52,9 +45,6 @@ every-line (k ∷ ks) (every-∷ p e) zero h = p
 every-line (k ∷ ks) (every-∷ p e) (suc i) h = every-line ks e i (omega arith)
 
 module _ {b : Book} (ordered : Ordered b) (limits : WithinLimits b) (declared : Declared b) where
-  line-declared : (i : ℕ) → i < length (b .kernels) → DeclaredKernel b (kernelAt (b .kernels) i)
-  line-declared i h = declared .kernels-declared (kernelAt (b .kernels) i) (line-member (b .kernels) i h)
-
   small : Small (b .rules)
   small = small-book ordered limits declared .small-rules
 
@@ -64,7 +54,7 @@ module _ {b : Book} (ordered : Ordered b) (limits : WithinLimits b) (declared : 
     kernels-in = K;
     counted = refl;
     few = limits .states-limit .high;
-    below = λ i h. line-declared i h .state-there;
+    below = λ i h. kernel-there declared i h .state-there;
     ascend = states-ascend (b .kernels) (ordered .kernels);
   }
 
@@ -81,7 +71,7 @@ module _ {b : Book} (ordered : Ordered b) (limits : WithinLimits b) (declared : 
     module _ {kernels : List ℕ} (K : KernelsIn (b .kernels) kernels) where
       -- for the closure of a state
       pub kernel-items-in : KernelItemsIn b (setsOf (b .rules)) rules kernels nulls firsts
-      kernel-items-in = record { grammar-in = grammar-in; kernels-in = K; rule-there = λ i h. line-declared i h .rule-there }
+      kernel-items-in = record { grammar-in = grammar-in; kernels-in = K; rule-there = λ i h. kernel-there declared i h .rule-there }
 
       -- and of all states
       pub state-items-in : {starts : List ℕ} → StartsIn (b .kernels) (b .states) starts
@@ -98,8 +88,8 @@ module _ {b : Book} (ordered : Ordered b) (limits : WithinLimits b) (declared : 
       rules-in = R;
       small = small;
       short = λ P h. right-length limits P;
-      rule-there = λ i h. line-declared i h .rule-there;
-      dot-there = λ i h. line-declared i h .dot-there;
+      rule-there = λ i h. kernel-there declared i h .rule-there;
+      dot-there = λ i h. kernel-there declared i h .dot-there;
     };
     starts-in = T;
     states-are = refl;

@@ -1,15 +1,15 @@
 -- Cells by their words: no action is 0, every other action that a state can have has a word of its own, and melding an action into a cell goes by words.
 -- Assumes nothing.
 use Prim.Native.Nat.{ℕ, zero, suc, _+_, _<_}
-use native.Mathlib.Decide.{ℕ-discrete}
 use native.Mathlib.Omega.{arith}
 use mathlib.Core.Path.{_≡_, refl, sym, ap, _∙_}
 use mathlib.Core.Logic.{_⊎_, inl, inr}
 use mathlib.Core.Bool.{Bool, true, false}
 use Rattle.grammar.specs.Limits.{MAX-RULES}
-use Rattle.grammar.specs.Automaton.States.{Action, Action-discrete, shift}
+use Rattle.grammar.specs.Automaton.States.{Action, shift}
 use Rattle.grammar.specs.Automaton.Actions.{Cell, free, act, conflict, sameAction, meld, completed}
-use Rattle.grammar.specs.Conditions.Decides.{Decides, true-decides, false-decides, refutes}
+use Rattle.grammar.specs.Automaton.CellLaws.{sameAction-decides}
+use Rattle.grammar.specs.Conditions.Decides.{Decides, refutes}
 use Rattle.items.specs.Arrays.{cellCode}
 
 -- an action that a state can have: a rule is one of at most 64, and rule 0 accepts
@@ -53,14 +53,6 @@ code-own (completing P l q) shifting e = absurd (omega (arith, shift-code, compl
 code-own (completing P l q) (completing Q m r) e =
     let same : P ≡ Q = omega (arith, completed-code P, completed-code Q, ap (λ y. cellCode (act y)) q, ap (λ y. cellCode (act y)) r) in
     q ∙ ap completed same ∙ sym r
-
-sameAction-decides : (x y : Action) → Decides (sameAction x y) (x ≡ y)
-unfolding sameAction
-sameAction-decides x y = go (Action-discrete ℕ-discrete x y)
-  where
-    go : (d : Dec (x ≡ y)) → Decides (elim d [ yes e ↦ true | no n ↦ false ]) (x ≡ y)
-    go (yes e) = true-decides e
-    go (no n) = false-decides n
 
 module _ {x : Action} (p : Possible x) where
   -- the cell is free, or has the action already

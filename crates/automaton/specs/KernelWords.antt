@@ -12,13 +12,12 @@ use Rattle.grammar.specs.Limits.{MAX-RIGHT}
 use Rattle.grammar.specs.Data.Symbol.{Symbol, terminal, Rule, rightOf, symbolAt}
 use Rattle.grammar.specs.Data.Book.{Book, Kernel}
 use Rattle.grammar.specs.Format.Ordered.{before-less, Ascends, ascends-∷, lookaheadKey, Lookaheads}
-use Rattle.grammar.specs.Automaton.Small.{numberOf, Small}
+use Rattle.grammar.specs.Automaton.Small.{numberOf, low-at, Small}
 use Rattle.grammar.specs.Automaton.States.{sameSymbol}
 use Rattle.grammar.specs.Automaton.StatesCheck.{endAlone}
 use Rattle.book.specs.Layout.{symbolCode, lastOf}
 use Rattle.book.specs.Held.{RulesIn, KernelsIn, kernelAt}
 use Rattle.items.specs.SymbolCodes.{code-low, code-test}
-use Rattle.items.specs.Derives.{low-at}
 
 -- kernel lines in an array, each with "one or more lookaheads, strictly ascending"
 pub record SpelledIn (ks : List Kernel) (kernels : List ℕ) : Type 0 where

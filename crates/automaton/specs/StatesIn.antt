@@ -10,7 +10,7 @@ use lib.Seq.{slice, slice-cons, take-nil}
 use Rattle.grammar.specs.Limits.{MAX-RULES, MAX-RIGHT, MAX-KERNELS}
 use Rattle.grammar.specs.Data.Symbol.{rightOf}
 use Rattle.grammar.specs.Data.Book.{Book, Kernel}
-use Rattle.grammar.specs.Conditions.Meaning.{DeclaredKernel}
+use Rattle.grammar.specs.Conditions.Meaning.{Declared, DeclaredKernel}
 use Rattle.grammar.specs.Conditions.MeaningLaws.{right-length}
 use Rattle.grammar.specs.Automaton.FirstSets.{Sets}
 use Rattle.grammar.specs.Automaton.ClosureSets.{kernelsIn}
@@ -86,14 +86,14 @@ take-drop (suc f) (suc t) (x ∷ l) = let e : suc t - suc f ≡ t - f = omega ar
 pub lines-next : (ks : List Kernel) {i last : ℕ} → i < last → last ≤ length ks → slice i last ks ≡ kernelAt ks i ∷ slice (i + 1) last ks
 lines-next ks {i} {last} h f = rw (add-one i) (slice-cons i last ks _ h f)
 
-module _ {b : Book} {rules kernels starts : List ℕ} (h : StatesIn b rules kernels starts) where
-  pub kernel-there : (i : ℕ) → i < length (b .kernels) → DeclaredKernel b (kernelAt (b .kernels) i)
-  kernel-there i l = h .grammar-in .declared .kernels-declared (kernelAt (b .kernels) i) (at-member (b .kernels) i _ l)
+pub kernel-there : {b : Book} → Declared b → (i : ℕ) → i < length (b .kernels) → DeclaredKernel b (kernelAt (b .kernels) i)
+kernel-there {b} d i l = d .kernels-declared (kernelAt (b .kernels) i) (at-member (b .kernels) i _ l)
 
+module _ {b : Book} {rules kernels starts : List ℕ} (h : StatesIn b rules kernels starts) where
   pub kernel-low : (i : ℕ) → i < length (b .kernels) → KernelLow kernels i
   kernel-low i l =
       let k : Kernel = kernelAt (b .kernels) i in
-      let d : DeclaredKernel b k = kernel-there i l in
+      let d : DeclaredKernel b k = kernel-there (h .grammar-in .declared) i l in
       record {
         there = omega (arith, h .kernels-in .long, h .kernels-in .fits);
         below = omega (arith, h .kernels-in .fits);

@@ -20,6 +20,7 @@ use Rattle.grammar.specs.Automaton.ClosureSets.{setOf}
 use Rattle.grammar.specs.Format.Ordered.{kernelKey, lookaheadKey}
 use Rattle.grammar.specs.Format.Reader.{Parsed, result, remaining, opening, closing, naming}
 use Rattle.grammar.specs.Format.ReaderLaws.{shrinking, opening-less, naming-less}
+use Rattle.grammar.specs.Format.LineLaws.{most-lookaheads}
 use Rattle.grammar.specs.Format.Parse.{isBefore, lookahead, lookaheads, kernelLine, kernelLines}
 use Rattle.book.specs.Layout.{putLine, lastOf, kernelWords}
 use Rattle.book.specs.Lookahead.{Names, name-out}
@@ -119,10 +120,6 @@ lookahead-read last p number before due = record { result-is = cc; remaining-is 
 lookaheads-shrink : Shrinks (naming (wordOf "t")) lookahead
 unfolding lookahead remaining
 lookaheads-shrink = record { head-less = naming-less (wordOf "t"); one-less = λ last o. search shrinking depth 20 }
-
-most-lookaheads : (m : ℕ) (o : Rest) → size o ≤ m → size (remaining (lookaheads o)) ≤ m
-unfolding lookaheads
-most-lookaheads m o h = omega (arith, size-section (naming (wordOf "t")) lookahead (λ last. lookaheadKey) lookaheads-shrink [] o)
 
 pub kernel-shrinks : (word : ℕ) → Shrinks (opening word) kernelLine
 unfolding kernelLine remaining

@@ -9,7 +9,7 @@ use lib.Dec.{eqb}
 use lib.ListN.{length, getD}
 use borrow.Author.Tests.{lt-ltb, le-ltb}
 use Rattle.text.specs.Class.{space}
-use Rattle.text.specs.Rest.{Rest, rest, must, mark, size}
+use Rattle.text.specs.Rest.{Rest, rest, must, mark}
 use Rattle.text.specs.RestLaws.{found-mark}
 use Rattle.text.specs.Numeral.{decimal, wordOf, keyword}
 use Rattle.text.specs.Reading.{Reads}
@@ -17,10 +17,11 @@ use Rattle.grammar.specs.Limits.{MAX-RULES, MAX-RIGHT}
 use Rattle.grammar.specs.Data.Symbol.{Symbol, Rule}
 use Rattle.grammar.specs.Format.Reader.{result, remaining, opening, closing, naming}
 use Rattle.grammar.specs.Format.ReaderLaws.{shrinking, opening-less}
+use Rattle.grammar.specs.Format.LineLaws.{most-symbols}
 use Rattle.grammar.specs.Format.Parse.{symbolOf, symbol, symbols, ownerLine, ruleLine}
 use Rattle.book.specs.Layout.{writeAt, putLine, storeLines, codeOf, symbolCode, codes, ownerWords, ruleWords}
 use Rattle.book.specs.LayoutLaws.{put-out}
-use Rattle.book.specs.Sections.{Shrinks, size-section, Fills, Puts}
+use Rattle.book.specs.Sections.{Shrinks, Fills, Puts}
 
 -- a right symbol
 unfoldable pub symbolWords : Symbol → List ℕ
@@ -58,10 +59,6 @@ owner-shrinks word letter = record { head-less = opening-less word; one-less = �
 pub symbols-shrink : Shrinks (mark space) (λ (s : Unit {0}). symbol)
 unfolding symbol remaining
 symbols-shrink = record { head-less = found-mark space; one-less = λ s o. search shrinking depth 20 }
-
-most-symbols : (m : ℕ) (o : Rest) → size o ≤ m → size (remaining (symbols o)) ≤ m
-unfolding symbols
-most-symbols m o h = omega (arith, size-section (mark space) (λ (s : Unit {0}). symbol) (λ s X. s) symbols-shrink tt o)
 
 pub rule-shrinks : (word : ℕ) → Shrinks (opening word) ruleLine
 unfolding ruleLine remaining

@@ -1,45 +1,22 @@
 -- The closure of a state by passes over the rules: the constraints fit, a state without lookaheads needs no pass.
 -- Assumes nothing.
-use Prim.Native.Nat.{ℕ, zero, suc, _*_, _-_, _^_, _<_}
+use Prim.Native.Nat.{ℕ, zero, suc, _*_, _<_}
 use mathlib.Core.Path.{_≡_, refl, ap, _∙_, subst}
 use mathlib.Core.Bool.{Bool}
-use mathlib.Core.List.{List, [], _∷_}
+use mathlib.Core.List.{List}
 use native.Mathlib.Omega.{arith}
 use lib.ListN.{length, getD, replicate}
-use Rattle.sets.specs.SetsLaws.{union-lt}
-use Rattle.grammar.specs.Automaton.TestLaws.{by-test}
-use Rattle.grammar.specs.Data.Symbol.{Symbol, terminal, nonterminal, leftOf, rightOf, after}
+use Rattle.grammar.specs.Data.Symbol.{leftOf, rightOf, after}
 use Rattle.grammar.specs.Data.Book.{Book}
-use Rattle.grammar.specs.Automaton.Small.{Low}
 use Rattle.grammar.specs.Automaton.Fixpoint.{setAt, visit, visits, least}
 use Rattle.grammar.specs.Automaton.LeastLaws.{Family, Fits, none-family, least-stays}
-use Rattle.grammar.specs.Automaton.FirstSets.{Sets, null, first, firstWith}
+use Rattle.grammar.specs.Automaton.FirstSets.{Sets, first}
 use Rattle.grammar.specs.Automaton.ClosureSets.{derivesInto, closureRule}
+use Rattle.grammar.specs.Automaton.ClosureLaws.{into-target, into-low}
 use Rattle.items.specs.Derives.{GrammarIn, derives-none, derives-own}
 use Rattle.items.specs.Passes.{Told, Passing, Closing}
 
 -- ---- the constraints fit
-
-module _ (F : Sets) (low : (β : List Symbol) → Low β → first F β < 2 ^ 32) where
-  with-low : (β : List Symbol) (M : ℕ) → Low β → firstWith F β M < 2 ^ 32
-  unfolding firstWith
-  with-low β M l = by-test (null F β) _ _ (λ n. n < 2 ^ 32) (λ e. union-lt (first F β) M) (λ e. low β l)
-
-  into-low : (β : List Symbol) (own : List ℕ → ℕ) → Low β → (sets : List ℕ) → (derivesInto F β own) .gives sets < 2 ^ 32
-  unfolding derivesInto
-  into-low [] own l sets = omega arith
-  into-low (terminal a ∷ β) own l sets = omega arith
-  into-low (nonterminal B ∷ β) own l sets = go (own sets)
-    where
-      go : (M : ℕ) → elim M [ zero ↦ 0 | suc n ↦ firstWith F β (suc n) ] < 2 ^ 32
-      go zero = omega arith
-      go (suc n) = with-low β (suc n) (l .1)
-
-into-target : (F : Sets) (β : List Symbol) (own : List ℕ → ℕ) → Low β → (derivesInto F β own) .target < 32
-unfolding derivesInto
-into-target F [] own l = omega arith
-into-target F (terminal a ∷ β) own l = omega arith
-into-target F (nonterminal B ∷ β) own l = l .0
 
 module _ {b : Book} {F : Sets} {rules nulls firsts : List ℕ} (H : GrammarIn b F rules nulls firsts) where
   fits : {sets : List ℕ} → Family 32 sets → Fits (closureRule b F) (length (b .rules)) sets

@@ -14,7 +14,7 @@ use Rattle.grammar.specs.Limits.{MAX-RULES, MAX-RIGHT}
 use Rattle.grammar.specs.Automaton.Members.{none-in}
 use Rattle.grammar.specs.Data.Symbol.{Symbol, terminal, nonterminal, Rule, rightOf, after}
 use Rattle.grammar.specs.Data.Book.{Book}
-use Rattle.grammar.specs.Automaton.Small.{numberOf, Low, Small}
+use Rattle.grammar.specs.Automaton.Small.{numberOf, Low, low-at, Small}
 use Rattle.grammar.specs.Automaton.Fixpoint.{setAt, visit}
 use Rattle.grammar.specs.Automaton.LeastLaws.{Family}
 use Rattle.grammar.specs.Automaton.FirstSets.{Sets, null, first, firstWith}
@@ -78,11 +78,6 @@ derives-own F sets (terminal a ∷ β) own = refl
 derives-own F sets (nonterminal B ∷ β) own = refl
 
 -- ---- what stands behind the dot, by words
-
-pub low-at : (β : List Symbol) (D : ℕ) → Low β → numberOf (getD β D (terminal 0)) < 32
-low-at [] D l = omega arith
-low-at (X ∷ β) zero l = l .0
-low-at (X ∷ β) (suc D) l = low-at β D (l .1)
 
 -- a symbol by its word
 word-terminal : (X : Symbol) → numberOf X < 32 → symbolCode X < 32 → X ≡ terminal (symbolCode X)

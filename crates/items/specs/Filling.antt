@@ -10,7 +10,7 @@ use lib.Dec.{eqb}
 use lib.ListN.{length, getD, set, drop, length-set}
 use lib.Seq.{getD-set-same, getD-set-other}
 use borrow.Author.Tests.{eqb-true, eqb-false}
-use Rattle.grammar.specs.Automaton.LeastLaws.{below-suc}
+use Rattle.sets.specs.Bits.{below-suc}
 use Rattle.grammar.specs.Limits.{MAX-RULES}
 use Rattle.grammar.specs.Data.Symbol.{Symbol, rightOf, after}
 use Rattle.grammar.specs.Automaton.FirstSets.{nullIn, firstIn, sets, null, first}

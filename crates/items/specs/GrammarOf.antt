@@ -15,9 +15,10 @@ use Rattle.grammar.specs.Data.Symbol.{Symbol, terminal, nonterminal, Rule, rule
 use Rattle.grammar.specs.Data.Book.{Book}
 use Rattle.grammar.specs.Conditions.Meaning.{WithinLimits}
 use Rattle.grammar.specs.Conditions.MeaningLaws.{right-length}
-use Rattle.grammar.specs.Automaton.Small.{numberOf, Low, Small, SmallBook}
+use Rattle.grammar.specs.Automaton.Small.{numberOf, Low, low-at, Small, SmallBook}
 use Rattle.book.specs.Layout.{codeOf, symbolCode}
 use Rattle.book.specs.Held.{RulesIn}
+use Rattle.items.specs.SymbolCodes.{code-low}
 
 -- f 0, f 1, .., `count` of them
 unfoldable pub listed : {A : Type 0} → (ℕ → A) → ℕ → List A
@@ -173,16 +174,6 @@ unfolding symbolCode codeOf
 symbol-back (terminal K) h = rw (lt-ltb K 32 h, codeOf) (let e : 0 + K ≡ K = omega arith in rw e (terminal-of K h))
 symbol-back (nonterminal K) h =
     rw (lt-ltb K 32 h, codeOf) (let e : 32 + K - 32 ≡ K = omega arith in nonterminal-of (32 + K) (omega arith) ∙ ap nonterminal e)
-
-code-low : (X : Symbol) → numberOf X < 32 → symbolCode X < 64
-unfolding symbolCode codeOf
-code-low (terminal K) h = rw (lt-ltb K 32 h, codeOf) (omega arith)
-code-low (nonterminal K) h = rw (lt-ltb K 32 h, codeOf) (omega arith)
-
-low-at : (β : List Symbol) (D : ℕ) → Low β → numberOf (getD β D (terminal 0)) < 32
-low-at [] D l = omega arith
-low-at (X ∷ β) zero l = l .0
-low-at (X ∷ β) (suc D) l = low-at β D (l .1)
 
 same-rule : (r s : Rule) → r .left ≡ s .left → r .right ≡ s .right → r ≡ s
 same-rule r s e f =

@@ -9,9 +9,9 @@ use lib.Dec.{ltb}
 use lib.ListN.{length, getD, set, take, drop, length-set}
 use lib.Seq.{getD-set-same, getD-set-other, take-nil, drop-nil}
 use borrow.Author.Tests.{eq-eqb, ne-eqb, ltb-true, ltb-false}
+use Rattle.sets.specs.Bits.{below-suc}
 use Rattle.grammar.specs.Limits.{MAX-KERNELS, MAX-STATES}
 use Rattle.grammar.specs.Data.Book.{Kernel}
-use Rattle.grammar.specs.Automaton.LeastLaws.{below-suc}
 use Rattle.grammar.specs.Automaton.ClosureSets.{kernelsIn}
 use Rattle.book.specs.Held.{KernelsIn, kernelAt}
 use Rattle.items.specs.Arrays.{StartsIn}

@@ -62,7 +62,8 @@ bits-le (suc k) a b l h =
 
 -- ---- the numbers below k
 
-below-suc : (P : ℕ → Type 0) (k i : ℕ) → i < suc k → (i < k → P i) → P k → P i
+-- below the next number: below this one, or this one
+pub below-suc : (P : ℕ → Type 0) (k i : ℕ) → i < suc k → (i < k → P i) → P k → P i
 below-suc P k i h less last = ⊎-elim (λ e. subst P (sym e) last) less (eq-or-lt-of-le (le-of-suc-le-suc h))
 
 module _ (test : ℕ → Bool) where

@@ -1,13 +1,15 @@
--- The operations of `Sets` on numbers below 2 ^ 32 are the machine's: union is `|`, meet is `&`, and the two tests compare an `&`.
+-- The operations of `Sets` on numbers below 2 ^ 32 are the machine's: union is `|`, meet is `&`, the
+-- numbers that a set does not hold are those of `^` with all of them, and the two tests compare an `&`.
 -- Assumes nothing.
-use Prim.Native.Nat.{ℕ, zero, suc, _/_, _%_, _^_, _<_, min, max}
+use Prim.Native.Nat.{ℕ, zero, suc, _+_, _*_, _/_, _%_, _^_, _<_, min, max}
 use mathlib.Core.Path.{_≡_, refl, sym, ap, _∙_}
 use mathlib.Core.Bool.{Bool, true, false, not, _&&_, _||_}
 use native.Mathlib.Omega.{arith}
 use lib.Dec.{eqb}
-use lib.Bits.{bitAnd, bitOr, and-step, or-step, and-shr, or-shr, and-lt, or-lt}
+use lib.Bits.{bitAnd, bitOr, bitXor, differ, and-step, or-step, xor-step, and-shr, or-shr, xor-shr, and-lt, or-lt}
 use borrow.Author.Tests.{eq-eqb, ne-eqb, eqb-true}
-use Rattle.sets.specs.Sets.{bit, empty, union, meet, subset, meets}
+use Rattle.sets.specs.Sets.{bit, empty, collect, union, meet, subset, meets}
+use Rattle.sets.specs.Bits.{bit-collect}
 use Rattle.sets.specs.SetsLaws.{bit-empty, bit-union, bit-meet, empty-lt, union-lt, meet-lt, same-set, subset-holds, subset-true, meets-holds, meets-false}
 
 -- ---- the bits of `|` and `&`
@@ -56,9 +58,34 @@ pub meet-and : (a b : ℕ) → a < 2 ^ 32 → b < 2 ^ 32 → meet a b ≡ bitAnd
 meet-and a b la lb =
     same-set (meet a b) (bitAnd a b) (meet-lt a b) (and-lt 32 a b la lb) (λ i h. bit-meet a b i h ∙ sym (bit-and a b i))
 
+-- ---- the numbers below 32 that a set does not hold
+
+abbrev full : ℕ
+full = 4294967295
+
+pub bit-full : (i : ℕ) → i < 32 → bit full i ≡ true
+bit-full i h = ap (λ (s : ℕ). bit s i) all ∙ bit-collect (λ _. true) 32 i h
+  where
+    all : full ≡ collect 32 (λ _. true)
+    all = unfold collect in refl
+
+flip : (x z : ℕ) → x < 2 → eqb ((z * 2 + differ x 1) % 2) 1 ≡ not (eqb x 1)
+flip zero z h = let e : (z * 2 + 1) % 2 ≡ 1 = omega arith in ap (λ (n : ℕ). eqb n 1) e
+flip (suc zero) z h = let e : (z * 2 + 0) % 2 ≡ 0 = omega arith in ap (λ (n : ℕ). eqb n 1) e
+flip (suc (suc x)) z h = absurd (omega arith)
+
+pub bit-others : (s i : ℕ) → i < 32 → bit (bitXor s 4294967295) i ≡ not (bit s i)
+unfolding bit
+bit-others s i h =
+    let x : ℕ = s / 2 ^ i in
+    let y : ℕ = full / 2 ^ i in
+    let odd : y % 2 ≡ 1 = eqb-true (y % 2) 1 (bit-full i h) in
+    ap (λ (n : ℕ). eqb (n % 2) 1) (xor-shr s full i ∙ xor-step x y ∙ ap (λ (n : ℕ). bitXor (x / 2) (y / 2) * 2 + differ (x % 2) n) odd)
+    ∙ flip (x % 2) (bitXor (x / 2) (y / 2)) (omega arith)
+
 -- ---- the tests
 
-same-truth : (s t : Bool) → (s ≡ true → t ≡ true) → (t ≡ true → s ≡ true) → s ≡ t
+pub same-truth : (s t : Bool) → (s ≡ true → t ≡ true) → (t ≡ true → s ≡ true) → s ≡ t
 same-truth true t p q = sym (p refl)
 same-truth false true p q = q refl
 same-truth false false p q = refl

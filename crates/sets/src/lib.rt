@@ -1,6 +1,7 @@
 // Sets of numbers below 32 as the bits of a `u32`. Their meaning is `bit`, of specs/Sets.antt; nothing else looks inside a set.
 ghost use mathlib.Core.Path.{_≡_};
-ghost use Prim.Native.Nat.{_<_};
+ghost use mathlib.Core.Bool.{not};
+ghost use Prim.Native.Nat.{ℕ, _<_};
 ghost use Rattle.sets.specs.Sets.{bit, empty, single, union, with, subset, meets};
 
 // The set that holds nothing.
@@ -39,6 +40,13 @@ pub fn union(a: u32, b: u32) -> u32
     ensures { λ r. ⌜ r ≡ union a b ⌝ }
 {
     a | b
+}
+
+// The numbers below 32 that are not in `s`.
+pub fn others(s: u32) -> u32
+    ensures { λ r. ⌜ ((i : ℕ) → i < 32 → bit r i ≡ not (bit s i)) ⌝ }
+{
+    s ^ 4294967295
 }
 
 // Whether all that is in `a` is in `b`.

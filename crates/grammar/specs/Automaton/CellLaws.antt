@@ -32,7 +32,7 @@ module _ {Given Other : Action → Type 0} (to : (x : Action) → Given x → Ot
   sums-same (one-action {x = x} g u) = one-action (to x g) λ y h. u y (from y h)
   sums-same (two-actions {x = x} {y = y} g h n) = two-actions (to x g) (to y h) n
 
-sameAction-decides : (x y : Action) → Decides (sameAction x y) (x ≡ y)
+pub sameAction-decides : (x y : Action) → Decides (sameAction x y) (x ≡ y)
 unfolding sameAction
 sameAction-decides x y = go (Action-discrete ℕ-discrete x y)
   where

@@ -3,17 +3,14 @@
 use Prim.Native.Nat.{ℕ, zero, suc, _^_, _<_}
 use mathlib.Core.Path.{_≡_, refl, sym, ap, _∙_, subst}
 use mathlib.Core.Bool.{true}
-use mathlib.Core.Logic.{_⊎_, inl, inr, ⊎-elim}
+use mathlib.Core.Logic.{_⊎_, inl, inr}
 use mathlib.Core.List.{List, [], _∷_, List·Memᴰ as Mem, List·Memᴰ·head as mem-head, List·Memᴰ·tail as mem-tail}
-use mathlib.Core.List.{List·Memᴰ·not-nil as not-nil, List·Memᴰ·cases-cons as cases-cons}
 use native.Mathlib.Omega.{arith}
-use lib.Dec.{eqb}
 use lib.ListN.{length, replicate}
-use borrow.Author.Tests.{eqb-true, eqb-false}
-use Rattle.sets.specs.Sets.{bit, single, with}
-use Rattle.sets.specs.SetsLaws.{bit-lt, with-lt, with-keeps, with-self, union-either}
+use Rattle.sets.specs.Sets.{bit}
+use Rattle.sets.specs.SetsLaws.{bit-lt, union-lt}
 use Rattle.grammar.specs.Automaton.TestLaws.{by-test}
-use Rattle.grammar.specs.Automaton.Members.{none-in, member, single-is}
+use Rattle.grammar.specs.Automaton.Members.{none-in, member}
 use Rattle.grammar.specs.Data.Symbol.{Symbol, terminal, nonterminal, Rule, leftOf, rightOf, after}
 use Rattle.grammar.specs.Data.Book.{Book, Kernel}
 use Rattle.grammar.specs.Automaton.Small.{Low, low-after, SmallBook}
@@ -21,8 +18,8 @@ use Rattle.grammar.specs.Automaton.Fixpoint.{Constraint, setAt, visit}
 use Rattle.grammar.specs.Automaton.LeastLaws.{Family, Within, none-family, none-within, visit-family, visit-keeps, visit-adds, visit-within}
 use Rattle.grammar.specs.Automaton.LeastLaws.{Fits, least-family, least-holds, least-closed, least-within}
 use Rattle.grammar.specs.Automaton.First.{First}
-use Rattle.grammar.specs.Automaton.FirstSets.{Sets, firstWith}
-use Rattle.grammar.specs.Automaton.FirstSetsLaws.{SetsRight, with-low, first-with, with-first}
+use Rattle.grammar.specs.Automaton.FirstSets.{Sets, null, first, firstWith}
+use Rattle.grammar.specs.Automaton.FirstSetsLaws.{SetsRight, first-with, with-first}
 use Rattle.grammar.specs.Automaton.Items.{derives, KernelItem, kernel-item, Closure, kernel, close}
 use Rattle.grammar.specs.Automaton.SetOf.{setOf-low, setOf-holds, setOf-only}
 use Rattle.grammar.specs.Automaton.KernelLines.{LineOf, line-of, in-state}
@@ -34,14 +31,18 @@ use Rattle.grammar.specs.Automaton.ClosureSets.{setOf, derivesInto, kern
 abbrev Gives : Constraint → List ℕ → ℕ → ℕ → Type 0
 Gives c family B a = (c .target ≡ B) × (bit (c .gives family) a ≡ true)
 
-module _ {G : List Rule} {F : Sets} (R : SetsRight G F) where
-  into-target : (β : List Symbol) (own : List ℕ → ℕ) → Low β → (derivesInto F β own) .target < 32
-  unfolding derivesInto
-  into-target [] own l = omega arith
-  into-target (terminal a ∷ β) own l = omega arith
-  into-target (nonterminal B ∷ β) own l = l .0
+pub into-target : (F : Sets) (β : List Symbol) (own : List ℕ → ℕ) → Low β → (derivesInto F β own) .target < 32
+unfolding derivesInto
+into-target F [] own l = omega arith
+into-target F (terminal a ∷ β) own l = omega arith
+into-target F (nonterminal B ∷ β) own l = l .0
 
-  into-low : (β : List Symbol) (own : List ℕ → ℕ) → Low β → (family : List ℕ) → (derivesInto F β own) .gives family < 2 ^ 32
+module _ (F : Sets) (low : (β : List Symbol) → Low β → first F β < 2 ^ 32) where
+  with-low : (β : List Symbol) (M : ℕ) → Low β → firstWith F β M < 2 ^ 32
+  unfolding firstWith
+  with-low β M l = by-test (null F β) _ _ (λ n. n < 2 ^ 32) (λ e. union-lt (first F β) M) (λ e. low β l)
+
+  pub into-low : (β : List Symbol) (own : List ℕ → ℕ) → Low β → (family : List ℕ) → (derivesInto F β own) .gives family < 2 ^ 32
   unfolding derivesInto
   into-low [] own l family = omega arith
   into-low (terminal a ∷ β) own l family = omega arith
@@ -49,8 +50,9 @@ module _ {G : List Rule} {F : Sets} (R : SetsRight G F) where
     where
       go : (M : ℕ) → elim M [ zero ↦ 0 | suc n ↦ firstWith F β (suc n) ] < 2 ^ 32
       go zero = omega arith
-      go (suc n) = with-low R β (suc n) (l .1)
+      go (suc n) = with-low β (suc n) (l .1)
 
+module _ {G : List Rule} {F : Sets} (R : SetsRight G F) where
   -- a lookahead given comes from one that the items have
   into-from : (β : List Symbol) (own : List ℕ → ℕ) (family : List ℕ) (a : ℕ) → own family < 2 ^ 32
       → bit ((derivesInto F β own) .gives family) a ≡ true
@@ -115,7 +117,7 @@ module _ {b : Book} {F : Sets} (H : SmallBook b) (R : SetsRight (b .rules) F) wh
   line-rest k = low-after (b .rules) (H .small-rules) (k .rule) (k .dot)
 
   line-low : (k : Kernel) → (line b F k) .target < 32
-  line-low k = into-target R (after (b .rules) (k .rule) (k .dot)) (λ _. setOf (k .lookaheads)) (line-rest k)
+  line-low k = into-target F (after (b .rules) (k .rule) (k .dot)) (λ _. setOf (k .lookaheads)) (line-rest k)
 
   visit-line : (k : Kernel) {family : List ℕ} → Family 32 family → Family 32 (visit (line b F k) family)
   visit-line k f = visit-family (line b F k) f (line-low k)
@@ -138,7 +140,7 @@ module _ {b : Book} {F : Sets} (H : SmallBook b) (R : SetsRight (b .rules) F) wh
       (visit-adds (line b F k) f (line-low k) a (bit-lt _ a small (g family)) (g family)) .1
     where
       small : (line b F k) .gives family < 2 ^ 32
-      small = into-low R _ (λ _. setOf (k .lookaheads)) (line-rest k) family
+      small = into-low F (R .first-low) _ (λ _. setOf (k .lookaheads)) (line-rest k) family
 
   lines-give : {k : Kernel} {ks : List Kernel} → Mem k ks → (family : List ℕ) → Family 32 family → (a : ℕ) → LineGives b F k a
       → bit (setAt (fromKernels b F ks family) ((line b F k) .target)) a ≡ true
@@ -172,14 +174,14 @@ module _ {b : Book} {F : Sets} (H : SmallBook b) (R : SetsRight (b .rules) F) wh
     few = omega (arith, start-within S .0 .long);
     low = start-within S .0 .low;
     target-low = λ p l. omega (arith, target p l, start-within S .0 .long);
-    gives-low = λ p l family f. unfold closureRule in into-low R (rightOf (b .rules) p) (λ s. setAt s (leftOf (b .rules) p)) (right p l) family;
+    gives-low = λ p l family f. unfold closureRule in into-low F (R .first-low) (rightOf (b .rules) p) (λ s. setAt s (leftOf (b .rules) p)) (right p l) family;
   }
     where
       right : (p : ℕ) → p < length (b .rules) → Low (rightOf (b .rules) p)
       right = H .small-rules .right-low
 
       target : (p : ℕ) → p < length (b .rules) → (closureRule b F p) .target < 32
-      target p l = unfold closureRule in into-target R (rightOf (b .rules) p) (λ s. setAt s (leftOf (b .rules) p)) (right p l)
+      target p l = unfold closureRule in into-target F (rightOf (b .rules) p) (λ s. setAt s (leftOf (b .rules) p)) (right p l)
 
   pub closure-family : (S : ℕ) → Family 32 (closureSets b F S)
   unfolding closureSets

@@ -10,12 +10,12 @@ use mathlib.Core.List.{Memᴰ·cast as cast, Memᴰ·append-left as append-left,
 use native.Mathlib.Omega.{arith}
 use lib.ListN.{length}
 use Rattle.sets.specs.Sets.{bit}
+use Rattle.sets.specs.Bits.{below-suc}
 use Rattle.grammar.specs.Automaton.Members.{some-not-none, member}
 use Rattle.grammar.specs.Data.Symbol.{Rule, leftOf}
 use Rattle.grammar.specs.Data.Book.{Book, Kernel}
 use Rattle.grammar.specs.Automaton.Small.{SmallBook}
 use Rattle.grammar.specs.Automaton.Fixpoint.{setAt}
-use Rattle.grammar.specs.Automaton.LeastLaws.{below-suc}
 use Rattle.grammar.specs.Automaton.FirstSets.{Sets}
 use Rattle.grammar.specs.Automaton.FirstSetsLaws.{SetsRight}
 use Rattle.grammar.specs.Automaton.Items.{kernel-item, Closure, kernel}

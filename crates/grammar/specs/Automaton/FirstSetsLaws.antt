@@ -199,9 +199,6 @@ module _ {G : List Rule} {F : Sets} (R : SetsRight G F) where
   unfolding firstWith
   by-with β M Q = by-test (null F β) (union (first F β) M) (first F β) Q
 
-  pub with-low : (β : List Symbol) (M : ℕ) → Low β → firstWith F β M < 2 ^ 32
-  with-low β M l = by-with β M (λ x. x < 2 ^ 32) (λ _. union-lt _ _) (λ _. R .first-low β l)
-
   pub first-with : {β : List Symbol} {a b : ℕ} (M : ℕ) → Low β → M < 2 ^ 32 → bit M b ≡ true → First G β b a → bit (firstWith F β M) a ≡ true
   first-with {β} {a} {b} M l m e f = by-with β M (λ x. bit x a ≡ true) more only
     where

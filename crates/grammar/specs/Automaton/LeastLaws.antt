@@ -6,12 +6,12 @@ use mathlib.Core.Bool.{Bool, true, false}
 use mathlib.Core.List.{List, [], _∷_}
 use mathlib.Core.Logic.{_⊎_, inl, inr, ⊎-elim}
 use native.Mathlib.Omega.{arith}
-use native.Mathlib.Nat.{eq-or-lt-of-le, le-of-suc-le-suc}
 use lib.Dec.{eqb}
 use lib.ListN.{length, set, replicate, length-set, length-replicate}
 use lib.Seq.{getD-set-same, getD-set-other, set-getD}
 use borrow.Author.Tests.{eq-eqb, eqb-true, eqb-false}
 use Rattle.sets.specs.Sets.{bit, union}
+use Rattle.sets.specs.Bits.{below-suc}
 use Rattle.sets.specs.SetsLaws.{bit-lt, union-lt, union-left, union-right, union-either, union-more}
 use Rattle.grammar.specs.Automaton.Fixpoint.{setAt, sameSets, Constraint, visit, visits, least}
 use Rattle.grammar.specs.Automaton.TestLaws.{true-false}
@@ -132,10 +132,6 @@ module _ (c : Constraint) {n : ℕ} {sets : List ℕ} (S : Family n sets) (t : c
           inr (omega (arith, total-set sets (c .target) new long-enough))
 
 -- ---- passes
-
--- below the next number: below this one, or this one
-pub below-suc : (P : ℕ → Type 0) (k i : ℕ) → i < suc k → (i < k → P i) → P k → P i
-below-suc P k i h less last = ⊎-elim (λ e. subst P (sym e) last) less (eq-or-lt-of-le (le-of-suc-le-suc h))
 
 pub sameSets-still : (a b : List ℕ) → sameSets a b ≡ true → a ≡ b
 unfolding sameSets

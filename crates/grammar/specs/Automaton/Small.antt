@@ -4,8 +4,9 @@ use Prim.Native.Nat.{ℕ, zero, suc, _<_, _≤_}
 use mathlib.Core.Path.{_≡_, refl, sym, subst}
 use mathlib.Core.Bool.{Bool, true, false}
 use mathlib.Core.List.{List, [], _∷_, List·Memᴰ as Mem, List·Memᴰ·head as mem-head, List·Memᴰ·tail as mem-tail}
+use native.Mathlib.Omega.{arith}
 use lib.Dec.{ltb}
-use lib.ListN.{length, drop, List·getD-eq-default}
+use lib.ListN.{length, getD, drop, List·getD-eq-default}
 use borrow.Author.Tests.{ltb-true, ltb-false}
 use Rattle.grammar.specs.Data.Symbol.{Symbol, terminal, nonterminal, Rule, ruleAt, leftOf, rightOf, after}
 use Rattle.grammar.specs.Data.Book.{Book, Kernel}
@@ -22,6 +23,11 @@ Low (X ∷ β) = (numberOf X < 32) × Low β
 pub low-all : (β : List Symbol) → ((X : Symbol) → Mem X β → numberOf X < 32) → Low β
 low-all [] h = tt
 low-all (X ∷ β) h = (h X (mem-head refl), low-all β (λ Y m. h Y (mem-tail m)))
+
+pub low-at : (β : List Symbol) (D : ℕ) → Low β → numberOf (getD β D (terminal 0)) < 32
+low-at [] D l = omega arith
+low-at (X ∷ β) zero l = l .0
+low-at (X ∷ β) (suc D) l = low-at β D (l .1)
 
 pub low-drop : (D : ℕ) (β : List Symbol) → Low β → Low (drop D β)
 low-drop zero β l = l

@@ -2,7 +2,7 @@
 -- A test that is done at the first failure is written with `elim`, so that nothing more is computed. Assumes nothing.
 use Prim.Native.Nat.{ℕ, zero, suc, _≤_, _<_, zero-le}
 use native.Mathlib.Omega.{arith}
-use mathlib.Core.Path.{_≡_, refl}
+use mathlib.Core.Path.{_≡_, refl, sym}
 use mathlib.Core.Bool.{Bool, true, false, _&&_, false≢true}
 use mathlib.Core.List.{List, [], _∷_, List·Memᴰ as Mem, List·Memᴰ·head as in-head, List·Memᴰ·tail as in-tail, List·Memᴰ·not-nil as not-in-nil}
 use lib.Dec.{leb, ltb, eqb}
@@ -29,6 +29,12 @@ by-decided {t = false} d f g = g refl (refutes d)
 
 pub false-of : {A : Type 0} {t : Bool} → Decides t A → (A → ⊥) → t ≡ false
 false-of d h = by-decided d (λ e a. absurd (h a)) (λ e n. e)
+
+-- two tests of one statement are the same
+pub decides-same : {s t : Bool} {A : Type 0} → Decides s A → Decides t A → s ≡ t
+decides-same {s = true} {t = t} d e = sym (e .complete (d .sound refl))
+decides-same {s = false} {t = true} d e = d .complete (e .sound refl)
+decides-same {s = false} {t = false} d e = refl
 
 -- what decides A decides every statement that is equivalent to A
 pub equivalent : {t : Bool} {A B : Type 0} → (A → B) → (B → A) → Decides t A → Decides t B

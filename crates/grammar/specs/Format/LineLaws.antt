@@ -124,7 +124,7 @@ symbols-were o e k =
     section-was (mark space) (λ (s : Unit {0}). symbol) (λ s X. s) (λ s. printRight) (λ s. SymbolFits) NoDigit
     (λ s. each printRight) symbol-inverse (each-prints (λ s X. s) printRight) tt o e λ e₁ h. k e₁ (along-every h)
 
-most-symbols : (m : ℕ) (o : Rest) → size o ≤ m → size (remaining (symbols o)) ≤ m
+pub most-symbols : (m : ℕ) (o : Rest) → size o ≤ m → size (remaining (symbols o)) ≤ m
 unfolding symbols
 most-symbols m o h =
     omega (arith, section-size (mark space) (λ (s : Unit {0}). symbol) (λ s X. s) (symbol-inverse .head-less) (symbol-inverse .one-less) tt o)
@@ -146,7 +146,7 @@ lookaheads-were o e k =
     section-was (naming (wordOf "t")) lookahead (λ last. lookaheadKey) (λ last. printLookahead) (Following lookaheadKey Fits) NoDigit
     (λ last. each printLookahead) lookahead-inverse (each-prints (λ last. lookaheadKey) printLookahead) [] o e λ e₁ h. k e₁ (along-ascends h) (along-fits h)
 
-most-lookaheads : (m : ℕ) (o : Rest) → size o ≤ m → size (remaining (lookaheads o)) ≤ m
+pub most-lookaheads : (m : ℕ) (o : Rest) → size o ≤ m → size (remaining (lookaheads o)) ≤ m
 unfolding lookaheads
 most-lookaheads m o h =
     omega (arith, section-size (naming (wordOf "t")) lookahead (λ last. lookaheadKey) (lookahead-inverse .head-less) (lookahead-inverse .one-less) [] o)

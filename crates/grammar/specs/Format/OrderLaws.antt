@@ -56,6 +56,11 @@ before-differs (before-less {x = x} {y = y} h) e =
     omega arith
 before-differs (before-same {xs = xs} {ys = ys} h) e = before-differs h (let z : xs ≡ ys = cc in z)
 
+-- the first numbers of keys in order
+pub before-first : {x y : ℕ} {xs ys : List ℕ} → Before (x ∷ xs) (y ∷ ys) → x ≤ y
+before-first (before-less h) = omega arith
+before-first (before-same h) = omega arith
+
 module _ {A : Type 0} {key : A → List ℕ} where
   pub ascends-above : {last : List ℕ} {xs : List A} {x : A} → Ascends key last xs → Mem x xs → Before last (key x)
   ascends-above (ascends-∷ b bs) (in-head e) = rw e b

@@ -8,7 +8,7 @@ use mathlib.Core.Bool.{Bool, true, false}
 use mathlib.Core.List.{List, List·Memᴰ as Mem}
 use lib.ListN.{getD, set}
 use Rattle.sets.specs.Sets.{bit}
-use Rattle.grammar.specs.Conditions.Decides.{Decides, equivalent, eq-decides, and-decides, then-decides, any-decides, allBelow}
+use Rattle.grammar.specs.Conditions.Decides.{Decides, decides-same, equivalent, eq-decides, and-decides, then-decides, any-decides, allBelow}
 use Rattle.grammar.specs.Conditions.DecidesSteps.{Some, below-zero}
 use Rattle.grammar.specs.Automaton.TestLaws.{true-false}
 use Rattle.grammar.specs.Data.Symbol.{after}
@@ -36,12 +36,6 @@ use Rattle.grammar.specs.Formulas.FormulaCheck.{ended, check, checkAll, 
 use Rattle.grammar.specs.Formulas.DefinitionPremises.{DefinitionPremises, definition-premises}
 use Rattle.grammar.specs.Formulas.FormulaCheckSteps.{holds-decides, Long, growing}
 use Rattle.grammar.specs.Formulas.FormulaCheckLaws.{Tells, check-decides}
-
--- two tests of one thing answer the same
-pub decides-same : {s t : Bool} {A : Type 0} → Decides s A → Decides t A → s ≡ t
-decides-same {s = true} {t = t} d e = sym (e .complete (d .sound refl))
-decides-same {s = false} {t = true} d e = d .complete (e .sound refl)
-decides-same {s = false} {t = false} d e = refl
 
 -- the tests of the numbers below n
 below-decides : {f : ℕ → Bool} {P : ℕ → Type 0} (n : ℕ) → ((i : ℕ) → i < n → Decides (f i) (P i)) → Decides (allBelow n f) ((i : ℕ) → i < n → P i)

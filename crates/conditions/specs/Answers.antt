@@ -31,13 +31,6 @@ answers-where f a = record { for-all = λ x h. a .for-all x (f x h) }
 pub holds : (t : Bool) → Decides t (t ≡ true)
 holds t = record { sound = λ e. e; complete = λ e. e }
 
--- two tests of one statement are the same
-pub same-test : {s t : Bool} {A : Type 0} → Decides s A → Decides t A → s ≡ t
-same-test {s = true} {t = true} p q = refl
-same-test {s = true} {t = false} p q = sym (q .complete (p .sound refl))
-same-test {s = false} {t = true} p q = p .complete (q .sound refl)
-same-test {s = false} {t = false} p q = refl
-
 -- A test of the numbers below a bound, by parts
 
 pub then-and : (s t : Bool) → elim s [ true ↦ t | false ↦ false ] ≡ s && t

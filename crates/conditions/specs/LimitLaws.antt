@@ -12,6 +12,7 @@ use lib.Seq.{drop-cons}
 use borrow.Author.Tests.{lt-ltb, le-ltb}
 use Rattle.grammar.specs.Conditions.Decides.{
   Decides,
+  decides-same,
   equivalent,
   le-decides,
   and-decides,
@@ -46,7 +47,7 @@ use Rattle.grammar.specs.Data.Term.{nodes}
 use Rattle.grammar.specs.Data.Book.{InheritedDefinition, SynthesizedDefinition, Kernel, Book as Lines}
 use Rattle.grammar.specs.Format.Ordered.{Ascends, ascends-[], ascends-∷, kernelKey}
 use Rattle.conditions.specs.Runs.{lead, before-lead, count-same, count-other, few-front, Sorted, sorted-[], sorted-∷, apart, few-sorted}
-use Rattle.conditions.specs.Answers.{below-same, below-join, all-below, same-test}
+use Rattle.conditions.specs.Answers.{below-same, below-join, all-below}
 use Rattle.conditions.specs.Asked.{DefinitionLines, KernelLines}
 use Rattle.book.specs.Held.{HasRoom}
 use Rattle.conditions.specs.LimitTests.{numbersWithin, rightsWithin, nodesWithin, statesWithin, linesWithin}
@@ -167,7 +168,7 @@ module _ (b : Lines) where
   pub limits-parts : numbersWithin b && linesWithin b ≡ withinLimits b
   unfolding linesWithin rightsWithin nodesWithin statesWithin
   limits-parts =
-      same-test
+      decides-same
       (equivalent
       (λ (((t, n, q), (i, s), r, (d, k, g)), ((i-each, s-each), r-each, (i-nodes, s-nodes), k-each)). record {
         terminals-limit = t;

@@ -9,7 +9,7 @@ use lib.Dec.{eqb, ltb}
 use lib.ListN.{length, getD}
 use borrow.Author.Tests.{ltb-true, lt-ltb, le-ltb, ne-eqb}
 use Rattle.grammar.specs.Limits.{MAX-RIGHT}
-use Rattle.grammar.specs.Conditions.Decides.{equivalent, eq-decides, oneTo-decides}
+use Rattle.grammar.specs.Conditions.Decides.{decides-same, equivalent, eq-decides, oneTo-decides}
 use Rattle.grammar.specs.Data.Symbol.{Symbol, terminal, nonterminal, rightOf, symbolAt}
 use Rattle.grammar.specs.Data.Postfix.{Step, push, load, operate, select}
 use Rattle.grammar.specs.Data.Term.{add, sub, min, max}
@@ -17,7 +17,7 @@ use Rattle.grammar.specs.Data.Book.{Place, own, at, val, Book as Lines, inherit
 use Rattle.grammar.specs.Conditions.Meaning.{IsPosition, RightSymbol, IsNonterminal}
 use Rattle.grammar.specs.Conditions.Tests.{isNonterminal, isTerminal, before, isPosition, declaredPlace, nonterminalAt, ownedPlace}
 use Rattle.grammar.specs.Conditions.MeaningLaws.{symbols-declared, right-length}
-use Rattle.conditions.specs.Answers.{same-test, and-true, and-first, and-second}
+use Rattle.conditions.specs.Answers.{and-true, and-first, and-second}
 use Rattle.book.specs.Layout.{symbolCode}
 use Rattle.book.specs.Held.{nodeKind, nodeFirst, nodeSecond}
 use Rattle.conditions.specs.Asked.{SymbolsIn, DeclaredIn, NodeThere}
@@ -83,7 +83,7 @@ module _ {rules : List ℕ} {b : Lines} (h : SymbolsIn rules b) where
             rw (terminal-code (h .within) r) (ne-eqb t (32 + A) (λ e. omega (arith, r .high, h .within .terminals-limit .high)))
         go (nonterminal B) r =
             rw (nonterminal-code (h .within) r)
-            (same-test (eq-decides (32 + B) (32 + A)) (equivalent (λ (e : B ≡ A). ap (λ (k : ℕ). 32 + k) e) (λ e. omega arith) (eq-decides B A)))
+            (decides-same (eq-decides (32 + B) (32 + A)) (equivalent (λ (e : B ≡ A). ap (λ (k : ℕ). 32 + k) e) (λ e. omega arith) (eq-decides B A)))
 
     pub terminal-word : ltb (getD rules (10 * P + 1 + J) 0) 32 ≡ isTerminal (symbolAt (b .rules) P J)
     unfolding isTerminal

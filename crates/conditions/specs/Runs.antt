@@ -8,9 +8,9 @@ use native.Mathlib.Omega.{arith}
 use lib.Dec.{eqb, ltb}
 use lib.ListN.{length, getD}
 use borrow.Author.Tests.{eq-eqb, ne-eqb, eqb-true, eqb-false, lt-ltb, le-ltb, ltb-true, ltb-false}
-use Rattle.grammar.specs.Conditions.Decides.{lt-decides, equivalent, count, few, allBelow}
+use Rattle.grammar.specs.Conditions.Decides.{decides-same, lt-decides, equivalent, count, few, allBelow}
 use Rattle.grammar.specs.Format.Ordered.{Before, before-empty, before-less, before-same}
-use Rattle.conditions.specs.Answers.{then-and, below-front, below-same, same-test}
+use Rattle.conditions.specs.Answers.{then-and, below-front, below-same}
 
 -- the first number of a key
 unfoldable pub lead : List ℕ → ℕ
@@ -70,7 +70,7 @@ front x (sorted-∷ {x = y} {l} least s) h m e = go (front x s (λ j q. h (suc j
     go further (suc m) e true q =
         let more : count x (y ∷ l) ≡ suc (count x l) = count-same x y l (eqb-true y x q) in
         further m (omega arith)
-        ∙ same-test (lt-decides m (count x l)) (equivalent (λ h. omega arith) (λ h. omega arith) (lt-decides (suc m) (count x (y ∷ l))))
+        ∙ decides-same (lt-decides m (count x l)) (equivalent (λ h. omega arith) (λ h. omega arith) (lt-decides (suc m) (count x (y ∷ l))))
     go further m e false q =
         ne-eqb x (getD (y ∷ l) m 0) (λ p. omega (arith, larger (eqb-false y x q) m e))
         ∙ sym (le-ltb m (count x (y ∷ l)) (omega (arith, count-none x (y ∷ l) (larger (eqb-false y x q)))))

@@ -1,7 +1,7 @@
 -- Where the synthesized attributes' definitions of each rule begin: the lines ascend by their rules, so those of one rule stand together.
 -- Assumes nothing.
 use Prim.Native.Nat.{ℕ, zero, suc, _+_, _*_, _-_, _≤_, _<_}
-use mathlib.Core.Path.{_≡_, refl, sym, _∙_}
+use mathlib.Core.Path.{_≡_, _∙_}
 use mathlib.Core.List.{List, [], _∷_}
 use native.Mathlib.Omega.{arith}
 use native.Mathlib.Decide.{decLt}
@@ -10,8 +10,8 @@ use lib.Seq.{getD-set-same, getD-set-other}
 use borrow.Author.Count.{below-more}
 use Rattle.grammar.specs.Limits.{MAX-RULES, MAX-DEFINITIONS}
 use Rattle.grammar.specs.Data.Book.{SynthesizedDefinition, Book}
-use Rattle.grammar.specs.Format.Ordered.{Before, before-less, before-same, Ascends, ascends-∷, synthesizedKey, Ordered}
-use Rattle.grammar.specs.Format.OrderLaws.{ascends-above}
+use Rattle.grammar.specs.Format.Ordered.{Before, Ascends, ascends-∷, synthesizedKey, Ordered}
+use Rattle.grammar.specs.Format.OrderLaws.{before-first, ascends-above}
 use Rattle.grammar.specs.Conditions.Meaning.{WithinLimits, Declared}
 use Rattle.book.specs.Held.{DefinitionsIn, synthesizedAt}
 use Rattle.automaton.specs.GoTable.{at-member}
@@ -132,13 +132,9 @@ module _ {definitions firsts : List ℕ} {from to rules at p : ℕ} (W : Sorted 
 
 -- ---- of a book
 
-first-less : {x y : ℕ} {xs ys : List ℕ} → Before (x ∷ xs) (y ∷ ys) → x ≤ y
-first-less (before-less l) = omega arith
-first-less (before-same l) = omega arith
-
 key-rule : (x y : SynthesizedDefinition) → Before (synthesizedKey x) (synthesizedKey y) → x .rule ≤ y .rule
 unfolding synthesizedKey
-key-rule x y l = first-less l
+key-rule x y l = before-first l
 
 rules-ascend : {last : List ℕ} (ds : List SynthesizedDefinition) → Ascends synthesizedKey last ds → (i j : ℕ) → i ≤ j → j < length ds
     → synthesizedAt ds i .rule ≤ synthesizedAt ds j .rule
@@ -150,11 +146,6 @@ rules-ascend (d ∷ ds) (ascends-∷ b a) (suc i) zero h l = absurd (omega arith
 rules-ascend (d ∷ ds) (ascends-∷ b a) (suc i) (suc j) h l = rules-ascend ds a i j (omega arith) (omega arith)
 
 module _ {b : Book} {definitions : List ℕ} {from to rules : ℕ} (L : LinesIn b definitions from to rules) where
-  -- the rule of a line is that of its definition
-  pub line-rule : (i : ℕ) → i < length (b .synthesizedDefinitions)
-      → ruleWord definitions (length (b .inheritedDefinitions) + i) ≡ synthesizedAt (b .synthesizedDefinitions) i .rule
-  line-rule i h = L .definitions-in .synthesized-is i h .rule-is
-
   pub lines-sorted : Sorted definitions from to
   lines-sorted = record {
     room = omega (arith, L .to-is, L .definitions-in .long, L .definitions-in .fits);
@@ -164,7 +155,7 @@ module _ {b : Book} {definitions : List ℕ} {from to rules : ℕ} (L : LinesIn 
         let q : j ≡ n + (j - n) = omega (arith, L .from-is) in
         let u : i - n < length (b .synthesizedDefinitions) = omega (arith, L .to-is) in
         let v : j - n < length (b .synthesizedDefinitions) = omega (arith, L .to-is) in
-        rw (p, q, line-rule (i - n) u, line-rule (j - n) v)
+        rw (p, q, L .definitions-in .synthesized-is (i - n) u .rule-is, L .definitions-in .synthesized-is (j - n) v .rule-is)
         (rules-ascend (b .synthesizedDefinitions) (L .ordered .synthesized) (i - n) (j - n) (omega arith) v);
   }
 

@@ -1,7 +1,7 @@
 -- The synthesized values of a rule's left side, in a record that is not yet on the stack: a token's word, which is 0, and a word for each attribute.
 -- The rule's definitions are gone through, line by line. Assumes nothing.
 use Prim.Native.Nat.{ℕ, suc, _+_, _*_, _-_, _≤_, _<_}
-use mathlib.Core.Path.{_≡_, refl, sym, ap, _∙_}
+use mathlib.Core.Path.{_≡_, sym, ap, _∙_}
 use mathlib.Core.Logic.{_⊎_, inl, inr}
 use mathlib.Core.List.{List, _∷_, List·Memᴰ as Mem, List·Memᴰ·head as in-head, List·Memᴰ·tail as in-tail}
 use native.Mathlib.Omega.{arith}
@@ -87,10 +87,6 @@ module _ {b : Book} {definitions firsts : List ℕ} {P size : ℕ} (A : NodeAske
     omega (arith, A .firsts-in .long, A .rule-there, A .limits .rules-limit .high),
   )
 
-  line-rule : (i : ℕ) → i < length (b .synthesizedDefinitions)
-      → ruleWord definitions (length (b .inheritedDefinitions) + i) ≡ synthesizedAt (b .synthesizedDefinitions) i .rule
-  line-rule i h = A .definitions-in .synthesized-is i h .rule-is
-
   line-at : (line i : ℕ) → line ≡ length (b .inheritedDefinitions) + i → getD firsts P 0 ≤ line → line < getD firsts (P + 1) 0
       → LineOf b definitions P size line
   line-at line i e l h =
@@ -99,7 +95,7 @@ module _ {b : Book} {definitions firsts : List ℕ} {P size : ℕ} (A : NodeAske
       let rule-is : d .rule ≡ P =
       omega (
         arith,
-        line-rule i there,
+        A .definitions-in .synthesized-is i there .rule-is,
         ap (ruleWord definitions) e,
         here .upper line l (omega (arith, next .within)),
         next .lower line (omega arith) h,
@@ -129,7 +125,7 @@ module _ {b : Book} {definitions firsts : List ℕ} {P size : ℕ} (A : NodeAske
       no-token = ap (λ (l : List ℕ). getD l 0 0) e;
       known = λ K l. inr (
         ap (λ (s : List ℕ). getD s (1 + K) 0) e ∙ getD-replicate {A = ℕ} 33 (1 + K) 0 0 (omega arith),
-        λ i h m (p, q). omega (arith, here .lower (length (b .inheritedDefinitions) + i) (omega arith) m, line-rule i h),
+        λ i h m (p, q). omega (arith, here .lower (length (b .inheritedDefinitions) + i) (omega arith) m, A .definitions-in .synthesized-is i h .rule-is),
       );
     }
 
@@ -183,7 +179,12 @@ module _ {b : Book} {definitions firsts : List ℕ} {P size : ℕ} (A : NodeAske
             of : Dec (length (b .inheritedDefinitions) + i < getD firsts (P + 1) 0) → length (b .inheritedDefinitions) + i < line
             of (yes m) = omega arith
             of (no m) =
-                let z : ⊥ = omega (arith, next .upper (length (b .inheritedDefinitions) + i) (omega arith) (omega arith), line-rule i l) in
+                let z : ⊥ =
+                omega (
+                  arith,
+                  next .upper (length (b .inheritedDefinitions) + i) (omega arith) (omega arith),
+                  A .definitions-in .synthesized-is i l .rule-is,
+                ) in
                 absurd z
 
         by : (K : ℕ) → (getD fresh (1 + K) 0 ≡ leftValue b P base inherited synthesized K) ⊎ ((getD fresh (1 + K) 0 ≡ 0) × Undefined b P K line)

@@ -2,7 +2,7 @@
 use Prim.Native.Nat.{ℕ, zero, suc, _+_, _*_, _-_, _≤_, _<_}
 use mathlib.Core.Path.{_≡_, refl, sym, ap, _∙_}
 use mathlib.Core.Option.{some}
-use mathlib.Core.List.{List, [], _∷_, _++_, List·Memᴰ as Mem}
+use mathlib.Core.List.{List, [], _∷_, _++_}
 use native.Mathlib.Omega.{arith}
 use native.Mathlib.Decide.{decLt}
 use lib.ListN.{length, getD, set, length-append}
@@ -10,7 +10,7 @@ use lib.Seq.{getD-set-same, getD-set-other}
 use Rattle.grammar.specs.Limits.{MAX-OWNED, MAX-RULES, MAX-ROWS, MAX-STACK}
 use Rattle.grammar.specs.Data.Symbol.{nonterminal, leftOf, rightOf}
 use Rattle.grammar.specs.Data.Term.{Leaves, in-number, eval}
-use Rattle.grammar.specs.Data.Book.{SynthesizedDefinition, Book, ownerAt, synthesizedExpr}
+use Rattle.grammar.specs.Data.Book.{Book, ownerAt, synthesizedExpr}
 use Rattle.grammar.specs.Data.DefinitionLaws.{synthesized-by}
 use Rattle.grammar.specs.Conditions.Decides.{count}
 use Rattle.grammar.specs.Automaton.States.{reduce}
@@ -18,13 +18,13 @@ use Rattle.grammar.specs.Evaluator.Tree.{Token, next as kind}
 use Rattle.grammar.specs.Evaluator.Decorated.{Values, Result, values, placeValue, synthesizedFrom}
 use Rattle.grammar.specs.Evaluator.Rows.{Row, rowOfNode, page, owned}
 use Rattle.grammar.specs.Evaluator.RowsLaws.{owned-same}
-use Rattle.grammar.specs.Evaluator.Machine.{Frame, frame, Config, config, cell, pop, popped}
+use Rattle.grammar.specs.Evaluator.Machine.{Frame, frame, Config, cell, pop}
 use Rattle.grammar.specs.Evaluator.Moves as moves
 use Rattle.grammar.specs.Evaluator.TakenPremises.{premises}
 use Rattle.grammar.specs.Engine.{tablesOf}
 use Rattle.book.specs.Layout.{symbolCode}
 use Rattle.items.specs.SymbolCodes.{nonterminal-code}
-use Rattle.cells.specs.Frames.{cellValue, recordValue, ResultIn, FrameIn, FramesIn, a-frame, PoppedIn}
+use Rattle.cells.specs.Frames.{cellValue, ResultIn, FrameIn, FramesIn, a-frame, PoppedIn}
 use Rattle.cells.specs.FramesLaws.{cell-word, agree-same, agree-set, frames-kept, pops-in}
 use Rattle.cells.specs.Values.{MayRead}
 use Rattle.cells.specs.DefinitionsAsked.{synthesized-asked}
@@ -35,10 +35,10 @@ use Rattle.stack.specs.Goes.{reduce-goes, target-of}
 use Rattle.stack.specs.Lists.{gathered, numbers-few, gathered-owned}
 use Rattle.stack.specs.NodeValues.{NodeAsked, NodeValues, member-at}
 use Rattle.stack.specs.Page.{nodeStored, node-stored}
-use Rattle.stack.specs.Path.{Path, above, pop-path, deep, path-state}
+use Rattle.stack.specs.Path.{Path, above, pop-path, deep}
 use Rattle.stack.specs.Pushes.{Stacks, StartOf, NodePushed}
 use Rattle.stack.specs.Records.{Stored, values-in}
-use Rattle.stack.specs.Standing.{BookIn, LeftIn, Standing, ConfigIn, stands, CellIn, actionOf, GoesOn}
+use Rattle.stack.specs.Standing.{BookIn, state-low, LeftIn, Standing, ConfigIn, stands, CellIn, actionOf, GoesOn}
 
 -- an attribute of a nonterminal is one of the attributes
 owned-low : (owners : List ℕ) (K A : ℕ) → ownerAt owners K ≡ A → A < 32 → K < length owners
@@ -206,10 +206,6 @@ module _ {b : Book} {rules definitions table firsts down up : List ℕ} (B : Boo
 
   -- ---- the move
 
-  state-low : {S : ℕ} {st : List Frame} → Path (tablesOf b) S st → S < b .states
-  state-low q =
-      path-state b (tablesOf b) (premises (B .spelled) (B .sound)) (B .sound .names) (omega (arith, B .sound .limits .states-limit .low)) q
-
   -- the words of the rule, and the state that its right side leaves on top
   pub record RuleReady (ks : List Token) (states : List ℕ) (top : Top) : Type 0 where
     pub rule-low : P < MAX-RULES
@@ -240,7 +236,7 @@ module _ {b : Book} {rules definitions table firsts down up : List ℕ} (B : Boo
           deep = omega (arith, reduce-deep C e s, C .depth-is);
           depth-low = omega (arith, C .depth-is, C .depth-low);
           position-low = omega (arith, C .position-is, C .position-low);
-          state-low = omega (arith, state-low (path-off C e s), B .sound .limits .states-limit .high);
+          state-low = omega (arith, state-low B (path-off C e s), B .sound .limits .states-limit .high);
           asked = record {
             ordered = B .spelled .ordered;
             limits = B .sound .limits;
@@ -269,7 +265,7 @@ module _ {b : Book} {rules definitions table firsts down up : List ℕ} (B : Boo
         omega (arith, ap (λ n. getD states n 0) low-is, off .state-is, owner-is, nonterminal-code (leftOf (b .rules) P) (left-low C e s)) in
         let same : M ≡ target =
         sym (target-is ∙ ap (λ i. getD table i 0) place
-        ∙ target-of (B .spelled) (B .sound) (B .table-in) (nonterminal (leftOf (b .rules) P)) (state-low (path-off C e s)) left-there g) in
+        ∙ target-of (B .spelled) (B .sound) (B .table-in) (nonterminal (leftOf (b .rules) P)) (state-low B (path-off C e s)) left-there g) in
         let go : tablesOf b .go (off .state) (nonterminal (leftOf (b .rules) P)) ≡ some target = g ∙ ap some same in
         record {
           then = reducedTo C e s target;

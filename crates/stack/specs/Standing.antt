@@ -1,9 +1,10 @@
 -- A configuration of the machine (`Evaluator/Machine` of the grammar) in arrays: the frames on the stacks, the rows in the lent words, the tokens by
 -- position; and the arrays of a book that is taken. Assumes nothing.
-use Prim.Native.Nat.{ℕ, _+_, _*_, _≤_, _<_}
+use Prim.Native.Nat.{ℕ, _≤_, _<_}
 use mathlib.Core.Path.{_≡_}
 use mathlib.Core.Option.{Option}
 use mathlib.Core.List.{List, [], _∷_}
+use native.Mathlib.Omega.{arith}
 use lib.ListN.{length, getD, drop}
 use Rattle.grammar.specs.Limits.{MAX-ROWS, MAX-STACK, MAX-TOKENS}
 use Rattle.grammar.specs.Data.Book.{Book}
@@ -12,6 +13,7 @@ use Rattle.grammar.specs.Automaton.States.{Action}
 use Rattle.grammar.specs.Evaluator.Tree.{Token, next, TokensOf}
 use Rattle.grammar.specs.Evaluator.Rows.{Row, page}
 use Rattle.grammar.specs.Evaluator.Machine.{Frame, Config, config, more, cell, step}
+use Rattle.grammar.specs.Evaluator.TakenPremises.{premises}
 use Rattle.grammar.specs.Refusal.{Sound}
 use Rattle.grammar.specs.Engine.{tablesOf}
 use Rattle.book.specs.Held.{RulesIn, DefinitionsIn}
@@ -20,7 +22,7 @@ use Rattle.cells.specs.Frames.{cellValue, FramesIn}
 use Rattle.stack.specs.declared.top.Top.{Top}
 use Rattle.stack.specs.Firsts.{FirstsIn}
 use Rattle.stack.specs.Lists.{ListsIn}
-use Rattle.stack.specs.Path.{Path}
+use Rattle.stack.specs.Path.{Path, path-state}
 
 -- a book that is taken, in the arrays that every move reads
 pub record BookIn (b : Book) (rules definitions table : List ℕ) : Type 0 where
@@ -29,6 +31,12 @@ pub record BookIn (b : Book) (rules definitions table : List ℕ) : Type 0 where
   pub rules-in : RulesIn (b .rules) rules
   pub definitions-in : DefinitionsIn (b .inheritedDefinitions) (b .synthesizedDefinitions) definitions
   pub table-in : GoTableIn b table
+
+-- the state on top of a path is one of the book's
+pub state-low : {b : Book} {rules definitions table : List ℕ} → BookIn b rules definitions table → {S : ℕ} {st : List Frame} → Path (tablesOf b) S st
+    → S < b .states
+state-low {b} B q =
+    path-state b (tablesOf b) (premises (B .spelled) (B .sound)) (B .sound .names) (omega (arith, B .sound .limits .states-limit .low)) q
 
 -- what a reduce reads of left sides: where their definitions begin, and which attributes they have
 pub record LeftIn (b : Book) (definitions firsts down up : List ℕ) : Type 0 where

@@ -1,6 +1,6 @@
 -- A reduce over the arrays: what it asks of them, and that what it does is what the machine does. Assumes that the book is taken.
 use Prim.Native.Nat.{ℕ, zero, suc, _+_, _*_, _-_, _≤_, _<_}
-use mathlib.Core.Path.{_≡_, refl, sym, ap, _∙_}
+use mathlib.Core.Path.{_≡_, refl, ap, _∙_}
 use mathlib.Core.Logic.{_≢_}
 use mathlib.Core.Option.{some}
 use mathlib.Core.List.{List, [], _∷_}
@@ -20,8 +20,7 @@ use Rattle.machine.specs.Moving.{Driven, Here, MovedOn}
 use Rattle.machine.specs.MovingLaws.{reduce-symbols, room-left}
 use Rattle.stack.specs.Path.{deep}
 use Rattle.machine.specs.Setting.{TopAsked, TopSet, config-asked, config-set, config-cell}
-use Rattle.machine.specs.Shifting.{state-low}
-use Rattle.stack.specs.Standing.{BookIn, LeftIn, ConfigIn, stands, framesOf, stateOf, kindOf, actionOf, GoesOn}
+use Rattle.stack.specs.Standing.{BookIn, state-low, LeftIn, ConfigIn, stands, framesOf, stateOf, kindOf, actionOf, GoesOn}
 
 -- a reduce of rule P is due
 pub record Reduces (b : Book) (c : Config) (P state kind : ℕ) : Type 0 where

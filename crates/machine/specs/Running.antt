@@ -4,11 +4,10 @@ use mathlib.Core.Path.{_≡_, refl, sym, ap, _∙_}
 use mathlib.Core.Option.{Option, none, some}
 use mathlib.Core.List.{List, [], _∷_}
 use native.Mathlib.Omega.{arith}
-use lib.ListN.{length, getD, drop}
+use lib.ListN.{getD, drop}
 use lib.Seq.{drop-nil}
 use Rattle.grammar.specs.Data.Book.{Book}
 use Rattle.grammar.specs.Automaton.FirstSets.{setsOf}
-use Rattle.grammar.specs.Automaton.States.{shift, accept, reduce}
 use Rattle.grammar.specs.Evaluator.Tree.{Token, next}
 use Rattle.grammar.specs.Evaluator.Rows.{page}
 use Rattle.grammar.specs.Evaluator.Machine.{Config, refused, stop, step}
@@ -23,8 +22,7 @@ use Rattle.machine.specs.Moving.{Driven, Here, Accepts}
 use Rattle.machine.specs.MovingLaws.{none-refused, accept-stops}
 use Rattle.machine.specs.ReduceMove.{Reduces, next-declared}
 use Rattle.machine.specs.ShiftMove.{Shifts}
-use Rattle.machine.specs.Shifting.{state-low}
-use Rattle.stack.specs.Standing.{BookIn, LeftIn, Message, ConfigIn, stands, stateOf, kindOf, firstValue, valueOf, rowsOf, actionOf}
+use Rattle.stack.specs.Standing.{BookIn, state-low, LeftIn, Message, ConfigIn, stands, stateOf, kindOf, firstValue, valueOf, rowsOf, actionOf}
 
 -- a book that is taken and a list of tokens, in the arrays that a run reads
 pub record RunIn (b : Book) (ks : List Token) (rules : List ℕ) (count : ℕ) (definitions : List ℕ) (lines : ℕ)

@@ -14,11 +14,11 @@ use Rattle.grammar.specs.Evaluator.Machine.{Config}
 use Rattle.stack.specs.declared.top.Top.{Top}
 use Rattle.stack.specs.Goes.{shift-goes}
 use Rattle.machine.specs.Moving.{Rooms, Driven, Here, MovedOn}
-use Rattle.machine.specs.MovingLaws.{room-left, depth-left}
+use Rattle.machine.specs.MovingLaws.{room-left}
 use Rattle.stack.specs.Pushes.{TokenPushed}
 use Rattle.machine.specs.Setting.{TopAsked, TopSet, config-asked, config-set, config-cell}
-use Rattle.machine.specs.Shifting.{state-low, shift-on}
-use Rattle.stack.specs.Standing.{BookIn, ConfigIn, stands, framesOf, stateOf, kindOf, valueOf, actionOf}
+use Rattle.machine.specs.Shifting.{shift-on}
+use Rattle.stack.specs.Standing.{BookIn, state-low, ConfigIn, stands, framesOf, stateOf, kindOf, valueOf, actionOf}
 
 -- a shift is due, of a token
 pub record Shifts (b : Book) (c : Config) (state kind value : ℕ) : Type 0 where

@@ -1,37 +1,33 @@
 -- A shift in arrays is a shift of the machine. Assumes that the book is taken and that the top cell is set.
-use Prim.Native.Nat.{ℕ, suc, _+_, _*_, _≤_, _<_}
+use Prim.Native.Nat.{ℕ, suc, _+_, _*_, _<_}
 use mathlib.Core.Path.{_≡_, refl, sym, ap, _∙_}
-use mathlib.Core.Logic.{_≢_}
-use mathlib.Core.Option.{Option, none, some}
+use mathlib.Core.Option.{some}
 use mathlib.Core.List.{List, [], _∷_, _++_}
 use native.Mathlib.Omega.{arith}
-use lib.ListN.{length, getD, drop, set, replicate, length-append, length-drop}
+use lib.ListN.{length, getD, set, replicate, length-append, length-drop}
 use lib.Seq.{getD-set-same, getD-set-other}
 use Rattle.grammar.specs.Limits.{MAX-ROWS, MAX-STACK}
-use Rattle.grammar.specs.Data.Symbol.{Symbol, terminal, nonterminal}
+use Rattle.grammar.specs.Data.Symbol.{terminal}
 use Rattle.grammar.specs.Data.ListLaws.{drop-step}
 use Rattle.grammar.specs.Data.Book.{Book}
-use Rattle.grammar.specs.Conditions.Meaning.{GoSymbol}
-use Rattle.grammar.specs.Automaton.States.{shift, goIn}
+use Rattle.grammar.specs.Automaton.States.{shift}
 use Rattle.grammar.specs.Evaluator.Tree.{Token, next}
-use Rattle.grammar.specs.Evaluator.Decorated.{Values, Result, token}
-use Rattle.grammar.specs.Evaluator.Rows.{Row, rowOfToken, page}
-use Rattle.grammar.specs.Evaluator.Machine.{Frame, frame, Config, config, Step, more, stop, refused, cell, step}
+use Rattle.grammar.specs.Evaluator.Decorated.{token}
+use Rattle.grammar.specs.Evaluator.Rows.{Row, rowOfToken}
+use Rattle.grammar.specs.Evaluator.Machine.{Frame, frame, Config, cell}
 use Rattle.grammar.specs.Evaluator.Moves.{shifted, shift-moves}
-use Rattle.grammar.specs.Evaluator.TakenPremises.{premises}
-use Rattle.grammar.specs.Engine.{tablesFrom, tablesOf}
+use Rattle.grammar.specs.Engine.{tablesOf}
 use Rattle.book.specs.Layout.{symbolCode}
-use Rattle.items.specs.Arrays.{targetCode, GoTableIn}
 use Rattle.items.specs.SymbolCodes.{terminal-code}
-use Rattle.cells.specs.Frames.{cellValue, FramesIn, a-frame}
-use Rattle.cells.specs.FramesLaws.{Agree, agree-same, agree-set, frames-kept}
+use Rattle.cells.specs.Frames.{cellValue, a-frame}
+use Rattle.cells.specs.FramesLaws.{agree-same, agree-set, frames-kept}
 use Rattle.stack.specs.declared.top.Top.{Top}
 use Rattle.stack.specs.Goes.{shift-goes, target-of}
-use Rattle.stack.specs.Page.{tokenStored, token-stored}
-use Rattle.stack.specs.Path.{Path, above, path-state}
+use Rattle.stack.specs.Page.{token-stored}
+use Rattle.stack.specs.Path.{above}
 use Rattle.stack.specs.Pushes.{Stacks, TokenPushed}
 use Rattle.stack.specs.Records.{Stored, token-in}
-use Rattle.stack.specs.Standing.{BookIn, Standing, ConfigIn, stands, CellIn, stateOf, kindOf, valueOf, actionOf, GoesOn}
+use Rattle.stack.specs.Standing.{BookIn, state-low, Standing, ConfigIn, stands, CellIn, stateOf, kindOf, valueOf, actionOf, GoesOn}
 
 module _ {b : Book} {ks : List Token} {states inherited synthesized starts rows : List ℕ} {top : Top} {st : List Frame} {S p : ℕ} {k : Token}
     {z : List Token} {rs : List Row} (C : Standing b ks states inherited synthesized starts rows top st S (k ∷ z) p rs) where
@@ -88,10 +84,6 @@ module _ {b : Book} {ks : List Token} {states inherited synthesized starts rows 
 -- ---- the move
 
 module _ {b : Book} {rules definitions table : List ℕ} (B : BookIn b rules definitions table) where
-  pub state-low : {S : ℕ} {st : List Frame} → Path (tablesOf b) S st → S < b .states
-  state-low q =
-      path-state b (tablesOf b) (premises (B .spelled) (B .sound)) (B .sound .names) (omega (arith, B .sound .limits .states-limit .low)) q
-
   module _ {ks : List Token} {states inherited synthesized starts rows : List ℕ} {top next : Top} {target kind value : ℕ}
       {states′ synthesized′ starts′ rows′ : List ℕ} (L : Stacks states synthesized starts rows)
       (push : TokenPushed top target kind value states synthesized starts rows states′ synthesized′ starts′ rows′ next) where
@@ -106,7 +98,7 @@ module _ {b : Book} {rules definitions table : List ℕ} (B : BookIn b rules def
         let line : length rs < MAX-ROWS = omega (arith, C .count-is) in
         let place : 64 * state + kind ≡ 64 * S + symbolCode (terminal (x .kind)) = omega (arith, terminal-code (x .kind) low) in
         let same : g .target ≡ target =
-        sym (t ∙ ap (λ n. getD table n 0) place ∙ target-of (B .spelled) (B .sound) (B .table-in) (terminal (x .kind)) (state-low (C .path))
+        sym (t ∙ ap (λ n. getD table n 0) place ∙ target-of (B .spelled) (B .sound) (B .table-in) (terminal (x .kind)) (state-low B (C .path))
         (record { low = g .low; high = g .high }) (g .goes)) in
         let go : tablesOf b .go S (terminal (x .kind)) ≡ some target = g .goes ∙ ap some same in
         record {

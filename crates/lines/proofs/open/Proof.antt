@@ -135,7 +135,8 @@ module _ {M : Type 1} (𝓤 : URA M) (H : Heap 𝓤) (A : Atoms 𝓤) (W : Given
   apart fits short =
       qed W ((‵ (flft κ₀ q₀) ⊛ ‵ (flft κ₁ q₁) ⊛ ‵ ftrue) ∷ ‵ (owns (typesAt (open′.signature .params) κs) args at) ∷ []) ∵
       move ! (1 ∷ []) $ fsplit ! $ use1 W (‵ Table ⊛ ‵ Table) (shr-copy 𝓤 H A W (named 0) κ₀ (classes .row κs) .twice t (ptr-vals t)) $ split ! $
-      move ! (2 ∷ []) $ fsplit ! $ move ! (1 ∷ []) $ drop ! $ use1 W (‵ Own ⊛ ‵ Own) (LL.copy D (T′.the-copy (namedLft 2 1 tt κs)) 𝓤 H A W .twice d (mach ∷ [])) $ split ! $
+      move ! (2 ∷ []) $ fsplit ! $ move ! (1 ∷ []) $ drop ! $
+      use1 W (‵ Own ⊛ ‵ Own) (LL.copy D (T′.the-copy (namedLft 2 1 tt κs)) 𝓤 H A W .twice d (mach ∷ [])) $ split ! $
       use1 W (given (mach ∷ [] ≡ mach ∷ []) (‵ (all-own (D .parts) L vd))) (own-open 𝓤 H A W D L vd mach) $ learn ! (λ _.
       use1 W (‵ (ownAt (D .parts) L 0 (d .text)) ⊛ ‵ (others (D .parts) L 0 vd)) (own-out 𝓤 H A W (D .parts) L 0 vd) $ split ! $ move ! (1 ∷ []) $ drop ! $
       -- [what the text owns; what the reader owns; the table's; the table's; the tokens]
@@ -150,21 +151,26 @@ module _ {M : Type 1} (𝓤 : URA M) (H : Heap 𝓤) (A : Atoms 𝓤) (W : Given
       → ent 𝓤 (⋆ 𝓤 H A (‵ (usize .own r (u ∷ [])) ∷ (‵ (flft κ₀ q₀) ⊛ ‵ (flft κ₁ q₁) ⊛ ‵ ftrue) ∷ (‵ Own ⊛ ‵ Table) ∷ [])) (Post u)
   exits short r u e =
       qed W (‵ (usize .own r (u ∷ [])) ∷ (‵ (flft κ₀ q₀) ⊛ ‵ (flft κ₁ q₁) ⊛ ‵ ftrue) ∷ (‵ Own ⊛ ‵ Table) ∷ []) ∵
-      suffices ! _ (ends-at 𝓤 H A open′.ended stayed (open′.clauses 𝓤 H A mem run) W ((κs, (q₀, (q₁, tt)), tt, args, at), tt) u r (tt, (tt, (tt, tt))) (tt, (tt, (tt, tt)))) $ says ! e $
-      move ! (1 ∷ []) $ frame ! $ move ! (1 ∷ []) $ split ! $ nothing ! $ owned ! u32 (Is u32) (uint-makes 𝓤 H A W w32) w _ (refl, short) $ fjoin ! $ move ! (1 ∷ 0 ∷ []) $ fjoin ! $
+      suffices ! _ (ends-at 𝓤 H A open′.ended stayed (open′.clauses 𝓤 H A mem run) W ((κs, (q₀, (q₁, tt)), tt, args, at), tt) u r
+      (tt, (tt, (tt, tt))) (tt, (tt, (tt, tt)))) $ says ! e $
+      move ! (1 ∷ []) $ frame ! $ move ! (1 ∷ []) $ split ! $ nothing ! $ owned ! u32 (Is u32) (uint-makes 𝓤 H A W w32) w _ (refl, short) $ fjoin ! $
+      move ! (1 ∷ 0 ∷ []) $ fjoin ! $
       move ! (1 ∷ 0 ∷ []) $ fjoin ! $ frame ! $ done !
 
   module _ (C : Calls 𝓤 H) (Λ : Loops 𝓤 H) (fm : FmC 𝓤 H (W .laws) C) (known : Triple 𝓤 (C #head) (Head 𝓤 H A mem run)) where
     walk : Is (R κs) t (ptr-vals t) → Is (B κs) d (mach ∷ []) → w < 2 ^ 32
-        → ent 𝓤 (onEntry 𝓤 H A open′.signature κs (q₀, (q₁, tt)) args at) (WpFn 𝓤 H C Λ code.function (vptr (t .ptr .0) (t .ptr .1) ∷ mach ∷ vint w32 w ∷ []) Post)
+        → ent 𝓤 (onEntry 𝓤 H A open′.signature κs (q₀, (q₁, tt)) args at)
+        (WpFn 𝓤 H C Λ code.function (vptr (t .ptr .0) (t .ptr .1) ∷ mach ∷ vint w32 w ∷ []) Post)
     walk is-t is-d short =
         let wt = LL.lawful D L 𝓤 H A W .typed d (mach ∷ []) is-d .0 in
-        qed W (raw (onEntry 𝓤 H A open′.signature κs (q₀, (q₁, tt)) args at) ∷ []) ∵ enter ! C Λ code.function (vptr (t .ptr .0) (t .ptr .1) ∷ mach ∷ vint w32 w ∷ []) _ $
+        qed W (raw (onEntry 𝓤 H A open′.signature κs (q₀, (q₁, tt)) args at) ∷ []) ∵
+        enter ! C Λ code.function (vptr (t .ptr .0) (t .ptr .1) ∷ mach ∷ vint w32 w ∷ []) _ $
         alloc1 ! (λ l₀. alloc1 ! (λ l₁. alloc1 ! (λ l₂. alloc1 ! (λ l₃. alloc1 ! (λ l₄. alloc1 ! (λ l₅. alloc0 ! $ params1 ! $
         pass1 ! (init ! 8 refl (shr-lawful 𝓤 H A W (named 0) κ₀ (classes .row κs) .typed t (ptr-vals t) is-t .0)) $ pass1 ! (init ! 6 refl wt) $
         pass1 ! (init ! 4 refl (tt, record { fits = short })) $ pass0 ! $
         assigns ! (of-opd ! (load ! (from ! (fld ! refl (stop !))) (look-in ! 6 (sub ! 0 refl (whole !))))) (from ! (stop !)) (init ! 2 refl (tt, wt .1 .0)) $
-        assigns ! (of-opd ! (load ! (from ! (fld ! refl (stop !))) (look-in ! 6 (sub ! 1 refl (whole !))))) (from ! (stop !)) (init ! 0 refl (tt, wt .1 .1 .0)) $
+        assigns ! (of-opd ! (load ! (from ! (fld ! refl (stop !))) (look-in ! 6 (sub ! 1 refl (whole !))))) (from ! (stop !))
+        (init ! 0 refl (tt, wt .1 .1 .0)) $
         move ! (12 ∷ []) $ use1 W (raw (Head 𝓤 H A mem run .pre to) ⊛ (‵ Own ⊛ ‵ Table)) (apart (wt .1 .1 .0 .fits) short) $ split ! $
         -- [what `head` asks; what stays; the locals, the last first]
         calls-at ! fm (Head 𝓤 H A mem run) known to
@@ -177,7 +183,8 @@ module _ {M : Type 1} (𝓤 : URA M) (H : Heap 𝓤) (A : Atoms 𝓤) (W : Given
         peeks ! usize (Is usize) (shows 𝓤 H A usize) r (u ∷ []) (λ is.
         land ! (from ! (stop !)) (init ! 13 refl (uint-lawful 𝓤 H A W w64 .typed r _ is .0)) $
         returns ! (look ! 13 refl) $ forget ! 3 refl $ forget ! 5 refl $ forget ! 7 refl $ forget ! 9 refl $ forget ! 11 refl $ forget ! 13 refl $
-        move ! (13 ∷ 14 ∷ []) $ free1 ! $ move ! (11 ∷ 12 ∷ []) $ free1 ! $ move ! (9 ∷ 10 ∷ []) $ free1 ! $ move ! (7 ∷ 8 ∷ []) $ free1 ! $ move ! (5 ∷ 6 ∷ []) $ free1 ! $
+        move ! (13 ∷ 14 ∷ []) $ free1 ! $ move ! (11 ∷ 12 ∷ []) $ free1 ! $ move ! (9 ∷ 10 ∷ []) $ free1 ! $ move ! (7 ∷ 8 ∷ []) $ free1 ! $
+        move ! (5 ∷ 6 ∷ []) $ free1 ! $
         move ! (3 ∷ 4 ∷ []) $ free1 ! $ free0 ! $ by ! (exits short r u e)))))))))))
 
 module _ {M : Type 1} (𝓤 : URA M) (H : Heap 𝓤) (A : Atoms 𝓤) (W : Given 𝓤 H A) (mem : Memory → SProp 𝓤) (run : Routine → Fun 𝓤) where
@@ -186,7 +193,10 @@ module _ {M : Type 1} (𝓤 : URA M) (H : Heap 𝓤) (A : Atoms 𝓤) (W : Given
   open-walks C Λ fm known =
       walked 𝓤 H A open′.ended stayed (open′.clauses 𝓤 H A mem run) (WpFn 𝓤 H C Λ code.function)
       (λ κs. (ptr-vals, (LL.vals (T.the-type (namedLft 2 1 tt κs)) (T′.the-laws (namedLft 2 1 tt κs)), (uint-vals w32, tt))))
-      (λ κs. (shr-tells (named 0) (κs .0) (classes .row κs), (LL.tells (T.the-type (namedLft 2 1 tt κs)) (T′.the-laws (namedLft 2 1 tt κs)), (uint-tells w32, tt))))
+      (λ κs. (
+        shr-tells (named 0) (κs .0) (classes .row κs),
+        (LL.tells (T.the-type (namedLft 2 1 tt κs)) (T′.the-laws (namedLft 2 1 tt κs)), (uint-tells w32, tt)),
+      ))
       (λ κs qs bounds a g are. needs 𝓤 _ _ (λ lent.
       walk 𝓤 H A W mem run (κs .0) (κs .1 .0) (qs .0) (qs .1 .0) (a .0) (a .1 .0) (a .1 .1 .0) lent C Λ fm known (are .0) (are .1 .0) (are .1 .1 .0 .1)))
 

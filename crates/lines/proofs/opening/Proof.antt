@@ -125,7 +125,8 @@ module _ {M : Type 1} (𝓤 : URA M) (H : Heap 𝓤) (A : Atoms 𝓤) (W : Given
       -- [the text's; the text's; the table's; the tokens]
       nothing ! $ owned ! usize (Is usize) (uint-makes 𝓤 H A W w64) n _ (refl, fits) $ fjoin ! $ move ! (1 ∷ 0 ∷ []) $ fjoin ! $ move ! (3 ∷ []) $ split ! $
       move ! (1 ∷ 2 ∷ []) $ use2 W (raw (Made 𝓤 H A mem run .pre to-made))
-      (qed W ((‵ (flft κ₁ q₁) ⊛ ‵ ftrue) ∷ ‵ (owns (typesAt (made.signature .params) (κ₁, tt)) (s, (n, tt)) (v ∷ [], (vint w64 n ∷ [], tt))) ∷ []) ∵ join ! $ frame ! $ done !) $
+      (qed W ((‵ (flft κ₁ q₁) ⊛ ‵ ftrue) ∷ ‵ (owns (typesAt (made.signature .params) (κ₁, tt)) (s, (n, tt)) (v ∷ [], (vint w64 n ∷ [], tt))) ∷ []) ∵
+      join ! $ frame ! $ done !) $
       frame ! $ frame ! $ frame ! $ done !
 
   made-said : (r : LineReader)
@@ -145,7 +146,8 @@ module _ {M : Type 1} (𝓤 : URA M) (H : Heap 𝓤) (A : Atoms 𝓤) (W : Given
   asked : (r : LineReader) (u : Val) → Lent (now t) (now (r .text))
       → ent 𝓤 (onEntry 𝓤 H A open′.signature κs (q₀, (q₁, tt)) (handed r) (passed u)) (Open 𝓤 H A mem run .pre (to-open r u))
   asked r u ok =
-      qed W ((‵ (flft κ₀ q₀) ⊛ ‵ (flft κ₁ q₁) ⊛ ‵ ftrue) ∷ ‵ (owns (typesAt (open′.signature .params) κs) (handed r) (passed u)) ∷ []) ∵ says ! ok $ frame ! $ done !
+      qed W ((‵ (flft κ₀ q₀) ⊛ ‵ (flft κ₁ q₁) ⊛ ‵ ftrue) ∷ ‵ (owns (typesAt (open′.signature .params) κs) (handed r) (passed u)) ∷ []) ∵
+      says ! ok $ frame ! $ done !
 
   goes-open : (r : LineReader) (u : Val) → w < 2 ^ 32 → Lent (now t) (now (r .text))
       → ent 𝓤 (⋆ 𝓤 H A ((‵ (B κs .own r (u ∷ [])) ⊛ (‵ (flft κ₁ q₁) ⊛ ‵ ftrue)) ∷ (‵ (flft κ₀ q₀) ⊛ (‵ Text ⊛ ‵ Table)) ∷ []))
@@ -171,10 +173,12 @@ module _ {M : Type 1} (𝓤 : URA M) (H : Heap 𝓤) (A : Atoms 𝓤) (W : Given
       → ent 𝓤 (⋆ 𝓤 H A (‵ (usize .own r (u ∷ [])) ∷ (‵ (flft κ₀ q₀) ⊛ ‵ (flft κ₁ q₁) ⊛ ‵ ftrue) ∷ (‵ Table ⊛ ‵ Text) ∷ [])) (Post u)
   exits fits short r u e =
       qed W (‵ (usize .own r (u ∷ [])) ∷ (‵ (flft κ₀ q₀) ⊛ ‵ (flft κ₁ q₁) ⊛ ‵ ftrue) ∷ (‵ Table ⊛ ‵ Text) ∷ []) ∵
-      suffices ! _ (ends-at 𝓤 H A opening′.ended stayed (opening′.clauses 𝓤 H A mem run) W ((κs, (q₀, (q₁, tt)), tt, args, at), tt) u r (tt, (tt, (tt, (tt, tt))))
+      suffices ! _ (ends-at 𝓤 H A opening′.ended stayed (opening′.clauses 𝓤 H A mem run) W ((κs, (q₀, (q₁, tt)), tt, args, at), tt) u r
+      (tt, (tt, (tt, (tt, tt))))
       (tt, (tt, (tt, (tt, tt))))) $ says ! e $
       move ! (1 ∷ []) $ frame ! $ move ! (1 ∷ []) $ split ! $ nothing ! $ owned ! u32 (Is u32) (uint-makes 𝓤 H A W w32) w _ (refl, short) $ fjoin ! $
-      owned ! usize (Is usize) (uint-makes 𝓤 H A W w64) n _ (refl, fits) $ fjoin ! $ move ! (2 ∷ 0 ∷ []) $ fjoin ! $ move ! (1 ∷ 0 ∷ []) $ fjoin ! $ frame ! $ done !
+      owned ! usize (Is usize) (uint-makes 𝓤 H A W w64) n _ (refl, fits) $ fjoin ! $
+      move ! (2 ∷ 0 ∷ []) $ fjoin ! $ move ! (1 ∷ 0 ∷ []) $ fjoin ! $ frame ! $ done !
 
   module _ (C : Calls 𝓤 H) (Λ : Loops 𝓤 H) (fm : FmC 𝓤 H (W .laws) C) (known-made : Triple 𝓤 (C #line-at) (Made 𝓤 H A mem run))
       (known-open : Triple 𝓤 (C #open) (Open 𝓤 H A mem run)) where
@@ -194,7 +198,8 @@ module _ {M : Type 1} (𝓤 : URA M) (H : Heap 𝓤) (A : Atoms 𝓤) (W : Given
         (and-then ! (load ! (from ! (stop !)) (look ! 8 refl)) (and-then ! (load ! (from ! (stop !)) (look ! 6 refl)) (no-more !))) (λ u.
         use1 W (later (some (λ (r : LineReader). ((‵ (flft κ₁ q₁) ⊛ ‵ ftrue) ⊛ ‵ (B κs .own r (u ∷ [])))
         ⊛ raw (ensured 𝓤 H A made.ended (made.clauses 𝓤 H A mem run) (κ₁, tt) (s, (n, tt)) tt r)))) (id⊢ 𝓤 _) $ await ! tt $ pick ! (λ r.
-        split ! $ move ! (1 ∷ []) $ use1 W (raw (fact 𝓤 ((r .text ≡ s) × (r .at ≡ n)))) (made-said r) $ heard ! ((r .text ≡ s) × (r .at ≡ n)) (λ e. split ! $ move ! (1 ∷ []) $
+        split ! $ move ! (1 ∷ []) $ use1 W (raw (fact 𝓤 ((r .text ≡ s) × (r .at ≡ n)))) (made-said r) $
+        heard ! ((r .text ≡ s) × (r .at ≡ n)) (λ e. split ! $ move ! (1 ∷ []) $
         -- [what the reader owns; the second token; what stays; the locals]
         peeks ! (B κs) (Is (B κs)) (shows 𝓤 H A (B κs)) r (u ∷ []) (λ is.
         land ! (from ! (stop !)) (init ! 3 refl (LL.lawful (T.the-type αᵉ) (T′.the-laws αᵉ) 𝓤 H A W .typed r _ is .0)) $
@@ -210,7 +215,8 @@ module _ {M : Type 1} (𝓤 : URA M) (H : Heap 𝓤) (A : Atoms 𝓤) (W : Given
         peeks ! usize (Is usize) (shows 𝓤 H A usize) p (u′ ∷ []) (λ is′.
         land ! (from ! (stop !)) (init ! 13 refl (uint-lawful 𝓤 H A W w64 .typed p _ is′ .0)) $
         returns ! (look ! 13 refl) $ forget ! 3 refl $ forget ! 5 refl $ forget ! 7 refl $ forget ! 9 refl $ forget ! 11 refl $ forget ! 13 refl $
-        move ! (13 ∷ 14 ∷ []) $ free1 ! $ move ! (11 ∷ 12 ∷ []) $ free1 ! $ move ! (9 ∷ 10 ∷ []) $ free1 ! $ move ! (7 ∷ 8 ∷ []) $ free1 ! $ move ! (5 ∷ 6 ∷ []) $ free1 ! $
+        move ! (13 ∷ 14 ∷ []) $ free1 ! $ move ! (11 ∷ 12 ∷ []) $ free1 ! $ move ! (9 ∷ 10 ∷ []) $ free1 ! $ move ! (7 ∷ 8 ∷ []) $ free1 ! $
+        move ! (5 ∷ 6 ∷ []) $ free1 ! $
         move ! (3 ∷ 4 ∷ []) $ free1 ! $ free0 ! $ by ! (exits fits short p u′ (found r p (e .0) (e .1) f))))))))))))))))
 
 module _ {M : Type 1} (𝓤 : URA M) (H : Heap 𝓤) (A : Atoms 𝓤) (W : Given 𝓤 H A) (mem : Memory → SProp 𝓤) (run : Routine → Fun 𝓤) where

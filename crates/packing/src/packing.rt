@@ -39,7 +39,8 @@ fn byte(text: &[u8], at: usize) -> u8
 // The words that the text fills.
 fn pack_whole(text: &[u8], words: &mut [u32])
     requires { ⌜ length (now text) ≤ 4 * length (now words) ⌝ }
-    ensures { λ _. ⌜ now (words .exit) ≡ pack (length (now (text .entry)) / 4) (now (text .entry)) ++ drop (length (now (text .entry)) / 4) (now (words .entry)) ⌝ }
+    ensures { λ _. ⌜ now (words .exit) ≡ pack (length (now (text .entry)) / 4) (now (text .entry))
+        ++ drop (length (now (text .entry)) / 4) (now (words .entry)) ⌝ }
 {
     let n = text.len() / 4;
     let mut i = 0;

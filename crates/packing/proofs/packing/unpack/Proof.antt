@@ -39,7 +39,8 @@ same-length c = search needs
 returns : tie.Need-returns Inv-loop μ-loop
 returns c = let k = c .before .before .before .before .before in
     let w = k .before .before in
-    unpacking-stop (w .before .loop .inv) (w .loop-test .taken) (sym (k .full .ensures) ∙ not-true _ (c .before .before .before .before .if1 .taken)) (c .before .before .put-last .ensures)
+    unpacking-stop (w .before .loop .inv) (w .loop-test .taken) (sym (k .full .ensures) ∙ not-true _ (c .before .before .before .before .if1 .taken))
+    (c .before .before .put-last .ensures)
 
 mul-put-whole : tie.Need-mul-put-whole Inv-loop μ-loop
 mul-put-whole c = search needs
@@ -56,7 +57,8 @@ loop-less c = search needs
 loop-again : tie.Need-loop-again Inv-loop μ-loop
 loop-again c = let k = c .before .before .before .before .before in
     let w = k .before .before in
-    unpacking-turn (w .before .loop .inv) (w .loop-test .taken) (w .before .before .before .before .pre) (sym (k .full .ensures) ∙ not-false _ (c .before .before .before .before .if1 .left))
+    unpacking-turn (w .before .loop .inv) (w .loop-test .taken) (w .before .before .before .before .pre)
+    (sym (k .full .ensures) ∙ not-false _ (c .before .before .before .before .if1 .left))
     (c .before .before .put-whole .ensures)
 
 mul-result : tie.Need-mul-result Inv-loop μ-loop

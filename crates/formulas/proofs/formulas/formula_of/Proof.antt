@@ -132,7 +132,8 @@ loop-again : tie.Need-loop-again Inv-loop μ-loop
 loop-again c = λ e f A.
     rw (c .operands .ensures)
     (running-turn (read c .before .before .loop .inv e f A) (left (read c .before) A) (read c .step-at .result) (A .stands .few) (here (read c) A)
-    (rw (c .before .before .before .before .before .before .before .before .before .before .before .operand-of .ensures) at (c .before .before .before .before .before .before .before .number-of .ensures)))
+    (rw (c .before .before .before .before .before .before .before .before .before .before .before .operand-of .ensures) at
+    (c .before .before .before .before .before .before .before .number-of .ensures)))
 
 array-read-t20 : tie.Need-array-read-t20 Inv-loop μ-loop
 array-read-t20 c = search needs

@@ -27,7 +27,9 @@ same-length-3 : tie.Need-same-length-3
 same-length-3 c = search needs
 
 returns-2 : tie.Need-returns-2
-returns-2 c = rw (c .before .before .before .before .before .before .before .before .before .before .before .operand2 .given .1) (numbered-new (c .before .before .before .before .before .before .intern .ensures))
+returns-2 c =
+    rw (c .before .before .before .before .before .before .before .before .before .before .before .operand2 .given .1)
+    (numbered-new (c .before .before .before .before .before .before .intern .ensures))
 
 pub number-of-spec : {M : Type 1} → statement M
 number-of-spec =

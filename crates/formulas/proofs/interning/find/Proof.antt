@@ -44,7 +44,9 @@ same-at-requires : tie.Need-same-at-requires Inv-loop μ-loop
 same-at-requires c κs = omega (arith, low c, entry (c .before) .pre .0 .table-long)
 
 returns : tie.Need-returns Inv-loop μ-loop
-returns c = seek-hit (entry (c .before .before .before) .pre .0) _ (omega arith) (c .before .before .before .loop .inv) (c .before .same-at .ensures .holds (c .if1 .taken))
+returns c =
+    seek-hit (entry (c .before .before .before) .pre .0) _ (omega arith) (c .before .before .before .loop .inv)
+    (c .before .same-at .ensures .holds (c .if1 .taken))
 
 mul-next-2 : tie.Need-mul-next-2 Inv-loop μ-loop
 mul-next-2 c = omega (arith, low (c .before .before))
@@ -58,7 +60,8 @@ loop-less c = seek-less (entry (c .before .before .before .before) .pre .0) _ (o
 loop-again : tie.Need-loop-again Inv-loop μ-loop
 loop-again c =
     let s = entry (c .before .before .before .before) in
-    seek-next (s .pre .0) (shown (s .args .row)) (omega arith) (c .before .before .before .before .loop .inv) (c .before .before .same-at .ensures .fails (c .before .if1 .left))
+    seek-next (s .pre .0) (shown (s .args .row)) (omega arith) (c .before .before .before .before .loop .inv)
+    (c .before .before .same-at .ensures .fails (c .before .if1 .left))
 
 returns-2 : tie.Need-returns-2 Inv-loop μ-loop
 returns-2 c = seek-end (entry (c .before) .pre .0) _ (c .loop-test .left) (c .before .loop .inv)

@@ -42,7 +42,8 @@ link-requires : tie.Need-link-requires
 link-requires c κs =
     let f = c .before .before .before .before .before .before .before in
     let T = entry f .pre .0 in
-    (T .heads-long, T .nexts-long, entry f .pre .1, omega (arith, f .before .before .before .before .hash .ensures, hash-low (shown (f .before .before .before .before .before .row-of .result))))
+    let low = hash-low (shown (f .before .before .before .before .before .row-of .result)) in
+    (T .heads-long, T .nexts-long, entry f .pre .1, omega (arith, f .before .before .before .before .hash .ensures, low))
 
 add-t24 : tie.Need-add-t24
 add-t24 c = search needs
@@ -62,8 +63,10 @@ returns-2 c =
     let s = entry f in
     let r = f .before .before .before .before .before .row-of in
     let h = f .before .before .before .before .hash in
-    let e : f .find .result ≡ s .args .used = omega (arith, f .find .ensures .within, c .before .before .before .before .before .before .before .before .before .before .before .if1 .left) in
-    rw (c .before .before .before .before .before .before .before .before .before .put-row .ensures, c .before .before .before .before .link .ensures .0, c .before .before .before .before .link .ensures .1)
+    let new = c .before .before .before .before .before .before .before .before .before .before .before .if1 .left in
+    let e : f .find .result ≡ s .args .used = omega (arith, f .find .ensures .within, new) in
+    let link = c .before .before .before .before .link in
+    rw (c .before .before .before .before .before .before .before .before .before .put-row .ensures, link .ensures .0, link .ensures .1)
     (added (s .pre .0) (r .result) (s .pre .1) (f .find .ensures .miss e) (h .result) (h .ensures) (r .ensures))
 
 pub intern-spec : {M : Type 1} → statement M

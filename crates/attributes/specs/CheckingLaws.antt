@@ -103,7 +103,8 @@ module _ {b : Book} {definitions rules owned masks : List ℕ} (H : CheckHeld b 
     pub due-behind : {t : Bool} → t ≡ meets (getD masks (9 * rule + position - 1) 0) a → not t ≡ false → (position ≡ 1 → ⊥)
         → true ≡ due b (memberIn masks a) slots (lineAt b d)
     due-behind e f n =
-        sym (due-member e f ∙ ready-behind b slots (lineAt b d .rule) (dotOf (lineAt b d)) (λ z. n (omega (arith, position-word, H .line-in d l .position-low))))
+        sym (due-member e f ∙ ready-behind b slots (lineAt b d .rule) (dotOf (lineAt b d))
+        (λ z. n (omega (arith, position-word, H .line-in d l .position-low))))
 
     pub due-front : {t : Bool} → t ≡ meets (getD masks (9 * rule + position - 1) 0) a → not t ≡ false → position ≡ 1 → {known left : ℕ} → KnownIn slots known
         → left ≡ getD rules (10 * rule) 0 → subset (getD owned left 0) known ≡ due b (memberIn masks a) slots (lineAt b d)
@@ -144,9 +145,15 @@ module _ {slots : Slots} {done : List Bool} {words marks table heads nexts : Lis
   slots-new : SlotsIn table used (set slots K (some f)) (set words K (number + 1))
   slots-new = record { slot-is = λ J h. by J h (ℕ-discrete J K) }
     where
-      by : (J : ℕ) → J < length (set words K (number + 1)) → Dec (J ≡ K) → SlotIn table used (slotAt (set slots K (some f)) J) (getD (set words K (number + 1)) J 0)
+      by : (J : ℕ) → J < length (set words K (number + 1)) → Dec (J ≡ K)
+          → SlotIn table used (slotAt (set slots K (some f)) J) (getD (set words K (number + 1)) J 0)
       by J h (yes p) =
-          rw (p, getD-set-same slots K (some f) none (omega (arith, R .long .0)), getD-set-same words K (number + 1) 0 (omega (arith, R .words-long)), add-one number)
+          rw (
+            p,
+            getD-set-same slots K (some f) none (omega (arith, R .long .0)),
+            getD-set-same words K (number + 1) 0 (omega (arith, R .words-long)),
+            add-one number,
+          )
           (full m)
       by J h (no n) =
           rw (getD-set-other slots K J (some f) none n, getD-set-other words K J (number + 1) 0 n)
@@ -193,7 +200,8 @@ module _ {slots : Slots} {done : List Bool} {words marks table heads nexts : Lis
       full-word : slotAt slots K ≡ none → ⊥
       full-word n = let z = empty-word here n in omega arith
 
-  pub enter-other : (getD words K 0 ≡ 0 → ⊥) → (getD words K 0 ≡ number + 1 → ⊥) → Reached words marks table heads nexts used known count true (enter slots done K f)
+  pub enter-other : (getD words K 0 ≡ 0 → ⊥) → (getD words K 0 ≡ number + 1 → ⊥)
+      → Reached words marks table heads nexts used known count true (enter slots done K f)
   enter-other full-word other =
       enter-by (Reached words marks table heads nexts used known count true) slots done K f
       (λ n. absurd (full-word (empty-word here n)))
@@ -259,7 +267,8 @@ module _ {b : Book} {definitions rules owned masks : List ℕ} (H : CheckHeld b 
         let leaves = rw next at (H .premises .line-right d l .leaves-read) in
         rw is (record {
           stands = inherited-in (H .definitions-in) d l few;
-          reads = reads-item (R .slots-in) {b = b} {P = lineAt b d .rule} (dotOf (lineAt b d)) (omega (arith, H .premises .attributes-limit, R .words-long)) leaves;
+          reads = reads-item (R .slots-in) {b = b} {P = lineAt b d .rule} (dotOf (lineAt b d))
+              (omega (arith, H .premises .attributes-limit, R .words-long)) leaves;
           room = omega (arith, R .few, count-low, few);
         })
 

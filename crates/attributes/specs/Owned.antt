@@ -89,7 +89,8 @@ module _ (owners : List ℕ) (A : ℕ) where
   owned-there zero K m l e = absurd (omega arith)
   owned-there (suc n) K m l e = by (ℕ-discrete K n) (owned-there n K)
     where
-      keeps : (t : Bool) → bit (ownedBelow owners A n) K ≡ true → bit (elim t [ true ↦ with (ownedBelow owners A n) n | false ↦ ownedBelow owners A n ]) K ≡ true
+      keeps : (t : Bool) → bit (ownedBelow owners A n) K ≡ true
+          → bit (elim t [ true ↦ with (ownedBelow owners A n) n | false ↦ ownedBelow owners A n ]) K ≡ true
       keeps true h = with-keeps (ownedBelow owners A n) n K (omega arith) h
       keeps false h = h
 

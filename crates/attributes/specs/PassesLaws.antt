@@ -36,7 +36,8 @@ module _ (b : Book) (member : ℕ → ℕ → Bool) where
     pub holds : ProgressIn slots done words marks table heads nexts used known count
     pub same-end : end (progress slots done) ≡ end start
 
-  module _ {start : Progress} {words marks table heads nexts : List ℕ} {used known count : ℕ} (P : Passing start words marks table heads nexts used known count) where
+  module _ {start : Progress} {words marks table heads nexts : List ℕ} {used known count : ℕ}
+      (P : Passing start words marks table heads nexts used known count) where
     pub few-done : count ≤ 128
     few-done = omega (arith, P .holds .count-is, done-length (P .done), P .holds .long .1)
 

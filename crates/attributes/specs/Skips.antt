@@ -98,7 +98,8 @@ module _ (b : Book) (member : ℕ → ℕ → Bool) where
   visits-on i zero s l still = let e : i ≡ 0 = omega arith in rw e
   visits-on i (suc j) s l still = by (ℕ-discrete i (suc j)) (λ h. visits-on i j s h (λ d a k. still d a (omega arith)))
     where
-      by : Dec (i ≡ suc j) → (i ≤ j → visits (visit b member) j s ≡ visits (visit b member) i s) → visits (visit b member) (suc j) s ≡ visits (visit b member) i s
+      by : Dec (i ≡ suc j) → (i ≤ j → visits (visit b member) j s ≡ visits (visit b member) i s)
+          → visits (visit b member) (suc j) s ≡ visits (visit b member) i s
       by (yes e) before = rw e
       by (no n) before = still j (omega arith) (omega arith) (visits (visit b member) j s) ∙ before (omega arith)
 
@@ -107,7 +108,8 @@ pub visits-skip : {b : Book} {definitions rules owned masks : List ℕ} → Chec
     → lines ≡ grammar.definitions b → Skip definitions masks lines i j → (wanted : ℕ) (s : Progress)
     → visits (visit b (memberIn masks wanted)) i s ≡ visits (visit b (memberIn masks wanted)) j s
 visits-skip {b} {definitions} {rules} {owned} {masks} H {lines} {i} {j} e S wanted s =
-    sym (visits-on b (memberIn masks wanted) i j s (S .low) λ d a h. visit-absent b (memberIn masks wanted) d (nothing d (omega (arith, S .high)) (S .absent d a h)))
+    sym (visits-on b (memberIn masks wanted) i j s (S .low)
+    λ d a h. visit-absent b (memberIn masks wanted) d (nothing d (omega (arith, S .high)) (S .absent d a h)))
   where
     nothing : (d : ℕ) → d < grammar.definitions b → itemSet definitions masks d ≡ 0 → memberIn masks wanted (lineAt b d .rule) (dotOf (lineAt b d)) ≡ false
     nothing d l z =

@@ -34,7 +34,8 @@ module _ (b : Book) (masks : List ℕ) where
   check-single a h = check-same b (memberIn masks (single a)) (memberOf masks a) λ d l. meets-single _ a h
 
   -- a definition that is due with one terminal
-  pub due-single : (a : ℕ) → a < 32 → (slots : Slots) (line : InheritedDefinition) → due b (memberIn masks (single a)) slots line ≡ due b (memberOf masks a) slots line
+  pub due-single : (a : ℕ) → a < 32 → (slots : Slots) (line : InheritedDefinition)
+      → due b (memberIn masks (single a)) slots line ≡ due b (memberOf masks a) slots line
   unfolding due
   due-single a h slots line =
       ap (λ (t : Bool). elim t [ true ↦ ready b slots (line .rule) (dotOf line) | false ↦ false ]) (meets-single _ a h)

@@ -122,7 +122,8 @@ fn visit(
         × (line < grammar.definitions b)
         × ProgressIn s d (now slots) (now done) (now table) (now heads) (now nexts) (p .used) (p .known) (p .count))
         × (p .split ≡ false) ⌝ }
-    ensures { λ r. ⌜ ((b : Book) (s : Slots) (d : List Bool) → CheckHeld b (now (definitions .entry)) (now (rules .entry)) (now (owned .entry)) (now (masks .entry))
+    ensures { λ r. ⌜ ((b : Book) (s : Slots) (d : List Bool)
+        → CheckHeld b (now (definitions .entry)) (now (rules .entry)) (now (owned .entry)) (now (masks .entry))
         → line < grammar.definitions b
         → ProgressIn s d (now (slots .entry)) (now (done .entry)) (now (table .entry)) (now (heads .entry)) (now (nexts .entry)) (p .used) (p .known) (p .count)
         → Reached (now (slots .exit)) (now (done .exit)) (now (table .exit)) (now (heads .exit)) (now (nexts .exit)) (r .used) (r .known) (r .count) (r .split)
@@ -161,7 +162,8 @@ fn pass(
         × (lines ≡ grammar.definitions b)
         × ProgressIn s d (now slots) (now done) (now table) (now heads) (now nexts) (p .used) (p .known) (p .count))
         × Skips (now definitions) (now masks) lines (now skips) × (p .split ≡ false) ⌝ }
-    ensures { λ r. ⌜ ((b : Book) (s : Slots) (d : List Bool) → CheckHeld b (now (definitions .entry)) (now (rules .entry)) (now (owned .entry)) (now (masks .entry))
+    ensures { λ r. ⌜ ((b : Book) (s : Slots) (d : List Bool)
+        → CheckHeld b (now (definitions .entry)) (now (rules .entry)) (now (owned .entry)) (now (masks .entry))
         → lines ≡ grammar.definitions b
         → ProgressIn s d (now (slots .entry)) (now (done .entry)) (now (table .entry)) (now (heads .entry)) (now (nexts .entry)) (p .used) (p .known) (p .count)
         → Reached (now (slots .exit)) (now (done .exit)) (now (table .exit)) (now (heads .exit)) (now (nexts .exit)) (r .used) (r .known) (r .count) (r .split)
@@ -211,7 +213,8 @@ fn passes(
         × (lines ≡ grammar.definitions b)
         × ProgressIn s d (now slots) (now done) (now table) (now heads) (now nexts) (p .used) (p .known) (p .count))
         × Skips (now definitions) (now masks) lines (now skips) × (p .split ≡ false) ⌝ }
-    ensures { λ r. ⌜ ((b : Book) (s : Slots) (d : List Bool) → CheckHeld b (now (definitions .entry)) (now (rules .entry)) (now (owned .entry)) (now (masks .entry))
+    ensures { λ r. ⌜ ((b : Book) (s : Slots) (d : List Bool)
+        → CheckHeld b (now (definitions .entry)) (now (rules .entry)) (now (owned .entry)) (now (masks .entry))
         → lines ≡ grammar.definitions b
         → ProgressIn s d (now (slots .entry)) (now (done .entry)) (now (table .entry)) (now (heads .entry)) (now (nexts .entry)) (p .used) (p .known) (p .count)
         → r ≡ unsplit (fixpoint.passes (grammar.visit b (memberIn (now (masks .entry)) wanted)) advance (grammar.definitions b) (progress s d))) ⌝ }

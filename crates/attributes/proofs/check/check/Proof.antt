@@ -11,7 +11,9 @@ use Rattle.attributes.proofs.check.check.Tie as tie
 
 -- the entry, as the place where the passes begin knows it
 abbrev entry : tie.After-passes-arg5 → tie.Start
-entry c = c .before .before .before .before .before .before .before .before .before .before .before .before .before .before .before .before .before .before .before .before .before .before .before .before .before .before .before
+entry c =
+    c .before .before .before .before .before .before .before .before .before .before .before .before .before .before
+    .before .before .before .before .before .before .before .before .before .before .before .before .before
 
 clear-slots-requires : tie.Need-clear-slots-requires
 clear-slots-requires c κs = search needs
@@ -31,7 +33,10 @@ passes-requires c κs =
         replicate 128 false,
         s .pre .0 .1,
         s .pre .0 .2,
-        begun (s .pre .2) (c .before .before .before .before .before .before .before .before .before .before .before .before .before .before .before .clear-slots .ensures) (c .before .before .before .before .before .before .before .before .before .before .before .fill .ensures) (c .before .before .before .before .before .before .before .clear .ensures),
+        begun (s .pre .2)
+            (c .before .before .before .before .before .before .before .before .before .before .before .before .before .before .before .clear-slots .ensures)
+            (c .before .before .before .before .before .before .before .before .before .before .before .fill .ensures)
+            (c .before .before .before .before .before .before .before .clear .ensures),
       ),
       s .pre .1,
       refl,
@@ -57,7 +62,11 @@ returns c = λ b H e.
     let v = c .before .before .before .before .before .before .before .before .before .before in
     let a = v .before in
     v .passes .ensures b (replicate 16 none) (replicate 128 false) H e
-    (begun (entry a .pre .2) (a .before .before .before .before .before .before .before .before .before .before .before .before .before .before .before .clear-slots .ensures) (a .before .before .before .before .before .before .before .before .before .before .before .fill .ensures) (a .before .before .before .before .before .before .before .clear .ensures)) ∙ check-is b _
+    (begun (entry a .pre .2)
+    (a .before .before .before .before .before .before .before .before .before .before .before .before .before .before .before .clear-slots .ensures)
+    (a .before .before .before .before .before .before .before .before .before .before .before .fill .ensures)
+    (a .before .before .before .before .before .before .before .clear .ensures))
+    ∙ check-is b _
 
 pub check-spec : {M : Type 1} → statement M
 check-spec =

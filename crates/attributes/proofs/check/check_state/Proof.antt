@@ -12,7 +12,9 @@ use Rattle.attributes.proofs.check.check_state.Tie as tie
 
 -- the entry, as the place after the check of all items knows it
 abbrev entry : tie.After-check → tie.Start
-entry c = c .before .before .before .before .before .before .before .before .before .before .before .before .before .before .before .before .before .before .before
+entry c =
+    c .before .before .before .before .before .before .before .before .before .before
+    .before .before .before .before .before .before .before .before .before
 
 slice-aggregate-skip : tie.Need-slice-aggregate-skip
 slice-aggregate-skip c = search needs
@@ -24,7 +26,10 @@ slice-aggregate-check : tie.Need-slice-aggregate-check
 slice-aggregate-check c = search needs
 
 check-requires : tie.Need-check-requires
-check-requires c κs = let g = c .before .before .before .before .before .before .before .before .before .before .before .before .before .before .before .before .before .before .pre in (g .0, c .before .before .before .before .before .before .before .skip .ensures, g .2)
+check-requires c κs =
+    let called = c .before .before .before .before .before .before .before in
+    let g = called .before .before .before .before .before .before .before .before .before .before .before .pre in
+    (g .0, called .skip .ensures, g .2)
 
 same-length : tie.Need-same-length
 same-length c = search needs

@@ -81,7 +81,8 @@ told : (v : tie.After-check Inv-loop μ-loop) (b : Book)
     → v .check .result ≡ answer (turn v .before) b (turn v .before .loop .a)
 told v b H e =
     v .check .ensures b H e
-    ∙ ap (λ (set : ℕ). grammar.check b (memberIn (entry (turn v .before) .args .masks .now) set)) (v .before .before .before .before .before .before .single .ensures)
+    ∙ ap (λ (set : ℕ). grammar.check b (memberIn (entry (turn v .before) .args .masks .now) set))
+    (v .before .before .before .before .before .before .single .ensures)
     ∙ check-single b (entry (turn v .before) .args .masks .now) (turn v .before .loop .a) (low (turn v))
 
 single-requires : tie.Need-single-requires Inv-loop μ-loop

@@ -104,7 +104,9 @@ on t =
     s .pre .1 .skip (t .before .loop .i + 1) (omega arith) (omega (arith, t .loop-test .taken))
 
 add-i : tie.Need-add-i Inv-loop μ-loop
-add-i c = let t = turn (c .before .before .before .before .before .before .before .before .before .before .before) in omega (arith, t .loop-test .taken, few (entry (t .before)))
+add-i c =
+    let t = turn (c .before .before .before .before .before .before .before .before .before .before .before) in
+    omega (arith, t .loop-test .taken, few (entry (t .before)))
 
 shared-slice-read-i-2 : tie.Need-shared-slice-read-i-2 Inv-loop μ-loop
 shared-slice-read-i-2 c =
@@ -113,10 +115,14 @@ shared-slice-read-i-2 c =
     omega (arith, t .loop-test .taken, few s, s .pre .1 .long)
 
 cast-i-2 : tie.Need-cast-i-2 Inv-loop μ-loop
-cast-i-2 c = let t = turn (c .before .before .before .before .before .before .before .before .before .before .before .before) in omega (arith, on t .high, few (entry (t .before)))
+cast-i-2 c =
+    let t = turn (c .before .before .before .before .before .before .before .before .before .before .before .before) in
+    omega (arith, on t .high, few (entry (t .before)))
 
 loop-less : tie.Need-loop-less Inv-loop μ-loop
-loop-less c = let t = turn (c .before .before .before .before .before .before .before .before .before .before .before .before) in omega (arith, t .loop-test .taken, on t .low)
+loop-less c =
+    let t = turn (c .before .before .before .before .before .before .before .before .before .before .before .before) in
+    omega (arith, t .loop-test .taken, on t .low)
 
 loop-again : tie.Need-loop-again Inv-loop μ-loop
 loop-again c =

@@ -35,14 +35,16 @@ slice-read-if1 : tie.Need-slice-read-if1
 slice-read-if1 c = search needs
 
 returns : tie.Need-returns
-returns c = λ b s d H l R. visit-done H l R (c .if1 .taken) (c .before .before .before .before .before .before .before .before .before .before .before .pre .1) _
+returns c = λ b s d H l R.
+    visit-done H l R (c .if1 .taken) (c .before .before .before .before .before .before .before .before .before .before .before .pre .1) _
 
 due-requires : tie.Need-due-requires
 due-requires c κs = search needs
 
 returns-2 : tie.Need-returns-2
 returns-2 c = λ b s d H l R.
-    visit-undue H l R _ (c .before .due .ensures b s H l (R .known-in)) (c .if2 .taken) (c .before .before .before .before .before .before .before .before .before .before .before .before .before .pre .1)
+    visit-undue H l R _ (c .before .due .ensures b s H l (R .known-in)) (c .if2 .taken)
+    (c .before .before .before .before .before .before .before .before .before .before .before .before .before .pre .1)
 
 mul-dot : tie.Need-mul-dot
 mul-dot c = search needs

@@ -27,7 +27,9 @@ shared-slice-read-own : tie.Need-shared-slice-read-own
 shared-slice-read-own c = omega (arith, left (c .before), c .before .before .before .before .before .before .before .pre .1)
 
 returns : tie.Need-returns
-returns c = λ G F R firsts L H p N T M. let w = c .before .before in rule-idle H (w .before .before .before .before .before .before .args .rule) p (w .word .ensures) (c .if1 .taken) M
+returns c = λ G F R firsts L H p N T M.
+    let w = c .before .before in
+    rule-idle H (w .before .before .before .before .before .before .args .rule) p (w .word .ensures) (c .if1 .taken) M
 
 mark-item-requires : tie.Need-mark-item-requires
 mark-item-requires c κs = search needs

@@ -25,7 +25,9 @@ shared-slice-read-if1 : tie.Need-shared-slice-read-if1
 shared-slice-read-if1 c = search needs
 
 returns : tie.Need-returns
-returns c = let a = c .before .before .before .before .before .args in λ G F R firsts N H p d. sym (reach-full N H (a .rule) (a .dot) (a .own) p d (c .if1 .taken))
+returns c =
+    let a = c .before .before .before .before .before .args in
+    λ G F R firsts N H p d. sym (reach-full N H (a .rule) (a .dot) (a .own) p d (c .if1 .taken))
 
 union-requires : tie.Need-union-requires
 union-requires c κs = search needs

@@ -46,7 +46,8 @@ fn fill_items(
     reached: &mut [u32],
     lookaheads: &mut [u32],
 )
-    requires { ⌜ ((b : Book) × KernelsHeld b (now rules) (now kernels) states × (count ≡ length (b .rules)) × StartsIn (b .kernels) (b .states) (now starts)) ⌝ }
+    requires { ⌜ ((b : Book) × KernelsHeld b (now rules) (now kernels) states × (count ≡ length (b .rules))
+        × StartsIn (b .kernels) (b .states) (now starts)) ⌝ }
     requires { ⌜ (length (now vanishes) ≡ 9 * MAX-RULES) × (length (now begins) ≡ 9 * MAX-RULES) × (length (now reached) ≡ 9 * MAX-RULES)
         × (now lookaheads ≡ replicate 4096 0) ⌝ }
     ensures { λ _. ⌜ ((b : Book) → KernelsHeld b (now (rules .entry)) (now (kernels .entry)) states → count ≡ length (b .rules)

@@ -12,7 +12,8 @@ rests-requires c κs =
 
 closures-requires : tie.Need-closures-requires
 closures-requires c κs =
-    let s = c .before .before .before .before .before .before .before .before .before .before .before .before .before .before .before .before .before .before .before .before in
+    let s = c .before .before .before .before .before .before .before .before .before .before
+    .before .before .before .before .before .before .before .before .before .before in
     let b = s .pre .0 .0 in
     let h = s .pre .0 .1 in
     let R = c .before .before .before .before .before .before .before .before .before .rests .ensures (b .rules) (held-grammar h (s .pre .0 .2)) in

@@ -112,7 +112,8 @@ returns-3 c = λ b H.
     let (g, G) = m .moves .ensures b (H .kernels-held) (H .rules-counted) (H .goes-in) (H .goes-counted) T (I .closures-in) in
     let K = held-closures (H .kernels-held) T (I .closures-in) in
     let A = c .before .before .before .actions .ensures b (setsOf (b .rules)) K (H .terminals-are) (H .kernels-held .states-are) (H .rules-counted) in
-    tabled-acts k (not-false _ (i .before .before .before .before .before .before .if1 .left)) g (not-false _ (c .before .before .before .before .before .before .before .if2 .left)) A
+    tabled-acts k (not-false _ (i .before .before .before .before .before .before .if1 .left))
+    g (not-false _ (c .before .before .before .before .before .before .before .if2 .left)) A
     (not-true _ (c .if3 .taken))
 
 same-length-15 : tie.Need-same-length-15
@@ -145,7 +146,8 @@ returns-4 c = λ b H.
     let (g, G) = m .moves .ensures b (H .kernels-held) (H .rules-counted) (H .goes-in) (H .goes-counted) T (I .closures-in) in
     let K = held-closures (H .kernels-held) T (I .closures-in) in
     let A = c .before .before .before .actions .ensures b (setsOf (b .rules)) K (H .terminals-are) (H .kernels-held .states-are) (H .rules-counted) in
-    tabled-all k (not-false _ (i .before .before .before .before .before .before .if1 .left)) g (not-false _ (c .before .before .before .before .before .before .before .if2 .left)) A
+    tabled-all k (not-false _ (i .before .before .before .before .before .before .if1 .left))
+    g (not-false _ (c .before .before .before .before .before .before .before .if2 .left)) A
     (not-false _ (c .if3 .left)) I T G
 
 pub tables-spec : {M : Type 1} → statement M

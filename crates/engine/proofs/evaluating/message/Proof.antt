@@ -9,7 +9,9 @@ use Rattle.engine.proofs.evaluating.message.Tie as tie
 -- from each call back to the entry
 
 abbrev sides-start : tie.After-up → tie.Start
-sides-start c = c .before .before .before .before .before .before .before .before .before .before .before .before .before .before .before .before .before .before .before .before .before
+sides-start c =
+    c .before .before .before .before .before .before .before .before .before .before .before
+    .before .before .before .before .before .before .before .before .before .before
 
 abbrev sides-at : tie.After-run-arg3 → tie.After-fill-sides
 sides-at c = c .before .before .before .before .before .before .before .before .before .before .before .before .before .before .before .before

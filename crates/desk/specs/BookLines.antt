@@ -145,7 +145,8 @@ an-inherited-definition d r l =
 a-synthesized-definition : (d : SynthesizedDefinition) (r : List ℕ) → Lines r → Lines (printSynthesizedDefinition d r)
 unfolding printSynthesizedDefinition bytes unfed
 a-synthesized-definition d r l =
-    head "(syndef " refl refl refl refl (digits (d .rule) (words " s" refl (digits (d .attribute) (words " " refl (an-expression (d .expression) _ (closes l))))))
+    head "(syndef " refl refl refl refl
+    (digits (d .rule) (words " s" refl (digits (d .attribute) (words " " refl (an-expression (d .expression) _ (closes l))))))
 
 a-kernel : (k : Kernel) (r : List ℕ) → Lines r → Lines (printKernel k r)
 unfolding printKernel bytes unfed

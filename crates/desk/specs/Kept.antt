@@ -26,7 +26,8 @@ kept-none buffer = record { numbers-are = refl; count-is = refl }
 
 two-stored : (buffer : List ℕ) (m k v : ℕ) → suc m < length buffer → take (suc (suc m)) (set (set buffer m k) (suc m) v) ≡ take m buffer ++ (k ∷ v ∷ [])
 two-stored buffer m k v h =
-    rw (take-suc-set (set buffer m k) (suc m) v (rw (length-set buffer m k) h), take-suc-set buffer m k (omega arith)) (append-assoc (take m buffer) (k ∷ []) (v ∷ []))
+    rw (take-suc-set (set buffer m k) (suc m) v (rw (length-set buffer m k) h), take-suc-set buffer m k (omega arith))
+    (append-assoc (take m buffer) (k ∷ []) (v ∷ []))
 
 module _ {buffer after numbers : List ℕ} {count : ℕ} (kind value : ℕ) (h : Kept buffer count numbers)
     (put : after ≡ putLine KEPT-TOKENS count (kind ∷ value ∷ []) buffer) where

@@ -49,7 +49,8 @@ module _ (bytes before : List ℕ) (at : ℕ) (room : at + length bytes ≤ leng
         record {
           same-length = length-set out (at + i) (getD bytes i 0) ∙ c .same-length;
           within = omega arith;
-          text-is = rw (e, take-suc-set out (at + i) (getD bytes i 0) l, c .text-is, add-one i, take-suc bytes i 0 h) (append-assoc (take at before) (take i bytes) _);
+          text-is = rw (e, take-suc-set out (at + i) (getD bytes i 0) l, c .text-is, add-one i, take-suc bytes i 0 h)
+              (append-assoc (take at before) (take i bytes) _);
         }
 
     pub copying-end : length bytes ≤ i → Puts (λ r. bytes ++ r) (length bytes) before at out (at + i)

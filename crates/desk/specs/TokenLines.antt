@@ -24,7 +24,8 @@ data OneLine : List ℕ → Type 0 where
   feed : OneLine (10 ∷ [])
   more : {c : ℕ} {bs : List ℕ} → eqb c 10 ≡ false → OneLine bs → OneLine (c ∷ bs)
 
-one-taken : {bs : List ℕ} (lines : Lines) (line r : List ℕ) → OneLine bs → allBytes (so-far lines line) (bs ++ r) ≡ allBytes (so-far (oneLine lines (line ++ bs)) []) r
+one-taken : {bs : List ℕ} (lines : Lines) (line r : List ℕ) → OneLine bs
+    → allBytes (so-far lines line) (bs ++ r) ≡ allBytes (so-far (oneLine lines (line ++ bs)) []) r
 one-taken lines line r feed = taken-line lines line 10 r refl
 one-taken lines line r (more {c} {bs} h l) =
     taken-on lines line c (bs ++ r) h ∙ (one-taken lines (line ▷ c) r l ∙ rw (append-assoc line (c ∷ []) bs))

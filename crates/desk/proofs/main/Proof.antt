@@ -30,7 +30,11 @@ slice-aggregate-run-6 c = search needs
 
 run-requires : tie.Need-run-requires
 run-requires c κs = (
-  record { table-is = c .before .before .before .before .before .before .before .classes .ensures; text-room = simp length-replicate (omega arith); numbers-room = search needs },
+  record {
+    table-is = c .before .before .before .before .before .before .before .classes .ensures;
+    text-room = simp length-replicate (omega arith);
+    numbers-room = search needs;
+  },
   record { words-long = length-replicate {A = ℕ} 16384 0; rows-long = search needs },
   simp length-replicate (omega arith),
 )

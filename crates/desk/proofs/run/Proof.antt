@@ -22,7 +22,8 @@ returns c = ran-unread _ refl
 answer-requires : tie.Need-answer-requires
 answer-requires c κs =
     let call = c .before .before .before .before .before .before .before .before .before .before .before .before .before in
-    (reached-held (call .take-input .ensures), call .before .before .before .before .before .before .before .before .before .before .pre .1, call .before .before .before .before .before .before .before .before .before .before .pre .2)
+    let start = call .before .before .before .before .before .before .before .before .before .before in
+    (reached-held (call .take-input .ensures), start .pre .1, start .pre .2)
 
 same-length-4 : tie.Need-same-length-4
 same-length-4 c = search needs
@@ -43,7 +44,10 @@ same-length-9 : tie.Need-same-length-9
 same-length-9 c = search needs
 
 returns-2 : tie.Need-returns-2
-returns-2 c = reached-end (c .before .before .before .before .before .before .before .before .before .before .before .before .before .before .before .before .before .before .before .before .take-input .ensures) (c .before .before .before .before .before .before .answer .ensures)
+returns-2 c =
+    let call = c .before .before .before .before .before .before in
+    reached-end (call .before .before .before .before .before .before .before .before .before .before .before .before .before .before .take-input .ensures)
+    (call .answer .ensures)
 
 pub run-spec : {M : Type 1} → statement M
 run-spec =

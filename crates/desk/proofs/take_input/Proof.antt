@@ -32,7 +32,9 @@ count-requires : tie.Need-count-requires Inv-loop μ-loop
 count-requires c κs = search needs
 
 same-length-4 : tie.Need-same-length-4 Inv-loop μ-loop
-same-length-4 c = c .before .before .before .before .before .before .read .kept .1 .0 ∙ c .before .before .before .before .before .before .before .before .before .loop .inv .chunk-long
+same-length-4 c =
+    let call = c .before .before .before .before .before .before in
+    call .read .kept .1 .0 ∙ call .before .before .before .loop .inv .chunk-long
 
 same-length-5 : tie.Need-same-length-5 Inv-loop μ-loop
 same-length-5 c = c .before .before .before .before .before .before .before .before .before .loop .inv .text-long
@@ -63,7 +65,8 @@ loop-less c = search needs
 loop-again : tie.Need-loop-again Inv-loop μ-loop
 loop-again c =
     let call = c .before .before .before .before in
-    running-more (call .before .before .before .before .before .before .before .before .before .before .before .before .before .loop .inv) _ (call .before .before .before .before .before .before .before .before .before .before .read .kept .1 .0) (call .all-bytes .kept .1 .1 .1 .0)
+    running-more (call .before .before .before .before .before .before .before .before .before .before .before .before .before .loop .inv) _
+    (call .before .before .before .before .before .before .before .before .before .before .read .kept .1 .0) (call .all-bytes .kept .1 .1 .1 .0)
     (call .all-bytes .kept .1 .1 .1 .1 .0) (call .all-bytes .ensures)
 
 same-length-7 : tie.Need-same-length-7 Inv-loop μ-loop

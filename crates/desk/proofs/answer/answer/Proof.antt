@@ -14,7 +14,9 @@ enum-known-progress : tie.Need-enum-known-progress
 enum-known-progress c = search needs
 
 slice-aggregate-respond : tie.Need-slice-aggregate-respond
-slice-aggregate-respond c = sym (length-take-le _ _ (held-book _ _ _ (c .before .before .progress .given .1) (c .before .before .before .before .before .before .before .before .before .pre .0 .1) .stands .within))
+slice-aggregate-respond c =
+    let start = c .before .before .before .before .before .before .before .before .before in
+    sym (length-take-le _ _ (held-book _ _ _ (c .before .before .progress .given .1) (start .pre .0 .1) .stands .within))
 
 slice-aggregate-respond-2 : tie.Need-slice-aggregate-respond-2
 slice-aggregate-respond-2 c = search needs
@@ -50,7 +52,10 @@ same-length-3 : tie.Need-same-length-3
 same-length-3 c = search needs
 
 returns : tie.Need-returns
-returns c = λ i h. printed-same (book-answered (held-book _ _ i (c .before .before .before .before .before .before .before .before .before .before .before .before .before .progress .given .1) h)) (c .before .before .before .before .before .before .respond .ensures)
+returns c = λ i h.
+    let call = c .before .before .before .before .before .before in
+    printed-same (book-answered (held-book _ _ i (call .before .before .before .before .before .before .before .progress .given .1) h))
+    (call .respond .ensures)
 
 same-length-4 : tie.Need-same-length-4
 same-length-4 c = search needs
@@ -62,13 +67,17 @@ same-length-6 : tie.Need-same-length-6
 same-length-6 c = search needs
 
 returns-2 : tie.Need-returns-2
-returns-2 c = λ i h. c .before .before .before .before .before .before .tokens-answer .ensures i (held-tokens _ _ i (c .before .before .before .before .before .before .before .before .before .before .before .progress2 .given .1) h)
+returns-2 c = λ i h.
+    c .before .before .before .before .before .before .tokens-answer .ensures i
+    (held-tokens _ _ i (c .before .before .before .before .before .before .before .before .before .before .before .progress2 .given .1) h)
 
 same-length-7 : tie.Need-same-length-7
 same-length-7 c = search needs
 
 returns-3 : tie.Need-returns-3
-returns-3 c = λ i h. printed-same (sym (settled-end (held-refused _ _ i (c .before .before .before .before .before .progress3 .given .1) h))) (c .before .before .put-refused .ensures)
+returns-3 c = λ i h.
+    printed-same (sym (settled-end (held-refused _ _ i (c .before .before .before .before .before .progress3 .given .1) h)))
+    (c .before .before .put-refused .ensures)
 
 pub answer-spec : {M : Type 1} → statement M
 answer-spec =

@@ -10,7 +10,9 @@ same-length : tie.Need-same-length
 same-length c = search needs
 
 returns : tie.Need-returns
-returns c = figured-refused _ _ _ (c .before .before .before .before .before .before .before .before .before .pre .words-long) (c .before .before .before .read .ensures) (c .if1 .taken)
+returns c =
+    figured-refused _ _ _ (c .before .before .before .before .before .before .before .before .before .pre .words-long)
+    (c .before .before .before .read .ensures) (c .if1 .taken)
 
 evaluate-requires : tie.Need-evaluate-requires
 evaluate-requires c κs = search needs
@@ -24,7 +26,9 @@ same-length-3 c = search needs
 returns-2 : tie.Need-returns-2
 returns-2 c =
     let start = c .before .before .before .before .before .before .before .before .before .before .before .before .before .before .before in
-    figured-evaluated _ _ (start .pre .words-long) (start .pre .rows-long) (c .before .before .before .before .before .before .before .before .before .read .ensures) (c .before .before .before .before .before .before .if1 .left) (c .before .before .evaluate .ensures)
+    figured-evaluated _ _ (start .pre .words-long) (start .pre .rows-long)
+    (c .before .before .before .before .before .before .before .before .before .read .ensures)
+    (c .before .before .before .before .before .before .if1 .left) (c .before .before .evaluate .ensures)
 
 pub figures-spec : {M : Type 1} → statement M
 figures-spec =

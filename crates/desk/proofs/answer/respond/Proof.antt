@@ -30,7 +30,8 @@ same-length-3 c = search needs
 returns : tie.Need-returns
 returns c =
     let call = c .before .before .before .before .before .before .before .before .before in
-    printed-same (call .figures .ensures .answer-is ∙ sym (answer-evaluated _ _ (call .before .before .before .before .before .before .before .before .pre .0))) (c .before .before .put-answer .ensures)
+    printed-same (call .figures .ensures .answer-is ∙ sym (answer-evaluated _ _ (call .before .before .before .before .before .before .before .before .pre .0)))
+    (c .before .before .put-answer .ensures)
 
 pub respond-spec : {M : Type 1} → statement M
 respond-spec =

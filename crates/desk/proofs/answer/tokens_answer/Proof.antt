@@ -42,7 +42,9 @@ same-length-4 : tie.Need-same-length-4
 same-length-4 c = search needs
 
 returns-2 : tie.Need-returns-2
-returns-2 c = λ i h. printed-same (tokens-answered h (c .before .before .before .before .before .before .before .before .before .before .before .before .if1 .left)) (c .before .before .before .before .before .before .respond .ensures)
+returns-2 c = λ i h.
+    printed-same (tokens-answered h (c .before .before .before .before .before .before .before .before .before .before .before .before .if1 .left))
+    (c .before .before .before .before .before .before .respond .ensures)
 
 pub tokens-answer-spec : {M : Type 1} → statement M
 tokens-answer-spec =

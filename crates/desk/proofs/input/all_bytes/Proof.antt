@@ -33,7 +33,8 @@ loop-again : tie.Need-loop-again Inv-loop μ-loop
 loop-again c =
     let put = c .before .before .before .before in
     let turn = put .before .before .before .before in
-    taking-turn _ _ _ _ (turn .before .loop .inv) (turn .loop-test .taken) (put .one-byte .kept .1 .1 .1 .0) (put .one-byte .kept .1 .1 .1 .1 .0) (put .one-byte .ensures)
+    let kept = put .one-byte .kept .1 .1 .1 in
+    taking-turn _ _ _ _ (turn .before .loop .inv) (turn .loop-test .taken) (kept .0) (kept .1 .0) (put .one-byte .ensures)
 
 same-length : tie.Need-same-length Inv-loop μ-loop
 same-length c = c .before .loop .inv .text-long

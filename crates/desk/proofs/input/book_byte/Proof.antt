@@ -42,7 +42,8 @@ same-length-2 c = search needs
 
 returns-3 : tie.Need-returns-3
 returns-3 c = λ i h buffer.
-    book-ends h _ (omega arith) (c .before .before .before .before .before .before .if1 .left) (sym (c .before .before .before .before .before .is-feed .ensures) ∙ not-false _ (c .before .before .before .before .if2 .left))
+    book-ends h _ (omega arith) (c .before .before .before .before .before .before .if1 .left)
+    (sym (c .before .before .before .before .before .is-feed .ensures) ∙ not-false _ (c .before .before .before .before .if2 .left))
     (sym (c .before .is-end .ensures) ∙ c .if3 .taken) buffer
 
 same-length-3 : tie.Need-same-length-3
@@ -50,7 +51,8 @@ same-length-3 c = search needs
 
 returns-4 : tie.Need-returns-4
 returns-4 c = λ i h buffer.
-    book-line h _ (omega arith) (c .before .before .before .before .before .before .if1 .left) (sym (c .before .before .before .before .before .is-feed .ensures) ∙ not-false _ (c .before .before .before .before .if2 .left))
+    book-line h _ (omega arith) (c .before .before .before .before .before .before .if1 .left)
+    (sym (c .before .before .before .before .before .is-feed .ensures) ∙ not-false _ (c .before .before .before .before .if2 .left))
     (sym (c .before .is-end .ensures) ∙ c .if3 .left)
 
 pub book-byte-spec : {M : Type 1} → statement M

@@ -38,7 +38,9 @@ same-length-3 : tie.Need-same-length-3
 same-length-3 c = search needs
 
 returns-2 : tie.Need-returns-2
-returns-2 c = λ i h. c .before .before .before .before .token-byte .ensures i (held-tokens _ _ i (c .before .before .before .before .before .before .before .before .progress2 .given .1) h)
+returns-2 c = λ i h.
+    c .before .before .before .before .token-byte .ensures i
+    (held-tokens _ _ i (c .before .before .before .before .before .before .before .before .progress2 .given .1) h)
 
 returns-3 : tie.Need-returns-3
 returns-3 c = λ i h. settled-more _ (held-refused _ _ i (c .before .progress3 .given .1) h)

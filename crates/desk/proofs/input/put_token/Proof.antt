@@ -19,7 +19,8 @@ same-length : tie.Need-same-length
 same-length c = search needs
 
 returns : tie.Need-returns
-returns c = λ ns h. kept-more _ _ h (c .before .before .before .put-line .ensures) (c .before .before .before .before .before .before .before .pre) (c .if1 .taken)
+returns c = λ ns h.
+    kept-more _ _ h (c .before .before .before .put-line .ensures) (c .before .before .before .before .before .before .before .pre) (c .if1 .taken)
 
 same-length-2 : tie.Need-same-length-2
 same-length-2 c = search needs

@@ -46,7 +46,8 @@ same-length-2 c = search needs
 
 returns-3 : tie.Need-returns-3
 returns-3 c = λ i h.
-    token-misspelt h _ (omega arith) (c .before .before .before .before .before .before .before .if1 .left) (sym (c .before .before .before .before .before .before .is-feed .ensures) ∙ not-false _ (c .before .before .before .before .before .if2 .left))
+    token-misspelt h _ (omega arith) (c .before .before .before .before .before .before .before .if1 .left)
+    (sym (c .before .before .before .before .before .before .is-feed .ensures) ∙ not-false _ (c .before .before .before .before .before .if2 .left))
     (c .before .before .token-line .ensures ∙ when-false _ (not-true _ (c .if3 .taken)))
 
 put-token-requires : tie.Need-put-token-requires

@@ -22,7 +22,8 @@ closing-requires c κs = search needs
 returns : tie.Need-returns
 unfolding spelled
 returns c =
-    token-steps _ _ (c .before .before .before .before .opening .ensures) (c .before .before .before .number .ensures) (c .before .before .mark .ensures) (c .before .number2 .ensures) (c .closing .ensures)
+    token-steps _ _ (c .before .before .before .before .opening .ensures) (c .before .before .before .number .ensures)
+    (c .before .before .mark .ensures) (c .before .number2 .ensures) (c .closing .ensures)
 
 pub token-line-spec : {M : Type 1} → statement M
 token-line-spec =

@@ -40,7 +40,8 @@ returns-2 c =
     let start = c .before .before .before .before .before .before .before .before .before .before .before .before in
     let zero = c .before .before .before .before .before .before .before .before .before .if1 .left in
     let few = start .pre .few zero in
-    printed-same (accepted-is _ _ zero) (printed (puts-then (c .before .before .before .before .before .before .before .put-rows .ensures) (c .before .before .put-last .ensures)) (omega arith))
+    printed-same (accepted-is _ _ zero)
+    (printed (puts-then (c .before .before .before .before .before .before .before .put-rows .ensures) (c .before .before .put-last .ensures)) (omega arith))
 
 pub put-answer-spec : {M : Type 1} → statement M
 put-answer-spec =

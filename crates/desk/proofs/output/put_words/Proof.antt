@@ -22,7 +22,9 @@ shared-slice-read-put-word : tie.Need-shared-slice-read-put-word Inv-loop μ-loo
 shared-slice-read-put-word c = search needs
 
 put-word-requires : tie.Need-put-word-requires Inv-loop μ-loop
-put-word-requires c κs = putting-room _ _ _ _ _ (c .before .before .before .loop .inv) (c .before .before .before .before .before .before .pre) (c .before .before .loop-test .taken)
+put-word-requires c κs =
+    putting-room _ _ _ _ _ (c .before .before .before .loop .inv) (c .before .before .before .before .before .before .pre)
+    (c .before .before .loop-test .taken)
 
 add-i : tie.Need-add-i Inv-loop μ-loop
 add-i c = search needs

@@ -17,6 +17,7 @@ use Rattle.text.specs.Rest.{Rest, lost, left, rest, mark}
 use Rattle.text.specs.RestLaws.{left-is, rest-in, rest-at, rest-out}
 use Rattle.text.specs.Numeral.{decimal, wordOf}
 use Rattle.text.specs.Reading.{Reads}
+use Rattle.sets.specs.Operations.{same-truth}
 use Rattle.grammar.specs.Automaton.LeastLaws.{sameSets-still, sameSets-self}
 use Rattle.grammar.specs.Format.Printer.{Printer, _·_, bytes, literal, numeral}
 use Rattle.grammar.specs.Format.Ordered.{Fits}
@@ -28,14 +29,9 @@ use Rattle.desk.specs.Digits.{length-numeral, width-most}
 
 -- Where a line ends
 
-same-bool : (s t : Bool) → (s ≡ true → t ≡ true) → (t ≡ true → s ≡ true) → s ≡ t
-same-bool true t f g = sym (f refl)
-same-bool false true f g = g refl
-same-bool false false f g = refl
-
 pub feed-is : (b : ℕ) → eqb (classOf b) line-feed ≡ eqb b 10
 unfolding classOf byteOf
-feed-is b = same-bool _ _
+feed-is b = same-truth _ _
     (λ h. eq-eqb b 10 (marked b line-feed (omega arith) (eqb-true (classOf b) line-feed h)))
     (λ h. rw (eqb-true b 10 h))
 
@@ -78,7 +74,7 @@ end-reads = refl
 end-is : (line : List ℕ) → isEnd line ≡ spent (endLine (left line))
 unfolding isEnd
 end-is line =
-    same-bool _ _
+    same-truth _ _
     (λ h. rw (sameSets-still line (bytes "(end)\n") h) end-reads)
     (λ h. spent-got _ h λ e. rw (end-was line e) (sameSets-self (bytes "(end)\n")))
 

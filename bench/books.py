@@ -173,16 +173,16 @@ class Sampler:
 
     def derivation(self, most):
         """Tokens, and the nodes of their tree: random rules, and the shortest ones when `most` tokens are passed."""
-        tokens, todo, size = [], ["n0"], -1
-        while todo:
-            symbol = todo.pop()
+        tokens, pending, size = [], ["n0"], -1
+        while pending:
+            symbol = pending.pop()
             size += 1
             if symbol[0] == "t":
                 tokens.append((int(symbol[1:]), self.random.choice([0, 1, 5, 100, 4294967295, self.random.randrange(1 << 32)])))
                 continue
             rules = self.below[symbol]
-            short = len(tokens) + len(todo) > most
-            todo += reversed(self.rules[min(rules, key=self.price) if short else self.random.choice(rules)][1])
+            short = len(tokens) + len(pending) > most
+            pending += reversed(self.rules[min(rules, key=self.price) if short else self.random.choice(rules)][1])
         return tokens, size
 
     def longest(self, tokens, nodes):

@@ -48,9 +48,9 @@ class Automaton:
 
     def closure(self, kernel):
         """All items of a state, (rule, dot) -> lookaheads."""
-        found, todo = dict(kernel), list(kernel)
-        while todo:
-            rule, dot = todo.pop()
+        found, pending = dict(kernel), list(kernel)
+        while pending:
+            rule, dot = pending.pop()
             right = self.grammar.rules[rule][1]
             if dot == len(right) or right[dot][0] == "t":
                 continue
@@ -58,7 +58,7 @@ class Automaton:
             for other in self.below.get(right[dot], ()) if ahead else ():
                 if ahead & ~found.get((other, 0), 0):
                     found[other, 0] = found.get((other, 0), 0) | ahead
-                    todo.append((other, 0))
+                    pending.append((other, 0))
         return found
 
     def advanced(self, kernel):
@@ -74,9 +74,9 @@ class Automaton:
         """Find all states from state 0, and from more kernels if wanted. States with equal keys are one, whose lookaheads are put together."""
         self.kernels = [{(0, 0): 1}, *more]
         self.go = [{} for _ in self.kernels]
-        numbers, todo = {key(kernel): state for state, kernel in enumerate(self.kernels)}, list(range(len(self.kernels)))
-        while todo:
-            state = todo.pop(0)
+        numbers, pending = {key(kernel): state for state, kernel in enumerate(self.kernels)}, list(range(len(self.kernels)))
+        while pending:
+            state = pending.pop(0)
             for symbol, kernel in self.advanced(self.kernels[state]).items():
                 target = numbers.setdefault(key(kernel), len(self.kernels))
                 if target == len(self.kernels):
@@ -84,9 +84,9 @@ class Automaton:
                         raise TooMany
                     self.kernels.append(kernel)
                     self.go.append({})
-                    todo.append(target)
-                elif self.widen(target, kernel) and target not in todo:
-                    todo.append(target)
+                    pending.append(target)
+                elif self.widen(target, kernel) and target not in pending:
+                    pending.append(target)
                 self.go[state][symbol] = target
         return self
 

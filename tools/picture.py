@@ -62,11 +62,11 @@ def tree_of(grammar, rows):
 
 def in_postorder(root):
     """All nodes, children before their node."""
-    todo, found = [root], []
-    while todo:
-        node = todo.pop()
+    pending, found = [root], []
+    while pending:
+        node = pending.pop()
         found.append(node)
-        todo += node.children
+        pending += node.children
     return found[::-1]
 
 
@@ -87,12 +87,12 @@ def lay_out(root):
 
 def move(nodes, by, edge):
     """Move subtrees, which are the last ones on their levels, to the right."""
-    todo = list(nodes)
-    while todo:
-        node = todo.pop()
+    pending = list(nodes)
+    while pending:
+        node = pending.pop()
         node.at += by
         edge[node.depth] = max(edge[node.depth], node.at + node.width() / 2 + GAP)
-        todo += node.children
+        pending += node.children
 
 
 def text(x, y, words, colour, anchor):

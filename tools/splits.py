@@ -37,9 +37,9 @@ class Formulas:
 
     def written(self, formula):
         """A formula in words, cut where it grows too long."""
-        text, todo = "", [formula]
-        while todo and len(text) < LONGEST:
-            part = todo.pop()
+        text, pending = "", [formula]
+        while pending and len(text) < LONGEST:
+            part = pending.pop()
             if isinstance(part, str):
                 text += part if part == ")" else " " + part
             elif len(self.nodes[part]) == 1:
@@ -47,8 +47,8 @@ class Formulas:
             else:
                 word, *parts = self.nodes[part]
                 text += " (" + word
-                todo += [")", *reversed(parts)]
-        return text.strip() + (" ..." if todo else "")
+                pending += [")", *reversed(parts)]
+        return text.strip() + (" ..." if pending else "")
 
 
 class Splits:
@@ -85,12 +85,12 @@ class Splits:
 
     def reach(self, start):
         """All places from these on, each with the terminals under which it or a place below it acts."""
-        known, todo = {place: self.begins(place) for place in start}, list(start)
-        while todo:
-            for _, lower in self.steps(todo.pop()):
+        known, pending = {place: self.begins(place) for place in start}, list(start)
+        while pending:
+            for _, lower in self.steps(pending.pop()):
                 if lower not in known:
                     known[lower] = self.begins(lower)
-                    todo.append(lower)
+                    pending.append(lower)
         while True:
             before = dict(known)
             for place in known:
@@ -107,7 +107,7 @@ class Splits:
     def of_partial_state(self, state, a, reach):
         """Walk the chains under a terminal, and stop where an attribute has a second formula."""
         kernel = self.automaton.kernels[state]
-        known, found, todo, seen = {}, [], [], set()
+        known, found, pending, seen = {}, [], [], set()
 
         def arrive(chain, place, own):
             if not reach[place] >> a & 1:
@@ -119,13 +119,13 @@ class Splits:
                     found.append(Split(state, a, k, (first, formula), (where, chain)))
             if place not in seen:
                 seen.add(place)
-                todo.append((chain, place, formulas))
+                pending.append((chain, place, formulas))
 
         for item in sorted(kernel):
             for place in self.places(*item, kernel[item]):
                 arrive((item,), place, None)
-        while todo and not found:
-            chain, place, formulas = todo.pop(0)
+        while pending and not found:
+            chain, place, formulas = pending.pop(0)
             for rule, lower in self.steps(place):
                 arrive((*chain, (rule, 0)), lower, formulas)
         return found

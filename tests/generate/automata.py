@@ -17,13 +17,13 @@ def variant(automaton):
 
 def settle(automaton):
     """Give every target at least the lookaheads that are advanced to it. Rule 0 must keep t0 alone; whether it does."""
-    todo = list(range(len(automaton.kernels)))
-    while todo:
-        state = todo.pop()
+    pending = list(range(len(automaton.kernels)))
+    while pending:
+        state = pending.pop()
         for symbol, kernel in automaton.advanced(automaton.kernels[state]).items():
             target = automaton.go[state][symbol]
             if automaton.widen(target, kernel):
-                todo.append(target)
+                pending.append(target)
     return all(ahead == 1 for kernel in automaton.kernels for (rule, _), ahead in kernel.items() if rule == 0)
 
 

@@ -72,12 +72,12 @@ def measured(parts):
     needs = {}
     for place in reversed(range(len(parts))):
         needs[place] = max([1] + [before + needs[child] for before, child in enumerate(parts[place][1])])
-    kinds, todo = [], [0]
-    while todo:
-        symbol, children = parts[todo.pop()]
+    kinds, pending = [], [0]
+    while pending:
+        symbol, children = parts[pending.pop()]
         if symbol[0] == "t":
             kinds.append(int(symbol[1:]))
-        todo += reversed(children)
+        pending += reversed(children)
     return kinds, len(parts), needs[0]
 
 

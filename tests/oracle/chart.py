@@ -17,15 +17,15 @@ class Chart:
 
     def column(self, at, items):
         """All items (rule, dot, origin) at one place of the list; gives those of the next place that a token leads to."""
-        seen, todo, onward = set(items), list(items), []
+        seen, pending, onward = set(items), list(items), []
 
         def add(item):
             if item not in seen:
                 seen.add(item)
-                todo.append(item)
+                pending.append(item)
 
-        while todo:
-            rule, dot, origin = item = todo.pop()
+        while pending:
+            rule, dot, origin = item = pending.pop()
             left, right = self.book.rules[rule]
             if dot == len(right):
                 self.ends.setdefault((left, origin), set()).add(at)

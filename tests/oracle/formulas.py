@@ -41,7 +41,7 @@ class Formulas:
     def of_items(self, kernel, held):
         """The formulas of all chains in a set of items, attribute -> formula; None if some attribute has two."""
         before = {item for item in held if (self.states.next_symbol(item) or "t")[0] == "n"}
-        found, seen, todo = {}, set(), []
+        found, seen, pending = {}, set(), []
 
         def arrive(item, own):
             formulas = self.at_end_of(item, own)
@@ -50,13 +50,13 @@ class Formulas:
             step = item, tuple(formulas.items())
             if step not in seen:
                 seen.add(step)
-                todo.append((item, formulas))
+                pending.append((item, formulas))
             return True
 
         if not all(arrive(item, None) for item in sorted(before & kernel)):
             return None
-        while todo:
-            item, formulas = todo.pop()
+        while pending:
+            item, formulas = pending.pop()
             if not all(arrive(below, formulas) for below in self.states.derives(item) if below in before):
                 return None
         return found

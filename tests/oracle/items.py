@@ -79,12 +79,12 @@ class States:
 
     def closure(self, kernel):
         """The smallest set with the kernel's items and what its items directly derive."""
-        found, todo = set(kernel), list(kernel)
-        while todo:
-            for item in self.derives(todo.pop()):
+        found, pending = set(kernel), list(kernel)
+        while pending:
+            for item in self.derives(pending.pop()):
                 if item not in found:
                     found.add(item)
-                    todo.append(item)
+                    pending.append(item)
         return found
 
     def break_go_rules(self):
@@ -133,13 +133,13 @@ class States:
         for item in everything:
             for below in self.derives(item):
                 above[below].append(item)
-        todo = list(everything)
-        while todo:
-            item = todo.pop()
+        pending = list(everything)
+        while pending:
+            item = pending.pop()
             for higher in above[item]:
                 if not reach[item] <= reach[higher]:
                     reach[higher] |= reach[item]
-                    todo.append(higher)
+                    pending.append(higher)
         return reach
 
     def partial_state(self, state, a):

@@ -101,9 +101,9 @@ def leaf(item):
 
 def expression(item):
     """An expression and its number of nodes. No recursion: a rightly spelled one may nest as deep as the text is long."""
-    todo, done, nodes = [(item, False)], [], 0
-    while todo:
-        item, operands_done = todo.pop()
+    pending, done, nodes = [(item, False)], [], 0
+    while pending:
+        item, operands_done = pending.pop()
         if operands_done:
             count = OPERANDS[item[0]]
             operands = done[-count:]
@@ -116,8 +116,8 @@ def expression(item):
             done.append(plain)
         else:
             need(item and isinstance(item[0], str) and len(item) == 1 + OPERANDS.get(item[0], -1))
-            todo.append((item, True))
-            todo.extend((operand, False) for operand in reversed(item[1:]))
+            pending.append((item, True))
+            pending.extend((operand, False) for operand in reversed(item[1:]))
     return done[0], nodes
 
 

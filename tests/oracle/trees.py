@@ -45,9 +45,9 @@ class Forest:
         which, start, end = self.root
         if end not in self.chart.ends.get((which, start), ()):
             return NONE
-        todo, inside = [(self.root, False)], set()
-        while todo:
-            part, children_done = todo.pop()
+        pending, inside = [(self.root, False)], set()
+        while pending:
+            part, children_done = pending.pop()
             if children_done:
                 inside.discard(part)
                 self.order.append(part)
@@ -62,8 +62,8 @@ class Forest:
                 return MANY
             self.built[part] = ways[0]
             inside.add(part)
-            todo.append((part, True))
-            todo.extend((child, False) for child in ways[0][1] if isinstance(child, tuple))
+            pending.append((part, True))
+            pending.extend((child, False) for child in ways[0][1] if isinstance(child, tuple))
         return ONE
 
     def size_and_need(self):
@@ -77,17 +77,17 @@ class Forest:
 
     def postorder(self):
         """The nodes of the one tree: (rule or None, number of children)."""
-        todo = [(self.root, False)]
-        while todo:
-            child, children_done = todo.pop()
+        pending = [(self.root, False)]
+        while pending:
+            child, children_done = pending.pop()
             if isinstance(child, int):
                 yield None, 0
             elif children_done:
                 rule, children = self.built[child]
                 yield rule, len(children)
             else:
-                todo.append((child, True))
-                todo.extend((below, False) for below in reversed(self.built[child][1]))
+                pending.append((child, True))
+                pending.extend((below, False) for below in reversed(self.built[child][1]))
 
     def first_limit(self):
         """16 or 17, whichever a walk in postorder meets first, or 0. A node's children stand on a pile until it takes their place."""

@@ -52,7 +52,7 @@ fn with_lookahead(set: u32, terminal: u32) -> u32
     set
 }
 
-// One that does not follow the others is the last that is read.
+// The lookaheads of a line. One that does not follow the others is the last that is read, and the text is misspelt.
 fn lookaheads(t: &[u8; 256], text: &[u8], at: usize) -> LookaheadsRead
     requires { ⌜ Lent (now t) (now text) ⌝ }
     ensures { λ r. ⌜ Looks (lookaheads (rest (now (text .entry)) at)) (now (text .entry)) (r .count) (r .last) (r .set) (r .at) ⌝ }

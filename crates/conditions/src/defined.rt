@@ -65,7 +65,8 @@ fn defines_from(
     defines(definitions, first, start, p, j, k)
 }
 
-// The first line from the start on that is of rule p or a later one, of n lines from the first on.
+// The first line from the start on that is of rule p or a later one, of n lines from the first on. defines_from is right from any start, so it is only
+// promised that there are as many lines.
 fn lines_from(definitions: &[u32], first: usize, n: usize, start: usize, p: usize) -> usize
     requires { ⌜ (49 * (first + n) ≤ length (now definitions)) × (start ≤ n) ⌝ }
     ensures { λ r. ⌜ r ≤ n ⌝ }

@@ -1,4 +1,5 @@
 -- `reading::number` meets its contract: the lengths are asked before the text. Assumes nothing.
+use native.Mathlib.Omega.{arith}
 use mathlib.Core.Path.{_∙_, sym}
 use Rattle.engine.specs.Readings.{long-number, unfit-number, text-number}
 use borrow.Author.Needs.{needs}
@@ -6,7 +7,7 @@ use Rattle.engine.proofs.reading.number.Statement.{statement}
 use Rattle.engine.proofs.reading.number.Tie as tie
 
 returns : tie.Need-returns
-returns c = sym (long-number _ _ (c .if1 .taken))
+returns c = sym (long-number _ _ (omega (arith, c .if1 .taken)))
 
 returns-2 : tie.Need-returns-2
 returns-2 c = sym (unfit-number _ _ (c .before .if1 .left) (c .if2 .taken))

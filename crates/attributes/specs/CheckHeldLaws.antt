@@ -1,9 +1,9 @@
 -- What the one-formula check asks of a book, from conditions 2 to 6. Assumes nothing.
 use Prim.Native.Nat.{ℕ, zero, suc, _<_, _≤_}
 use native.Mathlib.Omega.{arith}
-use mathlib.Core.Path.{_≡_, refl}
-use mathlib.Core.List.{List, [], _∷_, List·Memᴰ as Mem, List·Memᴰ·head as in-head, List·Memᴰ·tail as in-tail}
-use lib.ListN.{length, getD}
+use mathlib.Core.Path.{_≡_}
+use mathlib.Core.List.{List}
+use lib.ListN.{length}
 use Rattle.grammar.specs.Data.Symbol.{leftOf, rightOf}
 use Rattle.grammar.specs.Data.Book.{Book}
 use Rattle.grammar.specs.Format.Ordered.{Ordered}
@@ -13,19 +13,15 @@ use Rattle.grammar.specs.Formulas.Slots.{attributes}
 use Rattle.grammar.specs.Formulas.FormulaCheck as grammar
 use Rattle.grammar.specs.Formulas.FormulaCheck.{noDefinition, lineAt}
 use Rattle.grammar.specs.Formulas.DefinitionPremises.{definition-premises}
+use Rattle.grammar.specs.Data.ListLaws.{at-member}
 use Rattle.book.specs.Held.{RulesIn, DefinitionsIn}
 use Rattle.attributes.specs.Owned.{OwnedIn}
 use Rattle.attributes.specs.Checking.{LineIn, CheckHeld}
 
-place-in : {A : Type 0} (l : List A) (i : ℕ) (x : A) → i < length l → Mem (getD l i x) l
-place-in [] i x h = absurd (omega arith)
-place-in (y ∷ l) zero x h = in-head refl
-place-in (y ∷ l) (suc i) x h = in-tail (place-in l i x (omega arith))
-
 module _ {b : Book} (ordered : Ordered b) (limits : WithinLimits b) (declared : Declared b) (owned : Owned b) (defined : Defined b) where
   line-right : (d : ℕ) → d < grammar.definitions b → LineIn b d
   line-right d l =
-      let m = place-in (b .inheritedDefinitions) d noDefinition l in
+      let m = at-member (b .inheritedDefinitions) d noDefinition l in
       let there = declared .inherited-declared (lineAt b d) m in
       let low : 1 ≤ lineAt b d .position = there .position-there .low in
       let high : lineAt b d .position ≤ length (rightOf (b .rules) (lineAt b d .rule)) = there .position-there .high in

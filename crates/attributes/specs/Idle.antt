@@ -7,11 +7,12 @@ use mathlib.Core.Path.{_≡_, refl, sym, ap, _∙_}
 use mathlib.Core.Logic.{inl, inr}
 use mathlib.Core.Bool.{Bool, true, false}
 use mathlib.Core.List.{List, _∷_, List·Memᴰ as Mem, List·Memᴰ·head as in-head, List·Memᴰ·tail as in-tail}
-use lib.Bits.{bitAnd, bitOr, or-add-and, and-le-l, and-le-r, and-mask}
+use lib.Bits.{bitAnd, bitOr, and-mask}
 use lib.ListN.{length, getD, set, take, replicate, length-set, length-replicate}
 use lib.Seq.{getD-set-same, getD-set-other, slice, length-slice, getD-take, getD-drop}
 use Rattle.sets.specs.Sets.{bit}
 use Rattle.sets.specs.Bits.{below-suc}
+use Rattle.sets.specs.Operations.{full, or-none}
 use Rattle.grammar.specs.Data.Symbol.{leftOf}
 use Rattle.grammar.specs.Data.Book.{Book, Kernel}
 use Rattle.grammar.specs.Format.Ordered.{Ordered}
@@ -28,15 +29,12 @@ use Rattle.grammar.specs.Automaton.Small.{SmallBook}
 use Rattle.grammar.specs.Formulas.Passes.{passes-keep}
 use Rattle.grammar.specs.Formulas.FormulaCheck as grammar
 use Rattle.grammar.specs.Formulas.FormulaCheck.{Progress, dotOf, lineAt, advance, fresh, unsplit, visit, ended, check}
+use Rattle.grammar.specs.Data.ListLaws.{member-at}
 use Rattle.book.specs.Held.{noKernel, kernelAt}
 use Rattle.automaton.specs.StatesIn.{ItemsIn, Range, state-range}
 use Rattle.attributes.specs.Checking.{CheckHeld}
 use Rattle.attributes.specs.CheckingLaws.{rule-low, position-high, position-word, left-word, left-below, place-is}
 use Rattle.attributes.specs.Skips.{visit-absent}
-
--- every bit of a word
-abbrev full : ℕ
-full = 4294967295
 
 -- The places of the definitions
 
@@ -120,12 +118,10 @@ module _ {closures : List ℕ} {first : ℕ} {places : List ℕ} where
   pub front-more : {n bits : ℕ} → (bits ≡ 0 → FrontFree closures first places n)
       → bitOr bits (bitAnd (getD closures (first + n) 0) (getD places (576 + n) 0)) ≡ 0 → FrontFree closures first places (n + 1)
   front-more {n} {bits} before e =
-      let w : ℕ = bitAnd (getD closures (first + n) 0) (getD places (576 + n) 0) in
-      let earlier = before (omega (arith, or-add-and bits w, and-le-r bits w)) in
+      let (none, last) = or-none bits (bitAnd (getD closures (first + n) 0) (getD places (576 + n) 0)) e in
       record {
         free = λ A l.
-            below-suc (λ k. bitAnd (getD closures (first + k) 0) (getD places (576 + k) 0) ≡ 0) n A (omega arith) (earlier .free A)
-            (omega (arith, or-add-and bits w, and-le-l bits w));
+            below-suc (λ k. bitAnd (getD closures (first + k) 0) (getD places (576 + k) 0) ≡ 0) n A (omega arith) (before none .free A) last;
       }
 
   pub front-all : {n : ℕ} → FrontFree closures first places n → 32 ≤ n → FrontFree closures first places 32
@@ -154,10 +150,6 @@ module _ {kernels : List ℕ} {first : ℕ} {places : List ℕ} where
 -- no item of it is that of a definition
 abbrev pub Idle : Book → ℕ → Type 0
 Idle b S = (d a : ℕ) → d < grammar.definitions b → Closure b S (lineAt b d .rule) (dotOf (lineAt b d)) a → ⊥
-
-member-at : {A : Type 0} (l : List A) (x : A) {y : A} → Mem y l → (i : ℕ) × (i < length l) × (getD l i x ≡ y)
-member-at (z ∷ l) x (in-head e) = (0, omega arith, sym e)
-member-at (z ∷ l) x (in-tail m) = let (i, h, e) = member-at l x m in (suc i, omega arith, e)
 
 module _ {b : Book} {rules kernels starts closures places : List ℕ} (ordered : Ordered b) (I : ItemsIn b (setsOf (b .rules)) rules kernels starts closures)
     (L : PlacesIn b (grammar.definitions b) places) {S first last : ℕ} (s : S < b .states) (first-is : first ≡ getD starts S 0)

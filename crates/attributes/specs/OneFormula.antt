@@ -21,8 +21,8 @@ use Rattle.grammar.specs.Formulas.FormulaCheck as grammar
 use Rattle.grammar.specs.Formulas.FormulaCheck.{dotOf, lineAt, check, checkAll, listed}
 use Rattle.grammar.specs.Formulas.FormulaCheckLaws.{Tells}
 use Rattle.grammar.specs.Formulas.FormulaCheckAll.{listed-tells, book-checkAll}
+use Rattle.grammar.specs.Data.ListLaws.{at-member}
 use Rattle.book.specs.Held.{DefinitionsIn}
-use Rattle.automaton.specs.GoTable.{at-member}
 use Rattle.attributes.specs.Owned.{OwnedIn}
 use Rattle.attributes.specs.Checking.{memberOf, CheckHeld}
 use Rattle.attributes.specs.CheckHeldLaws.{check-held}

@@ -23,7 +23,7 @@ use Rattle.grammar.specs.Automaton.ItemsRightLaws.{book-items-right}
 use Rattle.grammar.specs.Formulas.FormulaCheck.{noDefinition, dotOf, lineAt, check}
 use Rattle.grammar.specs.Formulas.FormulaCheckLaws.{Tells}
 use Rattle.grammar.specs.Formulas.FormulaCheckAll.{CoreIn, core-tells, SameItems, check-same}
-use Rattle.automaton.specs.GoTable.{at-member}
+use Rattle.grammar.specs.Data.ListLaws.{at-member}
 use Rattle.attributes.specs.Checking.{memberOf}
 use Rattle.attributes.specs.StateMarks.{StateMarksIn}
 

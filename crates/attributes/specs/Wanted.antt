@@ -7,7 +7,7 @@ use mathlib.Core.List.{List}
 use borrow.Author.Tests.{eqb-true, eq-eqb}
 use Rattle.sets.specs.Sets.{bit, single, meets}
 use Rattle.sets.specs.SetsLaws.{bit-single, meets-holds, meets-true}
-use Rattle.sets.specs.Operations.{bit-full}
+use Rattle.sets.specs.Operations.{full, bit-full}
 use Rattle.grammar.specs.Conditions.Decides.{allBelow}
 use Rattle.grammar.specs.Data.Book.{InheritedDefinition, Book}
 use Rattle.grammar.specs.Formulas.Slots.{Slots, ready}
@@ -41,10 +41,10 @@ module _ (b : Book) (masks : List ℕ) where
       ap (λ (t : Bool). elim t [ true ↦ ready b slots (line .rule) (dotOf line) | false ↦ false ]) (meets-single _ a h)
 
   -- all terminals
-  pub check-whole : {definitions rules owned : List ℕ} → CheckHeld b definitions rules owned masks → check b (memberIn masks 4294967295) ≡ true
+  pub check-whole : {definitions rules owned : List ℕ} → CheckHeld b definitions rules owned masks → check b (memberIn masks full) ≡ true
       → (a : ℕ) → a < 32 → check b (memberOf masks a) ≡ true
   check-whole H e a h =
-      check-part b (H .premises) (memberIn masks 4294967295) (memberOf masks a) (λ P D m. meets-true _ 4294967295 a h m (bit-full a h)) e
+      check-part b (H .premises) (memberIn masks full) (memberOf masks a) (λ P D m. meets-true _ full a h m (bit-full a h)) e
 
 pub all-below : (f : ℕ → Bool) (n : ℕ) → ((i : ℕ) → i < n → f i ≡ true) → true ≡ allBelow n f
 unfolding allBelow

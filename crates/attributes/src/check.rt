@@ -24,6 +24,7 @@ use formulas::formulas::formula_of;
 use formulas::interning::clear;
 use items::words::fill;
 use items::words::word;
+use sets::ALL;
 
 // How far a check is: the nodes of the table, the set of the attributes that have a formula, the definitions that are done, and whether two formulas
 // of one attribute differ.
@@ -379,7 +380,7 @@ pub fn check_state(
     if check(
         definitions,
         lines,
-        4294967295,
+        ALL,
         &skips,
         masks,
         rules,

@@ -14,6 +14,7 @@ ghost use Rattle.automaton.specs.StatesIn.{StatesIn, ItemsIn};
 ghost use Rattle.attributes.specs.Checking.{CheckHeld};
 ghost use Rattle.attributes.specs.Idle.{PlacesIn, FrontFree, LinesFree, Idle};
 use items::words::word;
+use sets::ALL;
 
 // The place of the definition in a line.
 fn mark_place(definitions: &[u32], line: usize, rules: &[u32], places: &mut [u32])
@@ -24,12 +25,12 @@ fn mark_place(definitions: &[u32], line: usize, rules: &[u32], places: &mut [u32
 {
     let rule = word(definitions, 49 * line);
     let position = word(definitions, 49 * line + 1);
-    places[9 * rule + position - 1] = 4294967295;
+    places[9 * rule + position - 1] = ALL;
     if position != 1 {
         return;
     }
     let left = word(rules, 10 * rule);
-    places[576 + left] = 4294967295;
+    places[576 + left] = ALL;
 }
 
 // The places of all definitions, from words that are 0.
@@ -46,8 +47,8 @@ pub fn mark_places(definitions: &[u32], lines: usize, rules: &[u32], places: &mu
     }
 }
 
-// Whether a closure, from word `first` on, has nothing of a nonterminal whose rules have a definition of their first symbol: the bits are gathered, with no
-// way out of the loop.
+// True only if a closure, from word `first` on, has nothing of a nonterminal whose rules have a definition of their first symbol: the bits are gathered,
+// with no way out of the loop.
 fn front_free(closures: &[u32], first: usize, places: &[u32]) -> bool
     requires { ⌜ (first + 32 ≤ length (now closures)) × (length (now places) ≡ 608) ⌝ }
     ensures { λ r. ⌜ (r ≡ true → FrontFree (now (closures .entry)) first (now (places .entry)) 32) ⌝ }
@@ -61,7 +62,7 @@ fn front_free(closures: &[u32], first: usize, places: &[u32]) -> bool
     bits == 0
 }
 
-// Whether the item of kernel line i is no place of a definition.
+// True only if the item of kernel line i is no place of a definition.
 fn line_free(kernels: &[u32], i: usize, places: &[u32]) -> bool
     requires { ⌜ ((b : Book) × (rules : List ℕ) × (starts : List ℕ) × StatesIn b rules (now kernels) starts × (i < length (b .kernels)))
         × (length (now places) ≡ 608) ⌝ }
@@ -73,7 +74,7 @@ fn line_free(kernels: &[u32], i: usize, places: &[u32]) -> bool
     places[9 * rule + dot] == 0
 }
 
-// Whether no item of the kernel lines from `first` up to `last` is.
+// True only if no item of the kernel lines from `first` up to `last` is.
 fn lines_free(kernels: &[u32], first: usize, last: usize, places: &[u32]) -> bool
     requires { ⌜ ((b : Book) × (rules : List ℕ) × (starts : List ℕ) × StatesIn b rules (now kernels) starts × (last ≤ length (b .kernels)))
         × (first ≤ last) × (length (now places) ≡ 608) ⌝ }
@@ -89,7 +90,7 @@ fn lines_free(kernels: &[u32], first: usize, last: usize, places: &[u32]) -> boo
     true
 }
 
-// Whether no item of a state is the place of a definition.
+// True only if no item of a state is the place of a definition.
 pub fn idle(kernels: &[u32], starts: &[u32], closures: &[u32], state: usize, places: &[u32]) -> bool
     requires { ⌜ ((b : Book) × (rules : List ℕ) × ItemsIn b (setsOf (b .rules)) rules (now kernels) (now starts) (now closures) × (state < b .states))
         × (length (now places) ≡ 608) ⌝ }

@@ -14,13 +14,13 @@ use Rattle.grammar.specs.Automaton.Small.{Small}
 use Rattle.grammar.specs.BookFacts.{small-book}
 use Rattle.grammar.specs.Automaton.FirstSets.{setsOf}
 use Rattle.grammar.specs.Automaton.FirstSetsLaws.{sets-right}
+use Rattle.grammar.specs.Data.ListLaws.{at-member}
 use Rattle.book.specs.Held.{RulesIn, KernelsIn, kernelAt}
 use Rattle.items.specs.Arrays.{SuffixesIn, StartsIn}
 use Rattle.items.specs.Starts.{LinesIn}
 use Rattle.items.specs.Derives.{GrammarIn}
 use Rattle.items.specs.KernelLines.{KernelItemsIn}
 use Rattle.items.specs.Closures.{StateItemsIn}
-use Rattle.automaton.specs.GoTable.{at-member}
 use Rattle.automaton.specs.StatesIn.{kernel-there}
 use Rattle.automaton.specs.KernelRules.{RuledIn}
 

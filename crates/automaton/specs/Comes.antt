@@ -23,12 +23,13 @@ use Rattle.grammar.specs.Automaton.FirstSets.{Sets}
 use Rattle.grammar.specs.Automaton.ClosureSets.{setOf, kernelsIn, closureSets}
 use Rattle.grammar.specs.Automaton.CoreItems.{Core, core, ofKernels, entered, ofRules, coreItems}
 use Rattle.grammar.specs.Automaton.StatesCheck.{holdsItem, nextIs, comesFrom, allCome, someKernel, goLines}
+use Rattle.grammar.specs.Data.ListLaws.{at-member}
 use Rattle.book.specs.Layout.{symbolCode}
 use Rattle.book.specs.Held.{KernelsIn, GoesIn, kernelAt, goAt}
 use Rattle.items.specs.GrammarIn.{Next, after-some, right-symbol-low, set-word}
 use Rattle.automaton.specs.StatesIn.{StatesIn, ItemsIn, Stands, Range, state-range, lines-next}
 use Rattle.items.specs.SymbolCodes.{code-test}
-use Rattle.automaton.specs.GoTable.{LineLow, line-low, at-member, go-symbol-low}
+use Rattle.automaton.specs.GoTable.{LineLow, line-low, go-symbol-low}
 
 -- ---- an item of a state
 

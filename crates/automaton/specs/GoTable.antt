@@ -1,12 +1,12 @@
 -- The go lines of a book in an array, and the table that is filled from them, from the last line to the first.
 -- Assumes nothing.
-use Prim.Native.Nat.{ℕ, zero, suc, _+_, _*_, _-_, _<_, _≤_}
+use Prim.Native.Nat.{ℕ, suc, _+_, _*_, _-_, _<_, _≤_}
 use native.Mathlib.Omega.{arith}
 use mathlib.Core.Path.{_≡_, refl, _∙_}
 use mathlib.Core.Logic.{_≢_}
 use mathlib.Core.Bool.{Bool, true, false, _&&_}
 use mathlib.Core.Option.{some}
-use mathlib.Core.List.{List, [], _∷_, _++_, List·Memᴰ as Mem, List·Memᴰ·head as in-head, List·Memᴰ·tail as in-tail}
+use mathlib.Core.List.{List, [], _∷_, _++_}
 use lib.Dec.{eqb}
 use lib.ListN.{length, getD, drop, set, replicate, length-set, length-append, length-replicate, length-drop, getD-replicate, List·getD-append}
 use lib.Seq.{drop-cons, drop-length, getD-set-same, getD-set-other}
@@ -18,17 +18,13 @@ use Rattle.grammar.specs.Automaton.Small.{numberOf}
 use Rattle.grammar.specs.Automaton.States.{sameSymbol, goIn}
 use Rattle.grammar.specs.Conditions.Decides.{Decides, eq-decides, and-decides, refutes}
 use Rattle.grammar.specs.Automaton.GoLines.{sameSymbol-decides}
+use Rattle.grammar.specs.Data.ListLaws.{at-member}
 use Rattle.book.specs.Layout.{symbolCode}
 use Rattle.book.specs.Held.{GoesIn, goAt}
 use Rattle.items.specs.Arrays.{targetCode, GoTableIn}
 use Rattle.items.specs.SymbolCodes.{code-low, code-same}
 
 -- an element within a list is a member of it
-pub at-member : {A : Type 0} (l : List A) (i : ℕ) (d : A) → i < length l → Mem (getD l i d) l
-at-member [] i d h = absurd (omega arith)
-at-member (x ∷ l) zero d h = in-head refl
-at-member (x ∷ l) (suc i) d h = in-tail (at-member l i d (omega arith))
-
 -- the go lines of a book that keeps the limits and declares its names
 pub record GoLinesIn (b : Book) (goes : List ℕ) (count states : ℕ) : Type 0 where
   pub limits : WithinLimits b

@@ -14,10 +14,10 @@ use Rattle.grammar.specs.Conditions.Meaning.{Declared, DeclaredKernel}
 use Rattle.grammar.specs.Conditions.MeaningLaws.{right-length}
 use Rattle.grammar.specs.Automaton.FirstSets.{Sets}
 use Rattle.grammar.specs.Automaton.ClosureSets.{kernelsIn}
+use Rattle.grammar.specs.Data.ListLaws.{at-member}
 use Rattle.book.specs.Held.{KernelsIn, kernelAt}
 use Rattle.items.specs.Arrays.{StartsIn, ClosuresIn, GoTableIn}
 use Rattle.items.specs.GrammarIn.{GrammarIn}
-use Rattle.automaton.specs.GoTable.{at-member}
 
 -- the rules and the kernel lines, with where those of each state begin
 pub record StatesIn (b : Book) (rules kernels starts : List ℕ) : Type 0 where

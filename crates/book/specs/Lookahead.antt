@@ -2,8 +2,8 @@
 -- Assumes nothing.
 use Prim.Native.Nat.{ℕ, _+_, _*_, _-_, _<_, _≤_}
 use native.Mathlib.Omega.{arith}
-use mathlib.Core.Path.{_≡_, refl, sym, ap, _∙_}
-use mathlib.Core.Bool.{Bool, true, false, not, _&&_, false≢true}
+use mathlib.Core.Path.{_≡_, sym, ap, _∙_}
+use mathlib.Core.Bool.{true, not, _&&_}
 use mathlib.Core.List.{List, _∷_}
 use lib.Dec.{eqb}
 use lib.ListN.{length, getD, drop}
@@ -18,6 +18,7 @@ use Rattle.text.specs.Positional.{decimal-positional, no-digit, write-small, wr
 use Rattle.text.specs.Reading.{Reads}
 use Rattle.grammar.specs.Format.Reader.{naming}
 use Rattle.grammar.specs.Format.ReaderLaws.{reading, word-ends}
+use Rattle.grammar.specs.Automaton.TestLaws.{both-true}
 
 -- where the number of the lookahead at a position begins, the number, and the position after it
 pub record Names (text : List ℕ) (at from number next : ℕ) : Type 0 where
@@ -36,16 +37,12 @@ pub record Short (text : List ℕ) (at : ℕ) : Type 0 where
   pub letter-is : getD text (at + 1) 0 ≡ 116
   pub digit-is : classOf (getD text (at + 2) 0) ≡ digit
 
-and-true : (s t : Bool) → s && t ≡ true → (s ≡ true) × (t ≡ true)
-and-true true t e = (refl, e)
-and-true false t e = absurd (false≢true e)
-
 -- by the tests of the code; a class is as it was looked up
 pub short-of : {text : List ℕ} {at class : ℕ} → at + 4 < length text → class ≡ classOf (getD text (at + 2) 0)
     → (eqb (getD text at 0) 32 && eqb (getD text (at + 1) 0) 116) && eqb class digit ≡ true → Short text at
 short-of h c e =
-    let (f, first) = and-true _ _ e in
-    let (blank, name) = and-true _ _ f in
+    let (f, first) = both-true _ _ e in
+    let (blank, name) = both-true _ _ f in
     record { long = h; space-is = eqb-true _ _ blank; letter-is = eqb-true _ _ name; digit-is = sym c ∙ eqb-true _ _ first }
 
 digit-written : (b : ℕ) (r : List ℕ) → classOf b ≡ digit → write decimal (b - 48) r ≡ b ∷ r
@@ -95,7 +92,7 @@ module _ {text : List ℕ} {at : ℕ} (s : Short text at) where
       → not (eqb (getD text (at + 2) 0) 48) && not (eqb class digit) ≡ true
       → Names text at (at + 2) ((getD text (at + 2) 0 - 48) * 10 + (getD text (at + 3) 0 - 48)) (at + 4)
   two-digits second c e =
-      let (zero, third) = and-true _ _ e in
+      let (zero, third) = both-true _ _ e in
       written-to ((getD text (at + 2) 0 - 48) * 10 + (getD text (at + 3) 0 - 48)) 4
       (omega (arith, digit-range _ (s .digit-is), digit-range _ second)) (omega arith)
       (byte-is 2 (omega arith) ∙ ap (λ r. getD text (at + 2) 0 ∷ r) (byte-is 3 (omega arith))

@@ -12,8 +12,8 @@ use Rattle.grammar.specs.Format.Ordered.{Ordered, synthesizedKey}
 use Rattle.grammar.specs.Format.OrderLaws.{ascends-unique}
 use Rattle.grammar.specs.Conditions.Meaning.{WithinLimits, DeclaredPlace, Declared, Before, Owned}
 use Rattle.grammar.specs.Formulas.FormulaCheck.{dotOf, lineAt}
+use Rattle.grammar.specs.Data.ListLaws.{at-member}
 use Rattle.book.specs.Held.{DefinitionsIn, synthesizedAt}
-use Rattle.automaton.specs.GoTable.{at-member}
 use Rattle.formulas.specs.Steps.{step-is, inherited-in}
 use Rattle.cells.specs.Values.{MayRead, Asked}
 

@@ -14,8 +14,8 @@ use Rattle.grammar.specs.Evaluator.Machine.{Frame, cell}
 use Rattle.grammar.specs.Formulas.FormulaCheck as grammar
 use Rattle.grammar.specs.Formulas.FormulaCheck.{dotOf, lineAt}
 use Rattle.grammar.specs.Formulas.FormulaCheckLaws.{Tells}
+use Rattle.grammar.specs.Data.ListLaws.{at-member}
 use Rattle.book.specs.Held.{DefinitionsIn}
-use Rattle.automaton.specs.GoTable.{at-member}
 use Rattle.plans.specs.Planning.{plan}
 use Rattle.plans.specs.PlanCell.{planned-cell}
 use Rattle.cells.specs.Frames.{cellValue}

@@ -3,7 +3,7 @@
 use Prim.Native.Nat.{ℕ, zero, suc, _+_, _<_}
 use mathlib.Core.Path.{_≡_, refl, sym, ap, ap₂, _∙_}
 use mathlib.Core.Bool.{true}
-use mathlib.Core.List.{List, [], _∷_, List·Memᴰ as Mem, List·Memᴰ·head as in-head, List·Memᴰ·tail as in-tail}
+use mathlib.Core.List.{List, [], _∷_}
 use native.Mathlib.Omega.{arith}
 use lib.ListN.{length, getD, take, length-take}
 use lib.Seq.{getD-take, ext-getD}
@@ -13,6 +13,7 @@ use Rattle.grammar.specs.Format.Ordered.{Ordered}
 use Rattle.grammar.specs.Conditions.Tests.{withinLimits, declared}
 use Rattle.grammar.specs.Conditions.TestsLaws.{withinLimits-decides}
 use Rattle.grammar.specs.Conditions.MeaningLaws.{right-length}
+use Rattle.grammar.specs.Data.ListLaws.{at-member}
 use Rattle.book.specs.declared.Book.{Book}
 use Rattle.book.specs.Held.{inheritedAt, synthesizedAt, OwnersIn, DefinitionsIn, Held, HasRoom, kept}
 use Rattle.book.specs.HeldLaws.{kept-all, within-room}
@@ -84,11 +85,6 @@ module _ {numbers : Book} {inherited synthesized rules definitions kernels : Lis
 pub rule-of : {numbers : Book} {rules : List ℕ} {b : Lines} (P : ℕ) → RulesOf numbers rules b → P < length (b .rules) → RuleOf numbers rules P b
 rule-of P h l = record { rules-of = h; rule-there = l; size-is = h .rules-in .size-is P l; few-right = right-length (h .within) P }
 
-pub member-at : {A : Type 0} (xs : List A) (i : ℕ) (d : A) → i < length xs → Mem (getD xs i d) xs
-member-at [] i d l = absurd (omega arith)
-member-at (x ∷ xs) zero d l = in-head refl
-member-at (x ∷ xs) (suc i) d l = in-tail (member-at xs i d (omega arith))
-
 -- A definition's line and its rule
 
 abbrev pub inheritedEntry : Lines → ℕ → Entry
@@ -106,7 +102,7 @@ module _ {definitions : List ℕ} {b : Lines} (w : WithinLimits b) (h : Definiti
       record {
         long = h .long;
         room = omega (arith, h .fits);
-        few-nodes = w .inherited-nodes _ (member-at (b .inheritedDefinitions) i _ l);
+        few-nodes = w .inherited-nodes _ (at-member (b .inheritedDefinitions) i _ l);
         line-in = h .inherited-is i l;
       }
 
@@ -116,7 +112,7 @@ module _ {definitions : List ℕ} {b : Lines} (w : WithinLimits b) (h : Definiti
       record {
         long = h .long;
         room = omega (arith, h .fits);
-        few-nodes = w .synthesized-nodes _ (member-at (b .synthesizedDefinitions) i _ l);
+        few-nodes = w .synthesized-nodes _ (at-member (b .synthesizedDefinitions) i _ l);
         line-in = rw e (h .synthesized-is i l);
       }
 

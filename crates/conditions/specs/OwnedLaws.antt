@@ -17,11 +17,11 @@ use Rattle.grammar.specs.Data.Book.{Place, own, at, val, Book as Lines, inherit
 use Rattle.grammar.specs.Conditions.Meaning.{IsPosition, RightSymbol, IsNonterminal}
 use Rattle.grammar.specs.Conditions.Tests.{isNonterminal, isTerminal, before, isPosition, declaredPlace, nonterminalAt, ownedPlace}
 use Rattle.grammar.specs.Conditions.MeaningLaws.{symbols-declared, right-length}
+use Rattle.grammar.specs.Data.ListLaws.{at-member}
 use Rattle.conditions.specs.Answers.{and-true, and-first, and-second}
 use Rattle.book.specs.Layout.{symbolCode}
 use Rattle.book.specs.Held.{nodeKind, nodeFirst, nodeSecond}
 use Rattle.conditions.specs.Asked.{SymbolsIn, DeclaredIn, NodeThere}
-use Rattle.conditions.specs.AskedLaws.{member-at}
 use Rattle.conditions.specs.Leaves.{ofLeaf}
 use Rattle.conditions.specs.SymbolWords.{terminal-code, nonterminal-code}
 use Rattle.conditions.specs.OwnedTests.{ownedCode}
@@ -49,17 +49,17 @@ module _ (inherited synthesized rules : List ℕ) (p limit kind first second : �
 module _ {rules : List ℕ} {b : Lines} (h : SymbolsIn rules b) where
   -- owners are small
   pub inherited-owner : (K : ℕ) → K < length (b .inheritedOwners) → IsNonterminal b (inheritedOwner b K)
-  inherited-owner K l = h .declared .inherited-owners _ (member-at (b .inheritedOwners) K 32 l)
+  inherited-owner K l = h .declared .inherited-owners _ (at-member (b .inheritedOwners) K 32 l)
 
   pub synthesized-owner : (K : ℕ) → K < length (b .synthesizedOwners) → IsNonterminal b (synthesizedOwner b K)
-  synthesized-owner K l = h .declared .synthesized-owners _ (member-at (b .synthesizedOwners) K 32 l)
+  synthesized-owner K l = h .declared .synthesized-owners _ (at-member (b .synthesizedOwners) K 32 l)
 
   -- Right symbol J of rule P
 
   module _ (P J : ℕ) (there : P < length (b .rules)) (position : IsPosition b P J) where
     right-there : RightSymbol b (symbolAt (b .rules) P J)
     unfolding symbolAt
-    right-there = symbols-declared (h .declared) P _ (member-at (rightOf (b .rules) P) (J - 1) (terminal 0) (omega arith))
+    right-there = symbols-declared (h .declared) P _ (at-member (rightOf (b .rules) P) (J - 1) (terminal 0) (omega arith))
 
     right-word : getD rules (10 * P + 1 + J) 0 ≡ symbolCode (symbolAt (b .rules) P J)
     unfolding symbolAt

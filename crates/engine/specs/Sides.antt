@@ -9,8 +9,9 @@ use Rattle.grammar.specs.Limits.{MAX-INHERITED, MAX-SYNTHESIZED}
 use Rattle.grammar.specs.Data.Book.{Book as Lines, ownerAt}
 use Rattle.grammar.specs.Conditions.Meaning.{IsNonterminal, WithinLimits}
 use Rattle.grammar.specs.Formulas.Slots.{attributes}
+use Rattle.grammar.specs.Data.ListLaws.{at-member}
 use Rattle.book.specs.declared.Book.{Book}
-use Rattle.conditions.specs.AskedLaws.{counted, member-at}
+use Rattle.conditions.specs.AskedLaws.{counted}
 use Rattle.attributes.specs.Owned.{OwnedIn}
 use Rattle.attributes.specs.OneFormula.{owned-all}
 use Rattle.stack.specs.Firsts.{LinesIn}
@@ -32,7 +33,7 @@ pub record SidesIn (b : Lines) (definitions own firsts down up : List ℕ) : Typ
 
 owner-small : (b : Lines) → WithinLimits b → (owners : List ℕ) → ((A : ℕ) → Mem A owners → IsNonterminal b A) → (K : ℕ) → K < length owners
     → ownerAt owners K < 32
-owner-small b w owners d K h = omega (arith, d (getD owners K 32) (member-at owners K 32 h) .high, w .nonterminals-limit .high)
+owner-small b w owners d K h = omega (arith, d (getD owners K 32) (at-member owners K 32 h) .high, w .nonterminals-limit .high)
 
 module _ {numbers : Book} {inherited synthesized rules definitions kernels goes : List ℕ} {vanishes begins reached starts closures table actions : List ℕ}
     {b : Lines} (h : BookReady numbers inherited synthesized rules definitions kernels goes vanishes begins reached starts closures table actions b) where

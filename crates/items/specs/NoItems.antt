@@ -1,11 +1,12 @@
 -- States whose closure has nothing: no rule has an item there with the dot in front. Assumes nothing.
 use Prim.Native.Nat.{ℕ, zero, suc, _+_, _*_, _<_, _≤_}
 use native.Mathlib.Omega.{arith}
-use native.Mathlib.Decide.{ℕ-discrete}
 use mathlib.Core.Path.{_≡_, refl, sym, ap, _∙_}
 use mathlib.Core.List.{List, []}
 use lib.ListN.{length, getD}
-use lib.Bits.{bitOr, or-add-and, and-le-l, and-le-r}
+use lib.Bits.{bitOr}
+use Rattle.sets.specs.Bits.{below-suc}
+use Rattle.sets.specs.Operations.{or-none}
 use Rattle.grammar.specs.Data.Symbol.{Rule, leftOf}
 use Rattle.grammar.specs.Data.Book.{Book}
 use Rattle.grammar.specs.Conditions.MeaningLaws.{left-declared}
@@ -26,14 +27,9 @@ nothing-none words first i l = absurd (omega arith)
 -- the bits of one more word are gathered
 pub nothing-more : (words : List ℕ) (first n bits : ℕ) → (bits ≡ 0 → Nothing words first n) → bitOr bits (getD words (first + n) 0) ≡ 0
     → Nothing words first (n + 1)
-nothing-more words first n bits before e i l = by (ℕ-discrete i n)
-  where
-    w : ℕ
-    w = getD words (first + n) 0
-
-    by : Dec (i ≡ n) → getD words (first + i) 0 ≡ 0
-    by (yes p) = rw p (omega (arith, or-add-and bits w, and-le-l bits w))
-    by (no m) = before (omega (arith, or-add-and bits w, and-le-r bits w)) i (omega arith)
+nothing-more words first n bits before e i l =
+    let (none, last) = or-none bits (getD words (first + n) 0) e in
+    below-suc (λ j. getD words (first + j) 0 ≡ 0) n i (omega arith) (before none i) last
 
 pub nothing-all : (words : List ℕ) (first : ℕ) {n m : ℕ} → Nothing words first n → m ≤ n → Nothing words first m
 nothing-all words first all l i h = all i (omega arith)

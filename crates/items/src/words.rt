@@ -26,7 +26,7 @@ pub fn fill(bytes: &mut [u8], count: usize, value: u8)
     }
 }
 
-// Whether 32 words are 0, from a place on: their bits are gathered, with no way out of the loop.
+// True only if 32 words are 0, from a place on: their bits are gathered, with no way out of the loop.
 pub fn nothing(words: &[u32], first: usize) -> bool
     requires { ⌜ first + 32 ≤ length (now words) ⌝ }
     ensures { λ r. ⌜ (r ≡ true → Nothing (now (words .entry)) first 32) ⌝ }

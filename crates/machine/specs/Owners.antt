@@ -8,8 +8,8 @@ use Rattle.grammar.specs.Limits.{MAX-INHERITED, MAX-SYNTHESIZED, MAX-OWNED}
 use Rattle.grammar.specs.Data.Book.{Book, ownerAt}
 use Rattle.grammar.specs.Conditions.Decides.{count}
 use Rattle.grammar.specs.Conditions.Meaning.{WithinLimits, IsNonterminal, Declared}
+use Rattle.grammar.specs.Data.ListLaws.{at-member}
 use Rattle.book.specs.Held.{OwnersIn}
-use Rattle.automaton.specs.GoTable.{at-member}
 use Rattle.stack.specs.Lists.{Listable}
 
 module _ {b : Book} (limits : WithinLimits b) (declared : Declared b) where

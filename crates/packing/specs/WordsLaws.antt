@@ -5,7 +5,7 @@ use mathlib.Core.Path.{_≡_, refl, sym, ap, _∙_}
 use mathlib.Core.Bool.{Bool, true, false}
 use mathlib.Core.List.{List, [], _∷_, _++_}
 use native.Mathlib.Omega.{arith}
-use lib.Bits.{bitOr, or-add-and, and-le-r}
+use lib.Bits.{bitOr}
 use lib.Dec.{eqb}
 use lib.ListN.{length, getD, drop, replicate, length-drop, drop-of-length-le}
 use lib.Seq.{take-all, drop-drop, getD-drop}
@@ -13,6 +13,7 @@ use borrow.Author.Tests.{eq-eqb, ne-eqb, eqb-true, eqb-false}
 use Rattle.text.specs.RestLaws.{drop-more}
 use Rattle.grammar.specs.Automaton.Fixpoint.{sameSets}
 use Rattle.grammar.specs.Format.Packing.{wordOf, pack, before, unpack}
+use Rattle.sets.specs.Operations.{or-none}
 use Rattle.packing.specs.Words.{bytesOf, full, gathered, partFrom}
 
 pub part-drop : (at : ℕ) (words : List ℕ) → partFrom at words ≡ drop at words
@@ -164,7 +165,7 @@ pub gathered-some : (ws : List ℕ) (bits : ℕ) → (bits ≡ 0 → ⊥) → eq
 unfolding gathered
 gathered-some [] bits h = ne-eqb bits 0 h
 gathered-some (w ∷ ws) bits h =
-    gathered-some ws (bitOr bits w) (λ e. h (omega (arith, or-add-and bits w, and-le-r bits w)))
+    gathered-some ws (bitOr bits w) (λ e. h (or-none bits w e .0))
 
 pub gathered-none : (ws : List ℕ) → eqb (gathered 0 ws) 0 ≡ sameSets ws (replicate (length ws) 0)
 unfolding gathered sameSets

@@ -6,7 +6,7 @@ use mathlib.Core.Path.{_≡_, refl, sym, ap, _∙_}
 use mathlib.Core.Bool.{Bool, true, false, not, _&&_, _||_}
 use native.Mathlib.Omega.{arith}
 use lib.Dec.{eqb}
-use lib.Bits.{bitAnd, bitOr, bitXor, differ, and-step, or-step, xor-step, and-shr, or-shr, xor-shr, and-lt, or-lt}
+use lib.Bits.{bitAnd, bitOr, bitXor, differ, and-step, or-step, xor-step, and-shr, or-shr, xor-shr, and-lt, or-lt, or-add-and, and-le-l, and-le-r}
 use borrow.Author.Tests.{eq-eqb, ne-eqb, eqb-true}
 use Rattle.sets.specs.Sets.{bit, empty, collect, union, meet, subset, meets}
 use Rattle.sets.specs.Bits.{bit-collect}
@@ -48,6 +48,11 @@ bit-and a b i =
     let low : bitAnd x y % 2 ≡ min (x % 2) (y % 2) = omega (arith, and-step x y) in
     ap (λ (n : ℕ). eqb (n % 2) 1) (and-shr a b i) ∙ ap (λ (n : ℕ). eqb n 1) low ∙ min-and (x % 2) (y % 2) (omega arith) (omega arith)
 
+-- ---- the bits of both are none only if those of each are
+
+pub or-none : (a b : ℕ) → bitOr a b ≡ 0 → (a ≡ 0) × (b ≡ 0)
+or-none a b e = (omega (arith, or-add-and a b, and-le-r a b), omega (arith, or-add-and a b, and-le-l a b))
+
 -- ---- the operations
 
 pub union-or : (a b : ℕ) → a < 2 ^ 32 → b < 2 ^ 32 → union a b ≡ bitOr a b
@@ -60,7 +65,7 @@ meet-and a b la lb =
 
 -- ---- the numbers below 32 that a set does not hold
 
-abbrev full : ℕ
+abbrev pub full : ℕ
 full = 4294967295
 
 pub bit-full : (i : ℕ) → i < 32 → bit full i ≡ true
@@ -74,7 +79,7 @@ flip zero z h = let e : (z * 2 + 1) % 2 ≡ 1 = omega arith in ap (λ (n : ℕ).
 flip (suc zero) z h = let e : (z * 2 + 0) % 2 ≡ 0 = omega arith in ap (λ (n : ℕ). eqb n 1) e
 flip (suc (suc x)) z h = absurd (omega arith)
 
-pub bit-others : (s i : ℕ) → i < 32 → bit (bitXor s 4294967295) i ≡ not (bit s i)
+pub bit-others : (s i : ℕ) → i < 32 → bit (bitXor s full) i ≡ not (bit s i)
 unfolding bit
 bit-others s i h =
     let x : ℕ = s / 2 ^ i in

@@ -1,8 +1,12 @@
-// Sets of numbers below 32 as the bits of a `u32`. Their meaning is `bit`, of specs/Sets.antt; nothing else looks inside a set.
+// Sets of numbers below 32 as the bits of a `u32`. Their meaning is `bit`, of specs/Sets.antt; elsewhere a set is compared with the empty one, or the bits of
+// many are gathered to tell that all are empty.
 ghost use mathlib.Core.Path.{_≡_};
 ghost use mathlib.Core.Bool.{not};
 ghost use Prim.Native.Nat.{ℕ, _<_};
 ghost use Rattle.sets.specs.Sets.{bit, empty, single, union, with, subset, meets};
+
+// The set that holds every number below 32.
+pub const ALL: u32 = 4294967295;
 
 // The set that holds nothing.
 pub fn empty() -> u32
@@ -46,7 +50,7 @@ pub fn union(a: u32, b: u32) -> u32
 pub fn others(s: u32) -> u32
     ensures { λ r. ⌜ ((i : ℕ) → i < 32 → bit r i ≡ not (bit s i)) ⌝ }
 {
-    s ^ 4294967295
+    s ^ ALL
 }
 
 // Whether all that is in `a` is in `b`.

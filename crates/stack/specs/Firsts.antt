@@ -13,8 +13,8 @@ use Rattle.grammar.specs.Data.Book.{SynthesizedDefinition, Book}
 use Rattle.grammar.specs.Format.Ordered.{Before, Ascends, ascends-∷, synthesizedKey, Ordered}
 use Rattle.grammar.specs.Format.OrderLaws.{before-first, ascends-above}
 use Rattle.grammar.specs.Conditions.Meaning.{WithinLimits, Declared}
+use Rattle.grammar.specs.Data.ListLaws.{at-member}
 use Rattle.book.specs.Held.{DefinitionsIn, synthesizedAt}
-use Rattle.automaton.specs.GoTable.{at-member}
 
 -- the rule of a definition, by its line
 abbrev pub ruleWord : List ℕ → ℕ → ℕ

@@ -6,7 +6,7 @@ use mathlib.Core.List.{List, [], _∷_, List·Memᴰ as Mem}
 use native.Mathlib.Omega.{arith}
 use lib.ListN.{length, getD}
 use Rattle.grammar.specs.Data.Symbol.{Symbol, terminal, nonterminal, leftOf, rightOf, ruleAt, after}
-use Rattle.grammar.specs.Data.ListLaws.{drop-member}
+use Rattle.grammar.specs.Data.ListLaws.{drop-member, at-member}
 use Rattle.grammar.specs.Data.Book.{Book}
 use Rattle.grammar.specs.Format.Ordered.{Spelled}
 use Rattle.grammar.specs.Conditions.Meaning.{GoSymbol}
@@ -21,7 +21,6 @@ use Rattle.grammar.specs.Refusal.{Sound}
 use Rattle.grammar.specs.Engine.{tablesFrom, tablesOf}
 use Rattle.book.specs.Layout.{symbolCode}
 use Rattle.items.specs.Arrays.{targetCode, GoTableIn}
-use Rattle.automaton.specs.GoTable.{at-member}
 use Rattle.items.specs.SymbolCodes.{terminal-code, nonterminal-code}
 use Rattle.stack.specs.Action.{item-rule, Reduced, reduced}
 use Rattle.stack.specs.Path.{Path, bottom, above}

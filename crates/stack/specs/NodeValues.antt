@@ -1,9 +1,9 @@
 -- The synthesized values of a rule's left side, in a record that is not yet on the stack: a token's word, which is 0, and a word for each attribute.
 -- The rule's definitions are gone through, line by line. Assumes nothing.
-use Prim.Native.Nat.{ℕ, suc, _+_, _*_, _-_, _≤_, _<_}
+use Prim.Native.Nat.{ℕ, _+_, _*_, _-_, _≤_, _<_}
 use mathlib.Core.Path.{_≡_, sym, ap, _∙_}
 use mathlib.Core.Logic.{_⊎_, inl, inr}
-use mathlib.Core.List.{List, _∷_, List·Memᴰ as Mem, List·Memᴰ·head as in-head, List·Memᴰ·tail as in-tail}
+use mathlib.Core.List.{List, List·Memᴰ as Mem}
 use native.Mathlib.Omega.{arith}
 use native.Mathlib.Decide.{ℕ-discrete, decLt}
 use lib.ListN.{length, getD, set, replicate, length-set, length-replicate, getD-replicate}
@@ -14,8 +14,8 @@ use Rattle.grammar.specs.Data.Book.{Expr, SynthesizedDefinition, Book, synthesi
 use Rattle.grammar.specs.Data.DefinitionLaws.{synthesized-by}
 use Rattle.grammar.specs.Format.Ordered.{Ordered}
 use Rattle.grammar.specs.Conditions.Meaning.{WithinLimits, Declared, SynthesizedOf}
-use Rattle.book.specs.Held.{DefinitionsIn, synthesizedAt}
-use Rattle.automaton.specs.GoTable.{at-member}
+use Rattle.grammar.specs.Data.ListLaws.{at-member, member-at}
+use Rattle.book.specs.Held.{DefinitionsIn, synthesizedAt, noSynthesized}
 use Rattle.cells.specs.Values.{placeIn, Asked}
 use Rattle.cells.specs.DefinitionsAsked.{synthesized-asked, synthesized-expression}
 use Rattle.stack.specs.Firsts.{ruleWord, Cut, FirstsIn}
@@ -66,10 +66,6 @@ pub record LineOf (b : Book) (definitions : List ℕ) (P size line : ℕ) : Type
   pub low : line < 128
 
 -- a line's place among the definitions
-pub member-at : (ds : List SynthesizedDefinition) {d : SynthesizedDefinition} → Mem d ds → (i : ℕ) × (i < length ds) × (synthesizedAt ds i ≡ d)
-member-at (d ∷ ds) (in-head e) = (0, omega arith, sym e)
-member-at (d ∷ ds) (in-tail m) = let (i, l, e) = member-at ds m in (suc i, omega arith, e)
-
 module _ {b : Book} {definitions firsts : List ℕ} {P size : ℕ} (A : NodeAsked b definitions firsts P size) where
   abbrev CutAt : ℕ → Type 0
   CutAt R =
@@ -193,5 +189,5 @@ module _ {b : Book} {definitions firsts : List ℕ} {P size : ℕ} (A : NodeAske
         by K (inr (z, none)) =
             synthesized-by (λ e. getD fresh (1 + K) 0 ≡ eval e (placeIn base inherited synthesized)) P K (b .synthesizedDefinitions) (λ n. z)
             (λ d m (p, a).
-            let (i, l, e) = member-at (b .synthesizedDefinitions) m in
+            let (i, l, e) = member-at (b .synthesizedDefinitions) noSynthesized m in
             absurd (none i l (before i l (rw e p)) (rw e (p, a))))

@@ -22,6 +22,8 @@ use Rattle.grammar.specs.Evaluator.Machine.{Frame, frame, Config, cell, pop}
 use Rattle.grammar.specs.Evaluator.Moves as moves
 use Rattle.grammar.specs.Evaluator.TakenPremises.{premises}
 use Rattle.grammar.specs.Engine.{tablesOf}
+use Rattle.grammar.specs.Data.ListLaws.{member-at}
+use Rattle.book.specs.Held.{noSynthesized}
 use Rattle.book.specs.Layout.{symbolCode}
 use Rattle.items.specs.SymbolCodes.{nonterminal-code}
 use Rattle.cells.specs.Frames.{cellValue, ResultIn, FrameIn, FramesIn, a-frame, PoppedIn}
@@ -33,7 +35,7 @@ use Rattle.stack.specs.declared.top.Top.{Top}
 use Rattle.stack.specs.Action.{Reduced, reduced}
 use Rattle.stack.specs.Goes.{reduce-goes, target-of}
 use Rattle.stack.specs.Lists.{gathered, numbers-few, gathered-owned}
-use Rattle.stack.specs.NodeValues.{NodeAsked, NodeValues, member-at}
+use Rattle.stack.specs.NodeValues.{NodeAsked, NodeValues}
 use Rattle.stack.specs.Page.{nodeStored, node-stored}
 use Rattle.stack.specs.Path.{Path, above, pop-path, deep}
 use Rattle.stack.specs.Pushes.{Stacks, StartOf, NodePushed}
@@ -64,7 +66,7 @@ module _ {b : Book} {rules definitions table firsts down up : List ℕ} (B : Boo
   left-reads K =
       synthesized-by (Leaves (MayRead size)) P K (b .synthesizedDefinitions) (λ n. in-number)
       λ d m (p, a).
-      let (i, l, e) = member-at (b .synthesizedDefinitions) m in
+      let (i, l, e) = member-at (b .synthesizedDefinitions) noSynthesized m in
       let asked = synthesized-asked (B .definitions-in) (B .sound .limits) (B .sound .names) i l in
       rw (e, p) at (asked .reads)
 

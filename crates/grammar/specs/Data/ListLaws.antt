@@ -1,9 +1,10 @@
--- Laws of lists: the first element after some are dropped, members. Assumes nothing.
-use Prim.Native.Nat.{ℕ, zero, suc}
-use mathlib.Core.Path.{_≡_, refl}
+-- Laws of lists: the first element after some are dropped, members and their places. Assumes nothing.
+use Prim.Native.Nat.{ℕ, zero, suc, _<_}
+use native.Mathlib.Omega.{arith}
+use mathlib.Core.Path.{_≡_, refl, sym}
 use mathlib.Core.Logic.{_≢_}
 use mathlib.Core.List.{List, [], _∷_, nil≢cons, List·Memᴰ as Mem, List·Memᴰ·head as in-head, List·Memᴰ·tail as in-tail}
-use lib.ListN.{getD, drop}
+use lib.ListN.{length, getD, drop}
 
 pub drop-step : {A : Type 0} (D : ℕ) (l : List A) {x : A} {r : List A} → drop D l ≡ x ∷ r → drop (suc D) l ≡ r
 drop-step zero [] e = absurd (nil≢cons e)
@@ -28,3 +29,12 @@ pub getD-member : {A : Type 0} (l : List A) (n : ℕ) (d : A) → getD l n d ≢
 getD-member [] n d h = absurd (h refl)
 getD-member (x ∷ l) zero d h = in-head refl
 getD-member (x ∷ l) (suc n) d h = in-tail (getD-member l n d h)
+
+pub at-member : {A : Type 0} (l : List A) (i : ℕ) (d : A) → i < length l → Mem (getD l i d) l
+at-member [] i d h = absurd (omega arith)
+at-member (x ∷ l) zero d h = in-head refl
+at-member (x ∷ l) (suc i) d h = in-tail (at-member l i d (omega arith))
+
+pub member-at : {A : Type 0} (l : List A) (d : A) {x : A} → Mem x l → (i : ℕ) × (i < length l) × (getD l i d ≡ x)
+member-at (y ∷ l) d (in-head e) = (zero, omega arith, sym e)
+member-at (y ∷ l) d (in-tail m) = let (i, h, e) = member-at l d m in (suc i, omega arith, e)

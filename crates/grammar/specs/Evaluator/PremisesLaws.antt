@@ -2,7 +2,6 @@
 -- their numbers. Assumes no more than these premises.
 use Prim.Native.Nat.{ℕ, zero, suc}
 use native.Mathlib.Omega.{arith}
-use native.Mathlib.Decide.{ℕ-discrete}
 use mathlib.Core.Path.{_≡_, refl, sym, _∙_}
 use mathlib.Core.Logic.{_≢_}
 use mathlib.Core.Bool.{Bool, true, false, _&&_}
@@ -12,12 +11,13 @@ use lib.Dec.{eqb}
 use lib.ListN.{length}
 use lib.Seq.{drop-nil}
 use borrow.Author.Tests.{eqb-true}
+use Rattle.grammar.specs.Automaton.TestLaws.{both-true}
 use Rattle.grammar.specs.Data.ListLaws.{drop-member, getD-member}
 use Rattle.grammar.specs.Data.Symbol.{Symbol, nonterminal, Rule, ruleAt, leftOf, rightOf, after}
 use Rattle.grammar.specs.Data.Term.{Leaves, in-number}
 use Rattle.grammar.specs.Data.Book.{Place, InheritedDefinition, SynthesizedDefinition, Book, inheritedIn, synthesizedIn, inheritedOwner, inheritedExpr}
 use Rattle.grammar.specs.Data.Book.{synthesizedExpr}
-use Rattle.grammar.specs.Automaton.Items.{KernelItem, kernel-item, Closure, kernel, close, Chain, one, longer}
+use Rattle.grammar.specs.Automaton.Items.{KernelItem, kernel-item, Closure, kernel}
 use Rattle.grammar.specs.Evaluator.Machine.{Tables}
 use Rattle.grammar.specs.Evaluator.Premises.{MayRead, Premises}
 
@@ -30,10 +30,6 @@ rule-member (r ∷ G) (suc P) D h = in-tail (rule-member G P D h)
 
 -- ---------------------------------------------------------------- definitions found by their numbers
 
-and-true : (s t : Bool) → (s && t) ≡ true → (s ≡ true) × (t ≡ true)
-and-true true t e = (refl, e)
-and-true false t e = let z : _≡_ {A = ℕ} 0 1 = cc in absurd (omega arith)
-
 module _ (R : ℕ → ℕ → Place → Type 0) where
   inheritedIn-leaves : (ds : List InheritedDefinition) → ((d : InheritedDefinition) → Mem d ds → Leaves (R (d .rule) (d .position)) (d .expression))
       → (P J K : ℕ) → Leaves (R P J) (inheritedIn ds P J K)
@@ -45,9 +41,9 @@ module _ (R : ℕ → ℕ → Place → Type 0) where
       first : (t : Bool) → (eqb (d .rule) P && (eqb (d .position) J && eqb (d .attribute) K)) ≡ t → Leaves (R P J) (inheritedIn ds P J K)
           → Leaves (R P J) (elim t [ true ↦ d .expression | false ↦ inheritedIn ds P J K ])
       first true e rest =
-          let (p, q) = and-true _ _ e in
+          let (p, q) = both-true _ _ e in
           let same-rule : d .rule ≡ P = eqb-true _ _ p in
-          let same-position : d .position ≡ J = eqb-true _ _ (and-true _ _ q .0) in
+          let same-position : d .position ≡ J = eqb-true _ _ (both-true _ _ q .0) in
           rw (← same-rule, ← same-position) (h d (in-head refl))
       first false e rest = rest
 
@@ -60,7 +56,7 @@ module _ (R : ℕ → ℕ → Place → Type 0) where
       first : (t : Bool) → (eqb (d .rule) P && eqb (d .attribute) K) ≡ t → Leaves (R P (J P)) (synthesizedIn ds P K)
           → Leaves (R P (J P)) (elim t [ true ↦ d .expression | false ↦ synthesizedIn ds P K ])
       first true e rest =
-          let same-rule : d .rule ≡ P = eqb-true _ _ (and-true _ _ e .0) in
+          let same-rule : d .rule ≡ P = eqb-true _ _ (both-true _ _ e .0) in
           rw (← same-rule) (h d (in-head refl))
       first false e rest = rest
 

@@ -1,12 +1,13 @@
 -- What the laws of passes over the inherited attributes' definitions take from conditions 2 to 6, in the form in which they use it.
 -- Assumes nothing.
-use Prim.Native.Nat.{ℕ, zero, suc, _-_, _≤_, _<_}
+use Prim.Native.Nat.{ℕ, suc, _-_, _≤_, _<_}
 use native.Mathlib.Omega.{arith}
-use mathlib.Core.Path.{_≡_, refl, sym, ap, _∙_}
-use mathlib.Core.List.{List, [], _∷_, List·Memᴰ as Mem, List·Memᴰ·head as in-head, List·Memᴰ·tail as in-tail, List·Memᴰ·not-nil as not-in-nil}
-use lib.ListN.{length, getD, drop}
+use mathlib.Core.Path.{_≡_, refl, ap, _∙_}
+use mathlib.Core.List.{List, _∷_, List·Memᴰ as Mem}
+use lib.ListN.{length, drop}
 use lib.Seq.{drop-cons}
 use Rattle.grammar.specs.Limits.{MAX-INHERITED, MAX-DEFINITIONS}
+use Rattle.grammar.specs.Data.ListLaws.{at-member, member-at}
 use Rattle.grammar.specs.Data.Symbol.{Symbol, terminal, nonterminal, rightOf, symbolAt, after}
 use Rattle.grammar.specs.Data.Term.{Leaves}
 use Rattle.grammar.specs.Data.Book.{InheritedDefinition, Book, inheritedOwner, inheritedExpr}
@@ -35,18 +36,6 @@ pub record DefinitionPremises (b : Book) : Type 0 where
   -- 6: each inherited attribute of the symbol behind a dot has a line
   pub next-line : (P D B K : ℕ) (β : List Symbol) → after (b .rules) P D ≡ nonterminal B ∷ β → inheritedOwner b K ≡ B
       → (d : ℕ) × (d < definitions b) × InheritedOf P (suc D) K (lineAt b d)
-
--- the elements of a list and its places
-module _ {A : Type 0} where
-  place-in : (l : List A) (i : ℕ) (x : A) → i < length l → Mem (getD l i x) l
-  place-in [] i x h = absurd (omega arith)
-  place-in (y ∷ l) zero x h = in-head refl
-  place-in (y ∷ l) (suc i) x h = in-tail (place-in l i x (omega arith))
-
-  in-place : (l : List A) (x : A) {y : A} → Mem y l → (i : ℕ) × (i < length l) × (getD l i x ≡ y)
-  in-place [] x m = absurd (not-in-nil m)
-  in-place (z ∷ l) x (in-head e) = (zero, omega arith, sym e)
-  in-place (z ∷ l) x (in-tail m) = let (i, h, e) = in-place l x m in (suc i, omega arith, e)
 
 module _ {b : Book} (ordered : Ordered b) (limits : WithinLimits b) (declared : Declared b) (owned : Owned b) (defined : Defined b) where
   -- the expression found for a line's key is that line's
@@ -84,9 +73,9 @@ module _ {b : Book} (ordered : Ordered b) (limits : WithinLimits b) (declared : 
   definition-premises = record {
     attributes-limit = limits .inherited-limit;
     definitions-limit = omega (arith, limits .definitions-limit);
-    line-right = λ d h. line-right (lineAt b d) (place-in (b .inheritedDefinitions) d noDefinition h);
+    line-right = λ d h. line-right (lineAt b d) (at-member (b .inheritedDefinitions) d noDefinition h);
     next-line = λ P D B K β h o.
         let (line, m, key) = next-defined limits declared defined P D B K h o in
-        let (d, l, e) = in-place (b .inheritedDefinitions) noDefinition m in
+        let (d, l, e) = member-at (b .inheritedDefinitions) noDefinition m in
         (d, l, rw e key);
   }

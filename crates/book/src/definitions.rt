@@ -6,6 +6,7 @@ ghost use lib.ListN.{length, replicate};
 ghost use Rattle.text.specs.Rest.{rest};
 ghost use Rattle.text.specs.Reading.{Lent};
 ghost use Rattle.grammar.specs.Limits.{MAX-DEFINITIONS};
+ghost use Rattle.lines.specs.Heads.{Head};
 ghost use Rattle.book.specs.Sections.{Gives};
 ghost use Rattle.book.specs.Order.{keyOf, lastKey};
 ghost use Rattle.book.specs.Expressions.{DEFINITION-WORDS, MAX-WAITING};
@@ -25,7 +26,7 @@ use super::spelling::SYNDEF;
 use super::spelling::closing;
 use super::spelling::naming;
 use super::store::put_line;
-use lines::opening;
+use lines::line_head;
 
 // The words of a definition: rule, position, attribute, number of nodes, and 3 words for each of the nodes that a definition may have.
 pub const WORDS: usize = 4 + 3 * (Book::MAX_NODES as usize);
@@ -111,18 +112,19 @@ fn definition_line(
     }
 }
 
-// The lines of one kind, with the kind's word given, from the first place on.
+// The lines of one kind, with the kind's word and the bytes of its head given, from the first place on.
 fn definition_lines(
     t: &[u8; 256],
     text: &[u8],
     at: usize,
     inherited: bool,
     word: u32,
+    head: &[u8],
     first: u32,
     waits: &mut [u8],
     out: &mut [u32],
 ) -> Section
-    requires { ⌜ Lent (now t) (now text) × (word ≡ wordFor inherited) × (first ≤ 65537)
+    requires { ⌜ Lent (now t) (now text) × (word ≡ wordFor inherited) × Head word (now head) × (first ≤ 65537)
         × (MAX-WAITING ≤ length (now waits)) × (MAX-DEFINITIONS * DEFINITION-WORDS ≤ length (now out)) ⌝ }
     ensures { λ r. ⌜ Defines (definitions inherited (rest (now (text .entry)) at)) first
         (now (text .entry)) (now (out .entry)) (r .count) (r .at) (now (out .exit)) ⌝ }
@@ -132,7 +134,7 @@ fn definition_lines(
     let mut k: u32 = 0;
     let mut last = Key::none();
     loop {
-        let a = opening(t, text, p, word);
+        let a = line_head(t, text, p, word, head);
         if n < a {
             return Section { count: k, at: p };
         }
@@ -154,7 +156,7 @@ fn inherited_definitions(
     ensures { λ r. ⌜ Defines (definitions true (rest (now (text .entry)) at)) 0
         (now (text .entry)) (now (out .entry)) (r .count) (r .at) (now (out .exit)) ⌝ }
 {
-    definition_lines(t, text, at, true, INHDEF, 0, waits, out)
+    definition_lines(t, text, at, true, INHDEF, b"(inhdef ", 0, waits, out)
 }
 
 fn synthesized_definitions(
@@ -170,7 +172,7 @@ fn synthesized_definitions(
     ensures { λ r. ⌜ Defines (definitions false (rest (now (text .entry)) at)) first
         (now (text .entry)) (now (out .entry)) (r .count) (r .at) (now (out .exit)) ⌝ }
 {
-    definition_lines(t, text, at, false, SYNDEF, first, waits, out)
+    definition_lines(t, text, at, false, SYNDEF, b"(syndef ", first, waits, out)
 }
 
 // How many definitions of each kind there are, and where the text goes on.

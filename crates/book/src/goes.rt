@@ -22,7 +22,7 @@ use super::spelling::closing;
 use super::store::put_line;
 use super::symbol::code_of;
 use super::symbol::symbol;
-use lines::opening;
+use lines::line_head;
 
 // The key of a line: its state, then terminals before nonterminals, then the symbol's number.
 fn key_of(state: u32, terminal: bool, number: u32) -> Key
@@ -67,11 +67,12 @@ pub fn go_lines(t: &[u8; 256], text: &[u8], at: usize, out: &mut [u32]) -> Secti
         (now (text .entry)) (now (out .entry)) (r .count) (r .at) (now (out .exit)) ⌝ }
 {
     let n = text.len();
+    let head: &[u8] = b"(go ";
     let mut p = at;
     let mut k: u32 = 0;
     let mut last = Key::none();
     loop {
-        let a = opening(t, text, p, GO);
+        let a = line_head(t, text, p, GO, head);
         if n < a {
             return Section { count: k, at: p };
         }

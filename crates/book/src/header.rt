@@ -5,7 +5,7 @@ ghost use Rattle.book.specs.Header.{header, numbersOf};
 ghost use Rattle.book.specs.Sections.{Gives};
 use super::spelling::BOOK;
 use super::spelling::closing;
-use lines::opening;
+use lines::line_head;
 
 // How many terminals, nonterminals and states the book has, and where the text goes on.
 pub struct HeaderRead {
@@ -19,7 +19,7 @@ pub fn header(t: &[u8; 256], text: &[u8], at: usize) -> HeaderRead
     requires { ⌜ Lent (now t) (now text) ⌝ }
     ensures { λ r. ⌜ Gives (header (rest (now (text .entry)) at)) (now (text .entry)) (numbersOf r) (r .at) ⌝ }
 {
-    let a = opening(t, text, at, BOOK);
+    let a = line_head(t, text, at, BOOK, b"(book ");
     let terminals = text::number(t, text, a);
     let b = text::mark(t, text, terminals.at, text::SPACE);
     let nonterminals = text::number(t, text, b);

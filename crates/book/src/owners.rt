@@ -6,6 +6,7 @@ ghost use Rattle.text.specs.Numeral.{wordOf};
 ghost use Rattle.text.specs.Reading.{Lent};
 ghost use Rattle.grammar.specs.Limits.{MAX-INHERITED, MAX-SYNTHESIZED};
 ghost use Rattle.grammar.specs.Format.Parse.{ownerLine, ownerLines};
+ghost use Rattle.lines.specs.Heads.{Head};
 ghost use Rattle.book.specs.Layout.{ownerWords};
 ghost use Rattle.book.specs.Sections.{Puts, Fills};
 use super::Book;
@@ -18,7 +19,7 @@ use super::spelling::SYN;
 use super::spelling::closing;
 use super::spelling::naming;
 use super::store::put_line;
-use lines::opening;
+use lines::line_head;
 
 // After the head, `iK nA)` with the letter and K given; the owner A goes to its place.
 fn owner_line(
@@ -48,11 +49,12 @@ fn owner_lines(
     text: &[u8],
     at: usize,
     word: u32,
+    head: &[u8],
     letter: u32,
     room: usize,
     out: &mut [u32],
 ) -> Section
-    requires { ⌜ Lent (now t) (now text) × (room ≤ length (now out)) ⌝ }
+    requires { ⌜ Lent (now t) (now text) × Head word (now head) × (room ≤ length (now out)) ⌝ }
     ensures { λ r. ⌜ Fills ownerWords room (ownerLines word letter (rest (now (text .entry)) at))
         (now (text .entry)) (now (out .entry)) (r .count) (r .at) (now (out .exit)) ⌝ }
 {
@@ -60,7 +62,7 @@ fn owner_lines(
     let mut p = at;
     let mut k: u32 = 0;
     loop {
-        let a = opening(t, text, p, word);
+        let a = line_head(t, text, p, word, head);
         if n < a {
             return Section { count: k, at: p };
         }
@@ -74,7 +76,16 @@ pub fn inherited_lines(t: &[u8; 256], text: &[u8], at: usize, out: &mut [u32]) -
     ensures { λ r. ⌜ Fills ownerWords MAX-INHERITED (ownerLines (wordOf "inh") (wordOf "i") (rest (now (text .entry)) at))
         (now (text .entry)) (now (out .entry)) (r .count) (r .at) (now (out .exit)) ⌝ }
 {
-    owner_lines(t, text, at, INH, I, Book::MAX_INHERITED as usize, out)
+    owner_lines(
+        t,
+        text,
+        at,
+        INH,
+        b"(inh ",
+        I,
+        Book::MAX_INHERITED as usize,
+        out,
+    )
 }
 
 pub fn synthesized_lines(t: &[u8; 256], text: &[u8], at: usize, out: &mut [u32]) -> Section
@@ -82,5 +93,14 @@ pub fn synthesized_lines(t: &[u8; 256], text: &[u8], at: usize, out: &mut [u32])
     ensures { λ r. ⌜ Fills ownerWords MAX-SYNTHESIZED (ownerLines (wordOf "syn") (wordOf "s") (rest (now (text .entry)) at))
         (now (text .entry)) (now (out .entry)) (r .count) (r .at) (now (out .exit)) ⌝ }
 {
-    owner_lines(t, text, at, SYN, S, Book::MAX_SYNTHESIZED as usize, out)
+    owner_lines(
+        t,
+        text,
+        at,
+        SYN,
+        b"(syn ",
+        S,
+        Book::MAX_SYNTHESIZED as usize,
+        out,
+    )
 }

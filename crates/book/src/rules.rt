@@ -17,7 +17,7 @@ use super::spelling::naming;
 use super::store::put_line;
 use super::symbol::code_of;
 use super::symbol::symbol;
-use lines::opening;
+use lines::line_head;
 
 // The codes of the right side's first symbols.
 fn right_side(t: &[u8; 256], text: &[u8], at: usize, out: &mut [u32]) -> Section
@@ -78,10 +78,11 @@ pub fn rule_lines(t: &[u8; 256], text: &[u8], at: usize, out: &mut [u32]) -> Sec
         (now (text .entry)) (now (out .entry)) (r .count) (r .at) (now (out .exit)) ⌝ }
 {
     let n = text.len();
+    let head: &[u8] = b"(rule ";
     let mut p = at;
     let mut k: u32 = 0;
     loop {
-        let a = opening(t, text, p, RULE);
+        let a = line_head(t, text, p, RULE, head);
         if n < a {
             return Section { count: k, at: p };
         }

@@ -1,12 +1,17 @@
 use Rattle.text.specs.Numeral.{spelled}
 use Rattle.grammar.specs.Format.Reader.{result, remaining}
+use Rattle.lines.specs.Heads.{book-head}
 use Rattle.book.specs.Header.{header}
 use borrow.Author.Needs.{needs}
 use Rattle.book.proofs.header.header.Statement.{statement}
 use Rattle.book.proofs.header.header.Tie as tie
 
-opening-requires : tie.Need-opening-requires
-opening-requires c κs = search needs
+slice-aggregate-line-head : tie.Need-slice-aggregate-line-head
+slice-aggregate-line-head c = search needs
+
+line-head-requires : tie.Need-line-head-requires
+unfolding spelled
+line-head-requires c κs = (search needs, book-head)
 
 number-requires : tie.Need-number-requires
 number-requires c κs = search needs
@@ -34,7 +39,8 @@ pub header-spec : {M : Type 1} → statement M
 header-spec =
     tie.close
     (tie.spec
-    opening-requires
+    slice-aggregate-line-head
+    line-head-requires
     number-requires
     mark-requires
     number-requires-2

@@ -5,6 +5,7 @@ use Rattle.text.specs.Numeral.{wordOf, spelled}
 use Rattle.grammar.specs.Limits.{MAX-RULES}
 use Rattle.grammar.specs.Format.Reader.{opening}
 use Rattle.grammar.specs.Format.Parse.{ruleLine, ruleLines}
+use Rattle.lines.specs.Heads.{rule-head}
 use Rattle.book.specs.Layout.{ruleWords}
 use Rattle.book.specs.Sections.{Filling, filling-start, filling-turn, filling-less, filling-done}
 use Rattle.book.specs.Lines.{rule-shrinks}
@@ -13,26 +14,30 @@ use Rattle.book.proofs.rules.rule_lines.Statement.{statement}
 use Rattle.book.proofs.rules.rule_lines.Tie as tie
 
 abbrev Inv-loop : tie.InvT-loop
-Inv-loop t text at out₀ n p₀ k₀ out p k =
+Inv-loop t text at out₀ n head p₀ k₀ out p k =
     Filling (opening (wordOf "rule")) ruleLine (λ K r. suc K) ruleWords MAX-RULES
     text (ruleLines (rest text at)) out₀ k k p out
 
 abbrev μ-loop : tie.MeasureT-loop
-μ-loop t text at out₀ n p₀ k₀ out p k = size (rest text p)
+μ-loop t text at out₀ n head p₀ k₀ out p k = size (rest text p)
+
+slice-aggregate-head : tie.Need-slice-aggregate-head Inv-loop μ-loop
+slice-aggregate-head c = search needs
 
 loop-holds : tie.Need-loop-holds Inv-loop μ-loop
 unfolding ruleLines
 loop-holds c = filling-start _ _ _ _ _ (rule-shrinks _) _ _ _ _
 
-opening-requires : tie.Need-opening-requires Inv-loop μ-loop
-opening-requires c κs = search needs
+line-head-requires : tie.Need-line-head-requires Inv-loop μ-loop
+unfolding spelled
+line-head-requires c κs = (search needs, rule-head)
 
 same-length : tie.Need-same-length Inv-loop μ-loop
 same-length c = c .before .before .loop .inv .same-length
 
 returns : tie.Need-returns Inv-loop μ-loop
 unfolding spelled
-returns c = filling-done _ _ _ _ _ (rule-shrinks _) _ (c .before .before .loop .inv) (c .before .opening .ensures) (c .if1 .taken)
+returns c = filling-done _ _ _ _ _ (rule-shrinks _) _ (c .before .before .loop .inv) (c .before .line-head .ensures) (c .if1 .taken)
 
 rule-line-requires : tie.Need-rule-line-requires Inv-loop μ-loop
 rule-line-requires c κs = search needs
@@ -44,14 +49,14 @@ loop-less : tie.Need-loop-less Inv-loop μ-loop
 unfolding spelled
 loop-less c = let line = c .before .before in
     let head = line .before .before .before in
-    filling-less _ _ _ _ _ (rule-shrinks _) _ (head .before .loop .inv) (head .opening .ensures) (line .before .before .if1 .left)
+    filling-less _ _ _ _ _ (rule-shrinks _) _ (head .before .loop .inv) (head .line-head .ensures) (line .before .before .if1 .left)
     (line .rule-line .ensures .remaining-is)
 
 loop-again : tie.Need-loop-again Inv-loop μ-loop
 unfolding spelled
 loop-again c = let line = c .before .before in
     let head = line .before .before .before in
-    filling-turn _ _ _ _ _ (rule-shrinks _) _ (head .before .loop .inv) (head .opening .ensures) (line .before .before .if1 .left)
+    filling-turn _ _ _ _ _ (rule-shrinks _) _ (head .before .loop .inv) (head .line-head .ensures) (line .before .before .if1 .left)
     (line .rule-line .ensures) (add-one _)
 
 pub rule-lines-spec : {M : Type 1} → statement M
@@ -60,8 +65,9 @@ rule-lines-spec =
     (tie.spec
     Inv-loop
     μ-loop
+    slice-aggregate-head
     loop-holds
-    opening-requires
+    line-head-requires
     same-length
     returns
     rule-line-requires

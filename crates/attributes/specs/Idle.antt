@@ -1,12 +1,12 @@
 -- States at whose items no inherited attribute is defined: nothing is to be checked there. The places of the definitions stand in 608 words: word 9 * P + D
 -- is full if a definition is of the symbol behind the dot of the item (P, D), word 576 + A if one is of the first symbol of a rule of A. Assumes nothing.
-use Prim.Native.Nat.{ℕ, suc, _+_, _*_, _-_, _^_, _<_, _≤_}
+use Prim.Native.Nat.{ℕ, _+_, _*_, _-_, _^_, _<_, _≤_}
 use native.Mathlib.Omega.{arith}
 use native.Mathlib.Decide.{ℕ-discrete}
 use mathlib.Core.Path.{_≡_, refl, sym, ap, _∙_}
 use mathlib.Core.Logic.{inl, inr}
 use mathlib.Core.Bool.{Bool, true, false}
-use mathlib.Core.List.{List, _∷_, List·Memᴰ as Mem, List·Memᴰ·head as in-head, List·Memᴰ·tail as in-tail}
+use mathlib.Core.List.{List, List·Memᴰ as Mem}
 use lib.Bits.{bitAnd, bitOr, and-mask}
 use lib.ListN.{length, getD, set, take, replicate, length-set, length-replicate}
 use lib.Seq.{getD-set-same, getD-set-other, slice, length-slice, getD-take, getD-drop}

@@ -1,6 +1,6 @@
 -- Definitions that were read: where the text is not lost, the steps of every line are those of an expression, so the words that are stored are the words
 -- of the book's definitions. Assumes nothing.
-use Prim.Native.Nat.{ℕ, zero, suc, _<_}
+use Prim.Native.Nat.{ℕ, zero, suc}
 use mathlib.Core.Path.{_≡_, refl, sym, ap, _∙_}
 use mathlib.Core.Bool.{Bool, true, false}
 use mathlib.Core.List.{List, [], _∷_, map}

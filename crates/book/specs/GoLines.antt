@@ -1,7 +1,7 @@
 -- The lines of the section go: the key of a line, how much a line leaves, and that the code's steps, one after another, read and keep a whole line.
 -- Assumes nothing.
 use Prim.Native.Nat.{ℕ, _≤_}
-use mathlib.Core.Path.{_≡_, refl}
+use mathlib.Core.Path.{_≡_}
 use mathlib.Core.Bool.{Bool, true, false}
 use mathlib.Core.List.{List, [], _∷_}
 use Rattle.text.specs.Class.{space}

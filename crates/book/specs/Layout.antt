@@ -1,7 +1,7 @@
 -- How a book that was read lies in arrays: one array for each kind of line, a line at its place, in a fixed number of words.
 -- Lines past an array's room are counted and not kept. Assumes nothing.
 use Prim.Native.Nat.{ℕ, zero, suc, _+_, _*_}
-use mathlib.Core.Bool.{Bool, true, false}
+use mathlib.Core.Bool.{true, false}
 use mathlib.Core.List.{List, [], _∷_}
 use lib.Dec.{ltb}
 use lib.ListN.{length, set, getD}

@@ -11,12 +11,12 @@ use native.Mathlib.Nat.{eq-or-lt-of-le}
 use lib.Dec.{eqb, ltb}
 use lib.ListN.{length, drop-of-length-le, length-map}
 use borrow.Author.Tests.{eqb-true, eqb-false, ltb-true, ltb-false}
-use Rattle.text.specs.Rest.{Rest, lost, left, rest, found, size}
+use Rattle.text.specs.Rest.{Rest, lost, left, rest, size}
 use Rattle.text.specs.RestLaws.{rest-in, rest-at, rest-out}
 use Rattle.text.specs.Numeral.{wordOf}
 use Rattle.grammar.specs.Limits.{MAX-INHERITED, MAX-SYNTHESIZED, MAX-RULES, MAX-DEFINITIONS, MAX-KERNELS, MAX-GOES}
 use Rattle.grammar.specs.Data.Book.{Book as Lines}
-use Rattle.grammar.specs.Format.Reader.{Parsed, parsed, result, remaining}
+use Rattle.grammar.specs.Format.Reader.{parsed, result, remaining}
 use Rattle.grammar.specs.Format.ReaderLaws.{shrinking}
 use Rattle.grammar.specs.Format.Parse.{ownerLines, ruleLines, kernelLines, goLines, endLine, bookText, ended, parseBook}
 use Rattle.book.specs.declared.Book.{Book}

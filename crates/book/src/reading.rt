@@ -5,7 +5,6 @@ ghost use Rattle.text.specs.Reading.{Lent};
 ghost use Rattle.grammar.specs.Limits.{MAX-INHERITED, MAX-SYNTHESIZED, MAX-RULES};
 ghost use Rattle.book.specs.Lines.{RULE-WORDS};
 ghost use Rattle.book.specs.Expressions.{MAX-WAITING};
-ghost use Rattle.book.specs.Header.{Numbers};
 ghost use Rattle.book.specs.Parts.{Declares};
 ghost use Rattle.book.specs.Spelling.{arrays, Roomy, Spelling};
 use super::Book;

@@ -1,6 +1,6 @@
 -- What follows of a text that was read: the book, or that there is none; and that numbers and arrays are the book's, as conditions 3 to 6 ask it.
 -- Assumes nothing.
-use mathlib.Core.Path.{_≡_, refl, sym, ap, _∙_}
+use mathlib.Core.Path.{_≡_, refl, sym, _∙_}
 use mathlib.Core.Bool.{Bool, true, false, false≢true}
 use mathlib.Core.List.{List}
 use mathlib.Core.Option.{Option, none, some}

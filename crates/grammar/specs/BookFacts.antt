@@ -1,17 +1,17 @@
 -- What the laws of states and sets take of a book, from its order (2), limits (3) and declared names (4).
 -- Assumes nothing.
-use Prim.Native.Nat.{ℕ, zero, suc, _<_, _≤_}
+use Prim.Native.Nat.{ℕ, _<_}
 use native.Mathlib.Omega.{arith}
 use mathlib.Core.Path.{_≡_, refl}
 use mathlib.Core.List.{List, [], _∷_, List·Memᴰ as Mem, List·Memᴰ·head as in-head, List·Memᴰ·tail as in-tail, List·Memᴰ·not-nil}
 use lib.ListN.{length}
-use Rattle.grammar.specs.Data.Symbol.{Symbol, terminal, nonterminal, Rule, leftOf, rightOf}
+use Rattle.grammar.specs.Data.Symbol.{Symbol, terminal, nonterminal, rightOf}
 use Rattle.grammar.specs.Data.Book.{Book, Kernel, Go}
-use Rattle.grammar.specs.Format.Ordered.{Ascends, ascends-[], ascends-∷, Every, every-[], every-∷, Lookaheads, Ordered, kernelKey, goKey, symbolKey}
+use Rattle.grammar.specs.Format.Ordered.{Ascends, ascends-[], ascends-∷, Every, every-[], every-∷, Ordered, kernelKey, goKey}
 use Rattle.grammar.specs.Format.OrderLaws.{before-differs, ascends-above}
 use Rattle.grammar.specs.Conditions.Meaning.{WithinLimits, Declared, RightSymbol}
 use Rattle.grammar.specs.Conditions.MeaningLaws.{symbols-declared, left-declared}
-use Rattle.grammar.specs.Automaton.Small.{numberOf, Low, low-all, SmallBook}
+use Rattle.grammar.specs.Automaton.Small.{numberOf, low-all, SmallBook}
 use Rattle.grammar.specs.Automaton.WellNamed.{Distinct, none, next, SameItem, SameGo, WellNamed}
 
 -- strict ascent leaves no two lines of one key

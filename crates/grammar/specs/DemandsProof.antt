@@ -1,29 +1,27 @@
 -- The three demands hold of the two calls.
 -- Assumes nothing.
-use Prim.Native.Nat.{ℕ, zero, suc, _≤_, _<_}
+use Prim.Native.Nat.{ℕ, zero, suc, _≤_}
 use native.Mathlib.Omega.{arith}
-use mathlib.Core.Path.{_≡_, refl, sym, ap, _∙_}
-use mathlib.Core.Logic.{_≢_}
-use mathlib.Core.Bool.{Bool, true, false, _&&_}
+use mathlib.Core.Path.{_≡_, refl, ap, _∙_}
+use mathlib.Core.Bool.{_&&_}
 use mathlib.Core.Option.{Option, none, some}
 use mathlib.Core.List.{List, [], _∷_}
 use lib.Dec.{leb, eqb}
-use lib.ListN.{length, replicate}
+use lib.ListN.{length}
 use Rattle.grammar.specs.Limits.{MAX-TEXT, BOOK-WORDS, PAGE-WORDS, MAX-TOKENS}
 use Rattle.grammar.specs.Data.Book.{Book}
 use Rattle.grammar.specs.Conditions.Decides.{Decides, by-decided, equivalent, and-decides, then-decides, le-decides, eq-decides, true-decides, OneTo, oneTo-decides}
-use Rattle.grammar.specs.Evaluator.Tree.{Token, Tree, TokenOf, TokensOf, no-tokens, and-tokens}
+use Rattle.grammar.specs.Evaluator.Tree.{Token, TokenOf, TokensOf, no-tokens, and-tokens}
 use Rattle.grammar.specs.Evaluator.Rows.{Row, page}
-use Rattle.grammar.specs.Format.Packing.{pack}
-use Rattle.grammar.specs.Refusal.{Taken, Verdict, taken, refusal}
+use Rattle.grammar.specs.Refusal.{Verdict, taken, refusal}
 use Rattle.grammar.specs.RefusalLaws.{refusal-verdict, verdict-refusal}
 use Rattle.grammar.specs.Evaluator.Machine.{Tables, Answer, refused, accepted, evaluate}
 use Rattle.grammar.specs.Evaluator.RunRefusals.{refused-late}
-use Rattle.grammar.specs.Evaluator.Demand.{TreeOf, SmallTree, Valued, Demand3}
+use Rattle.grammar.specs.Evaluator.Demand.{Demand3}
 use Rattle.grammar.specs.Evaluator.DemandProof.{demand-3}
 use Rattle.grammar.specs.Evaluator.TakenPremises.{premises}
 use Rattle.grammar.specs.StoredLaws.{refusal-taken, stored-found, found-stored}
-use Rattle.grammar.specs.Engine.{Reading, readingOf, readBook, tablesOf, storedBook, tokensOf, kindsIn, Evaluation, turnedBack, evaluationOf}
+use Rattle.grammar.specs.Engine.{readingOf, readBook, tablesOf, storedBook, tokensOf, kindsIn, turnedBack, evaluationOf}
 use Rattle.grammar.specs.Engine.{evaluateTokens, evaluateBook, evaluateWords}
 use Rattle.grammar.specs.Demands.{Taken-right, Refusal-right, Lengths, Reads, wrong-lengths, takes, refuses, Reading-right, Stored, bookOf, numbersOf, TokenList}
 use Rattle.grammar.specs.Demands.{Evaluates, no-book, wrong-rows, wrong-tokens, wrong-kinds, runs, Evaluating-right, Tables-right, Figures, Figures-right}

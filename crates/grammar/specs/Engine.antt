@@ -10,7 +10,7 @@ use Rattle.grammar.specs.Limits.{MAX-TEXT, BOOK-WORDS, PAGE-WORDS, MAX-T
 use Rattle.grammar.specs.Data.Book.{Book}
 use Rattle.grammar.specs.Automaton.States.{goIn}
 use Rattle.grammar.specs.Evaluator.Tree.{Token}
-use Rattle.grammar.specs.Evaluator.Rows.{Row, page}
+use Rattle.grammar.specs.Evaluator.Rows.{page}
 use Rattle.grammar.specs.Evaluator.Machine.{Tables, Answer, refused, accepted, evaluate}
 use Rattle.grammar.specs.Automaton.Fixpoint.{sameSets}
 use Rattle.grammar.specs.Automaton.Actions.{free, actionOf}

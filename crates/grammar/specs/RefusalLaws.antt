@@ -1,19 +1,16 @@
 -- Demand 2: a text is refused by the first number of 2 to 10 that applies, and taken exactly if none does.
 -- Assumes nothing.
-use Prim.Native.Nat.{ℕ, zero, suc}
-use native.Mathlib.Omega.{arith}
-use mathlib.Core.Path.{_≡_, refl, sym, ap, _∙_, subst}
-use mathlib.Core.Bool.{Bool, true, false}
+use Prim.Native.Nat.{ℕ}
+use mathlib.Core.Path.{_≡_, refl, _∙_}
 use mathlib.Core.Option.{Option, none, some}
 use mathlib.Core.List.{List}
 use Rattle.grammar.specs.Data.Book.{Book}
 use Rattle.grammar.specs.Format.Print.{printBook}
-use Rattle.grammar.specs.Format.Ordered.{Spelled, SpelledText}
+use Rattle.grammar.specs.Format.Ordered.{Spelled}
 use Rattle.grammar.specs.Format.Parse.{parseBook}
 use Rattle.grammar.specs.Format.ParseLaws.{parse-print, print-parse, parsed-spelled, none-misspelt}
 use Rattle.grammar.specs.Conditions.Decides.{Decides, by-decided, false-of}
 use Rattle.grammar.specs.Conditions.Meaning.{WithinLimits, Declared, Owned, Defined}
-use Rattle.grammar.specs.Conditions.Tests.{withinLimits, declared, owned, defined}
 use Rattle.grammar.specs.Conditions.TestsLaws.{withinLimits-decides, declared-decides, owned-decides, defined-decides}
 use Rattle.grammar.specs.Automaton.States.{KernelRules, GoRules, NoConflict}
 use Rattle.grammar.specs.Formulas.Formula.{LR-attributed}
@@ -30,7 +27,7 @@ use Rattle.grammar.specs.Automaton.GoRulesLaws.{goTable-decides}
 use Rattle.grammar.specs.Automaton.ActionsLaws.{noConflict-decides}
 use Rattle.grammar.specs.Formulas.FormulaPremises.{formula-premises}
 use Rattle.grammar.specs.Formulas.OneFormulaLaws.{oneFormula-decides}
-use Rattle.grammar.specs.Refusal.{Sound, Taken, Breaks, breaks-limits, breaks-names, breaks-attributes, breaks-definitions}
+use Rattle.grammar.specs.Refusal.{Sound, Breaks, breaks-limits, breaks-names, breaks-attributes, breaks-definitions}
 use Rattle.grammar.specs.Refusal.{breaks-kernel-rules, breaks-go-rules, breaks-no-conflict, breaks-one-formula}
 use Rattle.grammar.specs.Refusal.{Verdict, taken, misspelt, broken, bookRefusal, refusal}
 

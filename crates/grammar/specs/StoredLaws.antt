@@ -1,17 +1,16 @@
 -- Which words are the filling of a taken book: `storedBook` finds it, and finds nothing else.
 -- Assumes nothing.
-use Prim.Native.Nat.{ℕ, zero, suc, _+_, _*_, _/_, _%_, _<_, _≤_}
+use Prim.Native.Nat.{ℕ, zero, suc, _*_, _/_, _%_, _≤_}
 use native.Mathlib.Omega.{arith}
 use mathlib.Core.Path.{_≡_, refl, sym, ap, _∙_}
-use mathlib.Core.Bool.{Bool, true, false, _&&_}
+use mathlib.Core.Bool.{Bool, true, false}
 use mathlib.Core.Option.{Option, none, some}
 use mathlib.Core.List.{List, [], _∷_}
 use lib.Dec.{eqb}
 use lib.ListN.{length}
 use borrow.Author.Tests.{eqb-true, eq-eqb}
-use Rattle.grammar.specs.Limits.{MAX-TEXT, BOOK-WORDS}
+use Rattle.grammar.specs.Limits.{BOOK-WORDS}
 use Rattle.grammar.specs.Data.Book.{Book}
-use Rattle.grammar.specs.Format.Print.{printBook}
 use Rattle.grammar.specs.Format.PrintLaws.{Printable, line-end, byte, print-printable}
 use Rattle.grammar.specs.Format.Parse.{parseBook}
 use Rattle.grammar.specs.Format.ParseLaws.{parse-print}

@@ -1,6 +1,6 @@
 -- What arrays hold of a book's states, word by word: the sets of every rest of a rule, the kernel lines of each state, the closures, the go lines by
 -- state and symbol, the actions by state and terminal. Functions over the arrays ask these records. Assumes nothing.
-use Prim.Native.Nat.{ℕ, zero, suc, _+_, _*_, _-_, _<_, _≤_}
+use Prim.Native.Nat.{ℕ, _+_, _*_, _-_, _<_, _≤_}
 use mathlib.Core.Path.{_≡_}
 use mathlib.Core.Bool.{Bool, true, false}
 use mathlib.Core.Option.{Option, none, some}
@@ -9,7 +9,7 @@ use lib.ListN.{length, getD, take, drop}
 use Rattle.grammar.specs.Limits.{MAX-RULES, MAX-STATES}
 use Rattle.grammar.specs.Data.Symbol.{Symbol, Rule, rightOf, after}
 use Rattle.grammar.specs.Data.Book.{Book, Kernel}
-use Rattle.grammar.specs.Automaton.States.{Action, shift, accept, reduce, goIn}
+use Rattle.grammar.specs.Automaton.States.{shift, accept, reduce, goIn}
 use Rattle.grammar.specs.Automaton.Fixpoint.{setAt}
 use Rattle.grammar.specs.Automaton.FirstSets.{Sets, null, first}
 use Rattle.grammar.specs.Automaton.ReachSets.{reachIn}

@@ -1,14 +1,13 @@
 -- The answer of a run is the evaluation of the message (`evaluationOf` of the grammar's `Engine`): on a refusal the caller clears the rows.
 -- Assumes nothing.
 use Prim.Native.Nat.{ℕ, _≤_}
-use mathlib.Core.Path.{_≡_, refl, sym, ap, _∙_}
+use mathlib.Core.Path.{_≡_, refl}
 use mathlib.Core.Logic.{_≢_}
 use mathlib.Core.List.{List}
 use native.Mathlib.Omega.{arith}
-use lib.ListN.{length, replicate}
+use lib.ListN.{replicate}
 use Rattle.grammar.specs.Data.Book.{Book}
 use Rattle.grammar.specs.Evaluator.Tree.{Token}
-use Rattle.grammar.specs.Evaluator.Rows.{page}
 use Rattle.grammar.specs.Evaluator.Machine.{Answer, refused, accepted, evaluate}
 use Rattle.grammar.specs.Evaluator.RunRefusals.{refused-late}
 use Rattle.grammar.specs.Engine.{Evaluation, turnedBack, evaluationOf, tablesOf}

@@ -1,22 +1,21 @@
 -- The answers with which a run stops: none is due (15), accepted, no row is left (16), no symbol is left (17). Assumes that the book is taken.
-use Prim.Native.Nat.{ℕ, _+_, _*_, _≤_, _<_}
-use mathlib.Core.Path.{_≡_, refl, ap, _∙_}
+use Prim.Native.Nat.{ℕ, _≤_, _<_}
+use mathlib.Core.Path.{_≡_, refl, ap}
 use mathlib.Core.Logic.{_≢_}
-use mathlib.Core.Option.{Option, none, some}
+use mathlib.Core.Option.{none, some}
 use mathlib.Core.List.{List, [], _∷_}
 use native.Mathlib.Omega.{arith}
-use lib.ListN.{length, getD}
-use Rattle.grammar.specs.Limits.{MAX-ROWS, MAX-STACK}
+use lib.ListN.{length}
 use Rattle.grammar.specs.Data.Symbol.{Symbol, rightOf}
 use Rattle.grammar.specs.Data.Book.{Book}
 use Rattle.grammar.specs.Automaton.States.{shift, accept, reduce}
-use Rattle.grammar.specs.Evaluator.Tree.{Token, next}
-use Rattle.grammar.specs.Evaluator.Machine.{Config, config, refused, accepted, more, stop, perform, step}
+use Rattle.grammar.specs.Evaluator.Tree.{Token}
+use Rattle.grammar.specs.Evaluator.Machine.{Config, config, refused, accepted, stop, perform, step}
 use Rattle.grammar.specs.Evaluator.Moves.{shift-16, shift-17, reduce-16, reduce-17}
 use Rattle.grammar.specs.Engine.{tablesOf}
 use Rattle.stack.specs.declared.top.Top.{Top}
 use Rattle.stack.specs.Goes.{shift-goes}
-use Rattle.stack.specs.Standing.{BookIn, Standing, ConfigIn, stands, rowsOf, actionOf}
+use Rattle.stack.specs.Standing.{BookIn, ConfigIn, stands, rowsOf, actionOf}
 
 module _ (b : Book) where
   pub none-refused : (c : Config) → actionOf b c ≡ none → step b (tablesOf b) c ≡ stop (refused 15)

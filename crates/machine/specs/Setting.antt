@@ -1,7 +1,7 @@
 -- The top cell is set by the plan of the partial state: the plan's lines may be asked for, since the frames are a path of the states, and the cell is the
 -- machine's. Assumes that the book is taken.
-use Prim.Native.Nat.{ℕ, _+_, _*_, _≤_, _<_}
-use mathlib.Core.Path.{_≡_, refl, sym, ap, _∙_}
+use Prim.Native.Nat.{ℕ, _*_, _≤_, _<_}
+use mathlib.Core.Path.{_≡_, sym, _∙_}
 use mathlib.Core.Bool.{Bool}
 use mathlib.Core.List.{List}
 use native.Mathlib.Omega.{arith}
@@ -17,7 +17,7 @@ use Rattle.grammar.specs.Formulas.FormulaCheck.{dotOf, lineAt, listed}
 use Rattle.grammar.specs.Formulas.FormulaCheckLaws.{Tells}
 use Rattle.grammar.specs.Formulas.FormulaCheckAll.{listed-tells}
 use Rattle.grammar.specs.Evaluator.Tree.{Token, next}
-use Rattle.grammar.specs.Evaluator.Machine.{Frame, Config, config, cell}
+use Rattle.grammar.specs.Evaluator.Machine.{Frame, Config}
 use Rattle.grammar.specs.Evaluator.TakenPremises.{premises}
 use Rattle.grammar.specs.Refusal.{Sound}
 use Rattle.grammar.specs.Engine.{tablesOf}
@@ -25,8 +25,7 @@ use Rattle.book.specs.Held.{DefinitionsIn}
 use Rattle.plans.specs.PlanningLaws.{plan-short, plan-line}
 use Rattle.plans.specs.PlanRows.{PlanRow}
 use Rattle.plans.specs.Plans.{planOf, PlansIn}
-use Rattle.cells.specs.Frames.{cellValue, FramesIn}
-use Rattle.cells.specs.Leaves.{Room}
+use Rattle.cells.specs.Frames.{FramesIn}
 use Rattle.cells.specs.Cells.{cleared, linesSet, LineAsked, PlanAsked}
 use Rattle.cells.specs.CellFrames.{CellSet, cell-set}
 use Rattle.cells.specs.TakenCells.{line-asked, cell-taken}

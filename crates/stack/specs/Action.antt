@@ -23,7 +23,6 @@ use Rattle.grammar.specs.Evaluator.TakenPremises.{premises}
 use Rattle.grammar.specs.Refusal.{Sound}
 use Rattle.grammar.specs.Engine.{tablesFrom, tablesOf}
 use Rattle.items.specs.Arrays.{cellCode, ActionsIn}
-use Rattle.stack.specs.declared.action.Move.{Move}
 use Rattle.stack.specs.declared.action.Move.the-variants.{Shift, Reduce, Accept}
 use Rattle.stack.specs.declared.action.Action.{Action}
 use Rattle.stack.specs.declared.action.Action.the-variants.{Due, None}

@@ -1,18 +1,18 @@
 -- "follow go": a taken book has the line that a shift or a reduce follows, and the go table has its target. Assumes that the book is taken.
 use Prim.Native.Nat.{ℕ, zero, suc, _+_, _*_, _≤_, _<_}
-use mathlib.Core.Path.{_≡_, refl, ap, _∙_}
+use mathlib.Core.Path.{_≡_, ap, _∙_}
 use mathlib.Core.Option.{some}
-use mathlib.Core.List.{List, [], _∷_, List·Memᴰ as Mem}
+use mathlib.Core.List.{List, [], _∷_}
 use native.Mathlib.Omega.{arith}
 use lib.ListN.{length, getD}
-use Rattle.grammar.specs.Data.Symbol.{Symbol, terminal, nonterminal, leftOf, rightOf, ruleAt, after}
+use Rattle.grammar.specs.Data.Symbol.{Symbol, terminal, nonterminal, leftOf, rightOf, ruleAt}
 use Rattle.grammar.specs.Data.ListLaws.{drop-member, at-member}
 use Rattle.grammar.specs.Data.Book.{Book}
 use Rattle.grammar.specs.Format.Ordered.{Spelled}
 use Rattle.grammar.specs.Conditions.Meaning.{GoSymbol}
 use Rattle.grammar.specs.Automaton.Items.{derives, Closure, kernel, close}
 use Rattle.grammar.specs.Automaton.KernelItems.{start-dot}
-use Rattle.grammar.specs.Automaton.States.{shift, reduce, goIn, Acts, shifts}
+use Rattle.grammar.specs.Automaton.States.{shift, reduce, Acts, shifts}
 use Rattle.grammar.specs.Evaluator.Decorated.{Values, Result}
 use Rattle.grammar.specs.Evaluator.Machine.{Frame, Popped, popped, pop}
 use Rattle.grammar.specs.Evaluator.PremisesLaws.{dotted, start-only, go-there, go-back}
@@ -21,7 +21,6 @@ use Rattle.grammar.specs.Refusal.{Sound}
 use Rattle.grammar.specs.Engine.{tablesFrom, tablesOf}
 use Rattle.book.specs.Layout.{symbolCode}
 use Rattle.items.specs.Arrays.{targetCode, GoTableIn}
-use Rattle.items.specs.SymbolCodes.{terminal-code, nonterminal-code}
 use Rattle.stack.specs.Action.{item-rule, Reduced, reduced}
 use Rattle.stack.specs.Path.{Path, bottom, above}
 

@@ -1,12 +1,12 @@
 -- Rows in the lent words: the page of some rows (`page` of `Evaluator/Rows` of the grammar), and the page of one row more, whose words go into ten of the
 -- zeros behind the last. Assumes nothing.
-use Prim.Native.Nat.{ℕ, zero, suc, _+_, _*_, _-_, _≤_, _<_}
+use Prim.Native.Nat.{ℕ, suc, _+_, _*_, _-_, _≤_, _<_}
 use mathlib.Core.Path.{_≡_, refl, sym, ap, _∙_}
 use mathlib.Core.List.{List, [], _∷_, _++_, append-assoc, append-nil}
 use native.Mathlib.Omega.{arith}
 use lib.ListN.{length, set, replicate, length-append, length-set, replicate-append-replicate}
 use lib.Seq.{set-at}
-use Rattle.grammar.specs.Limits.{MAX-ROWS, MAX-RULES, ROW-WORDS, PAGE-WORDS}
+use Rattle.grammar.specs.Limits.{MAX-ROWS, ROW-WORDS, PAGE-WORDS}
 use Rattle.grammar.specs.Evaluator.Rows.{Row, token-row, node-row, four, words, filled, page}
 use Rattle.grammar.specs.Evaluator.RowsLaws.{filled-length}
 use Rattle.book.specs.Layout.{writeAt}

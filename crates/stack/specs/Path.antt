@@ -2,7 +2,7 @@
 -- every state on the way is a state of the book. Assumes the premises of demand 3.
 use Prim.Native.Nat.{ℕ, zero, suc, _<_, _≤_}
 use native.Mathlib.Omega.{arith}
-use mathlib.Core.Path.{_≡_, refl, sym, _∙_}
+use mathlib.Core.Path.{_≡_, sym, _∙_}
 use mathlib.Core.Option.{Option, none, some}
 use mathlib.Core.List.{List, [], _∷_}
 use lib.ListN.{length}
@@ -15,7 +15,7 @@ use Rattle.grammar.specs.Automaton.GoLines.{LineTo, go-line}
 use Rattle.grammar.specs.Evaluator.Tree.{Token, next}
 use Rattle.grammar.specs.Evaluator.Decorated.{Values, Result}
 use Rattle.grammar.specs.Evaluator.Rows.{Row}
-use Rattle.grammar.specs.Evaluator.Machine.{Tables, Frame, frame, Config, config, more, stop, cell, Popped, popped, pop, shiftToken, pushLeft, perform, step}
+use Rattle.grammar.specs.Evaluator.Machine.{Tables, Frame, frame, Config, config, more, cell, Popped, popped, pop, shiftToken, pushLeft, perform, step}
 use Rattle.grammar.specs.Evaluator.Moves.{row-more, symbol-more, rule-more, arrive-more}
 use Rattle.grammar.specs.Evaluator.Premises.{Premises}
 use Rattle.grammar.specs.Evaluator.PremisesLaws.{dotted, start-only, go-back}

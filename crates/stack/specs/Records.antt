@@ -1,13 +1,13 @@
 -- A record of 33 words that is put on the synthesized stack: a token's, or that of a rule's left side. Assumes nothing.
-use Prim.Native.Nat.{ℕ, suc, _+_, _*_, _≤_, _<_}
+use Prim.Native.Nat.{ℕ, _+_, _*_, _≤_, _<_}
 use mathlib.Core.Path.{_≡_, refl, sym, ap, _∙_}
 use mathlib.Core.List.{List}
 use native.Mathlib.Omega.{arith}
-use native.Mathlib.Decide.{ℕ-discrete, decLt}
+use native.Mathlib.Decide.{decLt}
 use lib.ListN.{length, getD, set, replicate, length-set, getD-replicate}
 use lib.Seq.{getD-set-same, getD-set-other}
 use borrow.Author.Count.{below-more}
-use Rattle.grammar.specs.Evaluator.Decorated.{Values, Result, token, values, synthesizedOf, tokenValueOf}
+use Rattle.grammar.specs.Evaluator.Decorated.{Values, token, values, synthesizedOf, tokenValueOf}
 use Rattle.cells.specs.Frames.{recordValue, ResultIn}
 use Rattle.cells.specs.FramesLaws.{record-word, record-past, Agree}
 

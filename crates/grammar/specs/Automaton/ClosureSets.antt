@@ -1,12 +1,12 @@
 -- The closure of a state as one set of lookaheads for each nonterminal: all rules of a nonterminal share it.
 -- Assumes nothing.
 use Prim.Native.Nat.{ℕ, zero, suc}
-use mathlib.Core.Bool.{Bool, true, false}
+use mathlib.Core.Bool.{true, false}
 use mathlib.Core.List.{List, [], _∷_}
 use lib.Dec.{eqb}
 use lib.ListN.{length, replicate}
-use Rattle.sets.specs.Sets.{bit, single, union, with}
-use Rattle.grammar.specs.Data.Symbol.{Symbol, terminal, nonterminal, Rule, leftOf, rightOf, after}
+use Rattle.sets.specs.Sets.{with}
+use Rattle.grammar.specs.Data.Symbol.{Symbol, terminal, nonterminal, leftOf, rightOf, after}
 use Rattle.grammar.specs.Data.Book.{Book, Kernel}
 use Rattle.grammar.specs.Automaton.Fixpoint.{Constraint, idle, setAt, visit, least}
 use Rattle.grammar.specs.Automaton.FirstSets.{Sets, firstWith}

@@ -1,18 +1,16 @@
 -- A book's states, worked out once: the items of each state, its actions, the formulas of its partial states; and 7 to 10 as tests over them.
 -- Assumes nothing.
 use Prim.Native.Nat.{ℕ, zero, suc}
-use mathlib.Core.Bool.{Bool, true, false, _&&_}
-use mathlib.Core.Option.{Option, none, some}
+use mathlib.Core.Bool.{Bool, true, false}
+use mathlib.Core.Option.{Option}
 use mathlib.Core.List.{List, [], _∷_}
-use lib.ListN.{length, getD}
-use Rattle.grammar.specs.Data.Symbol.{Symbol, Rule}
+use lib.ListN.{getD}
 use Rattle.grammar.specs.Data.Book.{Book}
 use Rattle.grammar.specs.Formulas.Formula.{Formula}
-use Rattle.grammar.specs.Automaton.States.{Action}
 use Rattle.grammar.specs.Automaton.FirstSets.{Sets, setsOf}
 use Rattle.grammar.specs.Automaton.ReachSets.{reachSets}
 use Rattle.grammar.specs.Automaton.CoreItems.{Core, coreItems}
-use Rattle.grammar.specs.Automaton.Actions.{Cell, free, cellsFrom, noConflictIn, actionOf}
+use Rattle.grammar.specs.Automaton.Actions.{Cell, cellsFrom, noConflictIn}
 use Rattle.grammar.specs.Formulas.Slots.{Slots, slotAt, partialOf, slotsOf, agrees}
 use Rattle.grammar.specs.Automaton.StatesCheck.{kernelRules, goRules}
 

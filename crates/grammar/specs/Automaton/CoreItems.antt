@@ -3,7 +3,7 @@
 use Prim.Native.Nat.{ℕ, zero, suc}
 use mathlib.Core.List.{List, [], _∷_, _++_}
 use lib.ListN.{length}
-use Rattle.grammar.specs.Data.Symbol.{Symbol, Rule, leftOf, rightOf, after}
+use Rattle.grammar.specs.Data.Symbol.{Symbol, Rule, leftOf, after}
 use Rattle.grammar.specs.Data.Book.{Book, Kernel}
 use Rattle.grammar.specs.Automaton.Fixpoint.{setAt}
 use Rattle.grammar.specs.Automaton.FirstSets.{Sets}

@@ -1,6 +1,6 @@
 -- Nullable and FIRST as sets: which nonterminals derive the empty string, and for each the terminals that can begin what it derives.
 -- Assumes nothing.
-use Prim.Native.Nat.{ℕ, zero, suc}
+use Prim.Native.Nat.{ℕ}
 use mathlib.Core.Bool.{Bool, true, false}
 use mathlib.Core.List.{List, [], _∷_}
 use lib.ListN.{length, replicate}

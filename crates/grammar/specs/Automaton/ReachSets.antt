@@ -1,11 +1,11 @@
 -- Which terminals items reach, as sets. As FIRST, but a nonterminal counts only if something can follow it: where FIRST of the rest behind it is
 -- empty it directly derives no item, so that nothing is reached through it. Assumes nothing.
-use Prim.Native.Nat.{ℕ, zero, suc}
+use Prim.Native.Nat.{ℕ}
 use mathlib.Core.Bool.{Bool, true, false}
 use mathlib.Core.List.{List, [], _∷_}
 use lib.Dec.{eqb}
 use lib.ListN.{length, replicate}
-use Rattle.sets.specs.Sets.{bit, single, union}
+use Rattle.sets.specs.Sets.{single, union}
 use Rattle.grammar.specs.Data.Symbol.{Symbol, terminal, nonterminal, Rule, leftOf, rightOf}
 use Rattle.grammar.specs.Automaton.Fixpoint.{Constraint, setAt, least}
 use Rattle.grammar.specs.Automaton.FirstSets.{Sets, null, first}

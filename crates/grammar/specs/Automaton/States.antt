@@ -1,6 +1,6 @@
 -- What 01 asks of a book's states ("Items and transitions"): the kernel rules (7), the go rules (8), no conflict (9).
 -- Assumes nothing.
-use Prim.Native.Nat.{ℕ, zero, suc, _≤_, _<_}
+use Prim.Native.Nat.{ℕ, suc, _≤_, _<_}
 use native.Mathlib.Decide.{ℕ-discrete}
 use mathlib.Core.Path.{_≡_}
 use mathlib.Core.Logic.{_≢_}
@@ -9,7 +9,7 @@ use mathlib.Core.Option.{Option, none, some}
 use mathlib.Core.List.{List, [], _∷_, List·Memᴰ as Mem}
 use lib.Dec.{eqb}
 use lib.ListN.{length}
-use Rattle.grammar.specs.Data.Symbol.{Symbol, Symbol-discrete, terminal, Rule, rightOf, symbolAt, after}
+use Rattle.grammar.specs.Data.Symbol.{Symbol, Symbol-discrete, terminal, rightOf, symbolAt, after}
 use Rattle.grammar.specs.Data.Book.{Book, Kernel, Go}
 use Rattle.grammar.specs.Automaton.Items.{KernelItem, Closure}
 

@@ -8,11 +8,10 @@ use mathlib.Core.List.{List, [], _∷_, _++_}
 use lib.Dec.{eqb, leb}
 use lib.ListN.{length}
 use Rattle.grammar.specs.Limits.{MAX-TEXT, BOOK-WORDS, PAGE-WORDS}
-use Rattle.grammar.specs.Data.Book.{Book}
 use Rattle.grammar.specs.Format.Parse.{parseBook}
 use Rattle.grammar.specs.Refusal.{bookRefusal}
 use Rattle.grammar.specs.Automaton.Fixpoint.{sameSets}
-use Rattle.grammar.specs.Evaluator.Rows.{Row, token-row, node-row, page}
+use Rattle.grammar.specs.Evaluator.Rows.{Row, token-row, node-row}
 use Rattle.grammar.specs.Engine.{Reading, readBook, Evaluation, turnedBack, evaluateBook, evaluateWords, evaluationOf}
 use Rattle.grammar.specs.Evaluator.Machine.{accepted}
 use Rattle.grammar.specs.Cases.CaseBooks.{unlines, change, without, S, left-recursive, binary, two-lookaheads, two-offsets, set-once, dead-end}

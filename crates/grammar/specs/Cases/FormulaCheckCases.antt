@@ -7,7 +7,7 @@ use mathlib.Core.Bool.{Bool, true, false}
 use mathlib.Core.Option.{Option, none, some}
 use mathlib.Core.List.{List, [], _∷_}
 use Rattle.grammar.specs.Data.Book.{Book}
-use Rattle.grammar.specs.Evaluator.Decorated.{Values, noValues, token}
+use Rattle.grammar.specs.Evaluator.Decorated.{noValues, token}
 use Rattle.grammar.specs.Evaluator.Machine.{Frame, frame}
 use Rattle.grammar.specs.Evaluator.Chains.{stackValue}
 use Rattle.grammar.specs.Automaton.FirstSets.{Sets, setsOf}

@@ -1,10 +1,10 @@
 -- A message book as data (01, "Spelling of a book"): one field for each kind of line, each a list in the text's order, so that the numbers K that
 -- run 0, 1, 2, .. are the places in the lists. Assumes nothing.
 use Prim.Native.Nat.{ℕ}
-use mathlib.Core.Bool.{Bool, true, false, _&&_}
+use mathlib.Core.Bool.{true, false, _&&_}
 use mathlib.Core.List.{List, [], _∷_}
 use lib.Dec.{eqb}
-use lib.ListN.{length, getD}
+use lib.ListN.{getD}
 use Rattle.grammar.specs.Data.Symbol.{Symbol, Rule}
 use Rattle.grammar.specs.Data.Term.{Term, number}
 

@@ -2,7 +2,7 @@
 -- Assumes nothing.
 use Prim.Native.Nat.{ℕ, _-_}
 use mathlib.Core.List.{List, [], _∷_}
-use lib.ListN.{length, getD, drop}
+use lib.ListN.{getD, drop}
 
 -- "terminal tK, nonterminal nK"; t0 is the end mark, n0 the added start
 pub data Symbol : Type 0 where

@@ -1,7 +1,6 @@
 -- Expressions over leaves of any kind: a rule's definitions have places of the rule for leaves, formulas have places of the stacks.
 -- Assumes nothing.
 use Prim.Native.Nat.{ℕ, zero, suc, _+_, _-_, _%_, min as smaller, max as larger}
-use mathlib.Core.Path.{_≡_, refl}
 
 pub data Operator : Type 0 where
   add sub min max : Operator

@@ -1,17 +1,16 @@
 -- A run is refused with 15, 16 or 17 alone.
 -- Assumes nothing.
-use Prim.Native.Nat.{ℕ, _≤_, _<_}
+use Prim.Native.Nat.{ℕ, _≤_}
 use native.Mathlib.Omega.{arith}
-use mathlib.Core.Path.{_≡_, refl}
+use mathlib.Core.Path.{_≡_}
 use mathlib.Core.Option.{Option, none, some}
 use mathlib.Core.List.{List, [], _∷_}
-use lib.ListN.{length}
 use Rattle.grammar.specs.Data.Symbol.{Symbol, rightOf}
 use Rattle.grammar.specs.Data.Book.{Book}
 use Rattle.grammar.specs.Automaton.States.{Action, shift, accept, reduce}
 use Rattle.grammar.specs.Evaluator.Tree.{Token, next}
 use Rattle.grammar.specs.Evaluator.Rows.{Row}
-use Rattle.grammar.specs.Evaluator.Machine.{Tables, Frame, Config, config, Answer, refused, accepted, Step, more, stop, start, cell, Popped, popped, pop}
+use Rattle.grammar.specs.Evaluator.Machine.{Tables, Frame, Config, config, refused, accepted, Step, more, stop, Popped, popped}
 use Rattle.grammar.specs.Evaluator.Machine.{within, roomForRow, roomForSymbol, roomForRule, arrive, shiftToken, pushLeft, perform, step, evaluate}
 use Rattle.grammar.specs.Evaluator.Runs.{Ends, halts, moves}
 use Rattle.grammar.specs.Evaluator.RunLaws.{evaluate-ends}

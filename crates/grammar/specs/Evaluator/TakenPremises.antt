@@ -1,21 +1,18 @@
 -- A book that is taken meets what demand 3 takes from a book, with the tables that are worked out of it.
 -- Assumes nothing.
-use Prim.Native.Nat.{ℕ, suc, _<_, _≤_}
+use Prim.Native.Nat.{ℕ, suc}
 use native.Mathlib.Omega.{arith}
 use mathlib.Core.Path.{_≡_, refl, sym, ap, _∙_}
-use mathlib.Core.List.{List, [], _∷_, List·Memᴰ as Mem}
+use mathlib.Core.List.{[], _∷_}
 use lib.ListN.{length}
-use Rattle.grammar.specs.Data.Symbol.{Symbol, nonterminal, Rule, leftOf, rightOf, firstSymbol, goal}
-use Rattle.grammar.specs.Data.Term.{Leaves}
+use Rattle.grammar.specs.Data.Symbol.{nonterminal, rightOf, firstSymbol, goal}
 use Rattle.grammar.specs.Data.LeavesLaws.{leaves-map, leaves-join}
-use Rattle.grammar.specs.Data.Book.{Place, own, at, val, InheritedDefinition, SynthesizedDefinition, Book, inheritedOwner}
+use Rattle.grammar.specs.Data.Book.{Place, own, at, val, Book}
 use Rattle.grammar.specs.Format.Ordered.{Spelled}
-use Rattle.grammar.specs.Conditions.Meaning.{WithinLimits, Declared, Owned, DeclaredPlace, OwnedPlace, Before}
-use Rattle.grammar.specs.Automaton.States.{Action}
+use Rattle.grammar.specs.Conditions.Meaning.{DeclaredPlace, OwnedPlace, Before}
 use Rattle.grammar.specs.Automaton.FirstSets.{setsOf}
 use Rattle.grammar.specs.Automaton.ReachSets.{reachSets}
 use Rattle.grammar.specs.Automaton.Compiled.{compiled}
-use Rattle.grammar.specs.Evaluator.Machine.{Tables}
 use Rattle.grammar.specs.Evaluator.Premises.{MayRead, reads-own, reads-at, reads-val, Premises}
 use Rattle.grammar.specs.Automaton.WellNamed.{WellNamed}
 use Rattle.grammar.specs.Automaton.ItemsRight.{ItemsRight}

@@ -1,7 +1,5 @@
 -- What the laws of formulas take from conditions 3 to 5 and 7, in the form in which they use it. Assumes nothing.
 use Prim.Native.Nat.{ℕ, _<_, _≤_}
-use native.Mathlib.Omega.{arith}
-use native.Mathlib.Decide.{ℕ-discrete}
 use mathlib.Core.Path.{_≡_}
 use mathlib.Core.Logic.{_≢_}
 use mathlib.Core.List.{List, _∷_}
@@ -11,7 +9,7 @@ use Rattle.grammar.specs.Data.Symbol.{Symbol, nonterminal, leftOf, after
 use Rattle.grammar.specs.Data.Term.{Leaves}
 use Rattle.grammar.specs.Data.LeavesLaws.{leaves-map}
 use Rattle.grammar.specs.Data.Book.{Place, own, at, val, Book, inheritedOwner, inheritedExpr}
-use Rattle.grammar.specs.Automaton.Items.{Reaches, before, complete, further, KernelItem, kernel-item, Closure, close, Chain}
+use Rattle.grammar.specs.Automaton.Items.{Reaches, before, complete, further, KernelItem, Closure, close, Chain}
 use Rattle.grammar.specs.Formulas.ChainLaws.{chain-closure, chain-reaches}
 use Rattle.grammar.specs.Automaton.States.{KernelRules}
 use Rattle.grammar.specs.Automaton.KernelItems.{start-dot as kernel-start}

@@ -4,10 +4,9 @@ use Prim.Native.Nat.{ℕ, zero, suc, _≤_, _<_}
 use native.Mathlib.Omega.{arith}
 use mathlib.Core.Path.{_≡_, refl, ap, sym, _∙_}
 use mathlib.Core.Bool.{Bool, true, false}
-use mathlib.Core.Option.{Option, none, some}
+use mathlib.Core.Option.{none, some}
 use mathlib.Core.List.{List, [], _∷_}
 use lib.Dec.{ltb}
-use lib.ListN.{getD}
 use borrow.Author.Tests.{ltb-true, ltb-false}
 use Rattle.grammar.specs.Data.Symbol.{Symbol, nonterminal, after}
 use Rattle.grammar.specs.Data.Book.{Book, inheritedOwner}
@@ -17,7 +16,7 @@ use Rattle.grammar.specs.Formulas.ChainLaws.{FromChain}
 use Rattle.grammar.specs.Automaton.FirstSets.{Sets}
 use Rattle.grammar.specs.Automaton.CoreItems.{coreItems}
 use Rattle.grammar.specs.Automaton.ItemsRight.{ItemsRight}
-use Rattle.grammar.specs.Formulas.Slots.{Slots, slotAt, slotsOf}
+use Rattle.grammar.specs.Formulas.Slots.{slotAt, slotsOf}
 use Rattle.grammar.specs.Automaton.Compiled.{tabulate, Partials, partials, itemsTable, partialsAt, partsTable, slotsIn, formulaAt}
 use Rattle.grammar.specs.Automaton.CompiledTables.{tabulate-at, tabulate-past}
 use Rattle.grammar.specs.Formulas.PartialLaws.{partialAt, partial-items}

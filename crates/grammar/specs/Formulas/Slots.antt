@@ -3,15 +3,15 @@
 -- Assumes nothing.
 use Prim.Native.Nat.{ℕ, zero, suc, _^_}
 use native.Mathlib.Decide.{ℕ-discrete}
-use mathlib.Core.Bool.{Bool, true, false, _&&_}
+use mathlib.Core.Bool.{Bool, true, false}
 use mathlib.Core.Option.{Option, none, some}
-use mathlib.Core.List.{List, [], _∷_, _++_}
+use mathlib.Core.List.{List, [], _∷_}
 use lib.Dec.{eqb}
 use lib.ListN.{length, getD, set, replicate}
 use Rattle.sets.specs.Sets.{bit}
-use Rattle.grammar.specs.Data.Symbol.{Symbol, terminal, nonterminal, Rule, leftOf, rightOf, after}
-use Rattle.grammar.specs.Data.Term.{Term, Term-discrete, Operator-discrete, number}
-use Rattle.grammar.specs.Data.Book.{Book, Kernel, ownerAt}
+use Rattle.grammar.specs.Data.Symbol.{Symbol, terminal, nonterminal, Rule, leftOf, after}
+use Rattle.grammar.specs.Data.Term.{Term-discrete, Operator-discrete, number}
+use Rattle.grammar.specs.Data.Book.{Book, ownerAt}
 use Rattle.grammar.specs.Formulas.Formula.{Stack-discrete, Part-discrete, Leaf-discrete, Formula, ownBelow, gives}
 use Rattle.grammar.specs.Automaton.Fixpoint.{iterate}
 use Rattle.grammar.specs.Automaton.FirstSets.{Sets}

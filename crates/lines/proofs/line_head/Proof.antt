@@ -1,6 +1,5 @@
 -- `lines::line_head` meets its contract: by the bytes of the head, or by its parts. Assumes nothing.
 use native.Mathlib.Omega.{arith}
-use mathlib.Core.Path.{refl}
 use borrow.Author.Tests.{not-false}
 use Rattle.lines.specs.Heads.{head-read}
 use borrow.Author.Needs.{needs}

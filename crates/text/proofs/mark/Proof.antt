@@ -1,6 +1,5 @@
 -- `mark` meets its contract: the end of the text, another class, the class.
 -- Assumes nothing.
-use native.Mathlib.Omega.{arith}
 use mathlib.Core.Path.{sym, _∙_}
 use Rattle.text.proofs.Steps.{mark-out, mark-not, mark-at}
 use borrow.Author.Needs.{needs}

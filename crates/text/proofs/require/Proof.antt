@@ -1,6 +1,5 @@
 -- `require` meets its contract.
 -- Assumes nothing.
-use native.Mathlib.Omega.{arith}
 use mathlib.Core.Path.{sym, _∙_}
 use Rattle.text.specs.RestLaws.{rest-out, must-true, must-false}
 use borrow.Author.Needs.{needs}

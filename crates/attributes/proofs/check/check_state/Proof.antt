@@ -1,11 +1,11 @@
 -- `check::check_state` meets its contract: the check of all items together, and where that fails, of the partial states.
 -- Assumes nothing.
 use Prim.Native.Nat.{suc}
-use mathlib.Core.Path.{_≡_, refl, sym, _∙_}
+use mathlib.Core.Path.{refl, sym, _∙_}
 use native.Mathlib.Omega.{arith}
 use borrow.Author.Needs.{needs}
 use Rattle.grammar.specs.Formulas.FormulaCheck as grammar
-use Rattle.attributes.specs.Checking.{memberOf, Room}
+use Rattle.attributes.specs.Checking.{memberOf}
 use Rattle.attributes.specs.Wanted.{check-whole, all-below}
 use Rattle.attributes.proofs.check.check_state.Statement.{statement}
 use Rattle.attributes.proofs.check.check_state.Tie as tie

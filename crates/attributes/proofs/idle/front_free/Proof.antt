@@ -1,6 +1,6 @@
 -- `idle::front_free` meets its contract: where the bits so far are none, the words passed have nothing in common.
 -- Assumes nothing.
-use Prim.Native.Nat.{ℕ, _+_, _-_, _<_, _≤_}
+use Prim.Native.Nat.{_-_, _≤_}
 use mathlib.Core.Path.{_≡_}
 use native.Mathlib.Omega.{arith}
 use borrow.Author.Tests.{eqb-true}

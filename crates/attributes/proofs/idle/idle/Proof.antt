@@ -1,6 +1,6 @@
 -- `idle::idle` meets its contract: neither the closure nor a kernel line has the item of a definition.
 -- Assumes nothing.
-use mathlib.Core.Path.{_≡_, refl}
+use mathlib.Core.Path.{refl}
 use native.Mathlib.Omega.{arith}
 use borrow.Author.Tests.{not-false}
 use borrow.Author.Needs.{needs}

@@ -1,9 +1,8 @@
 -- `idle::mark_place` meets its contract: the item's word is full, and that of the left side if the dot is in front.
 -- Assumes nothing.
-use Prim.Native.Nat.{_+_, _*_, _-_, _≤_, _<_}
-use mathlib.Core.Path.{_≡_, _∙_}
+use Prim.Native.Nat.{_-_, _≤_, _<_}
 use native.Mathlib.Omega.{arith}
-use lib.ListN.{length, length-set}
+use lib.ListN.{length-set}
 use borrow.Author.Needs.{needs}
 use Rattle.attributes.specs.CheckingLaws.{rule-low, position-low, position-high, left-below}
 use Rattle.attributes.specs.Idle.{places-behind, places-front}

@@ -1,12 +1,11 @@
 -- `masks::masks` meets its contract: first the rules' items, then those of the kernel lines.
 -- Assumes nothing.
-use native.Mathlib.Omega.{arith}
 use mathlib.Core.Path.{_∙_}
 use Rattle.grammar.specs.Automaton.FirstSets.{setsOf}
 use Rattle.grammar.specs.Automaton.ReachSets.{reachSets}
 use Rattle.grammar.specs.Automaton.ClosureSets.{closureSets}
 use borrow.Author.Needs.{needs}
-use Rattle.attributes.specs.StateMarks.{marks-cleared, item-lines, state-looks, looks-below, starts-below, range, marks-state}
+use Rattle.attributes.specs.StateMarks.{marks-cleared, item-lines, state-looks, looks-below, range, marks-state}
 use Rattle.attributes.proofs.masks.masks.Statement.{statement}
 use Rattle.attributes.proofs.masks.masks.Tie as tie
 

@@ -1,7 +1,7 @@
 -- `one_formula::state_right` meets its contract: an idle state is right, and the check by the sets is that of the state.
 -- Assumes nothing.
 use native.Mathlib.Omega.{arith}
-use mathlib.Core.Path.{_≡_, _∙_}
+use mathlib.Core.Path.{_∙_}
 use borrow.Author.Needs.{needs}
 use Rattle.attributes.specs.OneFormula.{terminals-low, held-check, state-told, state-idle}
 use Rattle.attributes.proofs.one_formula.state_right.Statement.{statement}

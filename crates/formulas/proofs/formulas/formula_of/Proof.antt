@@ -1,6 +1,6 @@
 -- `formulas::formula_of` meets its contract: the loop keeps `Running`, for every expression and every choice of formulas that may be asked for.
 -- Assumes nothing.
-use Prim.Native.Nat.{ℕ, _-_, _<_, _≤_}
+use Prim.Native.Nat.{ℕ, _-_, _<_}
 use mathlib.Core.Path.{_≡_, sym, _∙_}
 use native.Mathlib.Omega.{arith}
 use borrow.Author.Needs.{needs}

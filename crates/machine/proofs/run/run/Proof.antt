@@ -1,6 +1,6 @@
 -- `machine::run::run` meets its contract: each move goes on from a configuration that comes to the machine's answer, until one stops. Assumes nothing.
 use Prim.Native.Nat.{_-_}
-use mathlib.Core.Path.{refl, ap, _∙_}
+use mathlib.Core.Path.{refl}
 use mathlib.Core.List.{List}
 use native.Mathlib.Omega.{arith}
 use lib.ListN.{length-set}

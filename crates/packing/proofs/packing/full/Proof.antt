@@ -5,7 +5,6 @@ use mathlib.Core.List.{[]}
 use Rattle.grammar.specs.Format.Packing.{unpack}
 use Rattle.packing.specs.WordsLaws.{full-of, none-first, none-second, none-third, none-fourth, all-four}
 use Rattle.packing.specs.Words.{bytesOf}
-use borrow.Author.Needs.{needs}
 use Rattle.packing.proofs.packing.full.Statement.{statement}
 use Rattle.packing.proofs.packing.full.Tie as tie
 

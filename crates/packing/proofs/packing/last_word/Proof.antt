@@ -1,6 +1,5 @@
 -- `packing::last_word` meets its contract, by the law `word-at`.
 -- Assumes nothing.
-use mathlib.Core.Path.{_≡_}
 use Rattle.packing.specs.WordsLaws.{word-at}
 use borrow.Author.Needs.{needs}
 use Rattle.packing.proofs.packing.last_word.Statement.{statement}

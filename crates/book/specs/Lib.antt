@@ -18,6 +18,7 @@ pub mod Lines
 pub mod Lookahead
 pub mod Order
 pub mod Parts
+pub mod SameLookaheads
 pub mod Sections
 pub mod Spelling
 pub mod SpellingLaws

@@ -1,4 +1,5 @@
 use Rattle.book.specs.KernelLines.{kernel-steps}
+use Rattle.book.specs.SameLookaheads.{closed-by}
 use borrow.Author.Needs.{needs}
 use Rattle.book.proofs.kernels.kernel_line.Statement.{statement}
 use Rattle.book.proofs.kernels.kernel_line.Tie as tie
@@ -18,8 +19,8 @@ mark-requires-2 c κs = search needs
 number-requires-3 : tie.Need-number-requires-3
 number-requires-3 c κs = search needs
 
-lookaheads-requires : tie.Need-lookaheads-requires
-lookaheads-requires c κs = search needs
+next-lookaheads-requires : tie.Need-next-lookaheads-requires
+next-lookaheads-requires c κs = search needs
 
 require-requires : tie.Need-require-requires
 require-requires c κs = c .before .before .before .before .before .before .before .before .before .pre .0 .short
@@ -42,21 +43,33 @@ slice-aggregate-put-line c = search needs
 put-line-requires : tie.Need-put-line-requires
 put-line-requires c κs = c .before .before .before .before .before .before .before .before .before .before .before .before .before .before .before .pre .1
 
+known-after-requires : tie.Need-known-after-requires
+known-after-requires c κs =
+    let ascending = c .before .before .before .before .before in
+    let some = ascending .before .before .before in
+    let looked = some .before .before in (
+      closed-by _ _ _ _ (looked .next-lookaheads .ensures) (some .require .ensures) (ascending .before .before .closing .ensures)
+          (ascending .require2 .ensures),
+      looked .before .before .before .before .before .before .before .before .pre .2,
+    )
+
 same-length : tie.Need-same-length
 same-length c = search needs
 
 returns : tie.Need-returns
 returns c =
-    let stored = c .before .before in
+    let stored = c .before .before .before in
     let ascending = stored .before .before .before in
     let some = ascending .before .before .before in
     let looked = some .before .before in
     let dot = looked .before in
     let rule = dot .before .before in
-    let state = rule .before .before in
-    kernel-steps _ _ _ (state .number .ensures) (rule .before .mark .ensures) (rule .number2 .ensures) (dot .before .mark2 .ensures)
-    (dot .number3 .ensures) (looked .lookaheads .ensures) (some .require .ensures) (ascending .before .before .closing .ensures)
-    (ascending .before .ascends .ensures) (ascending .require2 .ensures) (stored .put-line .ensures)
+    let state = rule .before .before in (
+      kernel-steps _ _ _ (state .number .ensures) (rule .before .mark .ensures) (rule .number2 .ensures) (dot .before .mark2 .ensures)
+          (dot .number3 .ensures) (looked .next-lookaheads .ensures) (some .require .ensures) (ascending .before .before .closing .ensures)
+          (ascending .before .ascends .ensures) (ascending .require2 .ensures) (stored .put-line .ensures),
+      c .known-after .ensures,
+    )
 
 pub kernel-line-spec : {M : Type 1} → statement M
 kernel-line-spec =
@@ -67,7 +80,7 @@ kernel-line-spec =
     number-requires-2
     mark-requires-2
     number-requires-3
-    lookaheads-requires
+    next-lookaheads-requires
     require-requires
     closing-requires
     ascends-requires
@@ -75,5 +88,6 @@ kernel-line-spec =
     cast-put-line
     slice-aggregate-put-line
     put-line-requires
+    known-after-requires
     same-length
     returns)

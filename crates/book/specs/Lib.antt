@@ -12,13 +12,13 @@ pub mod Header
 pub mod Held
 pub mod HeldLaws
 pub mod KernelLines
+pub mod KnownLookaheads
 pub mod Layout
 pub mod LayoutLaws
 pub mod Lines
 pub mod Lookahead
 pub mod Order
 pub mod Parts
-pub mod SameLookaheads
 pub mod Sections
 pub mod Spelling
 pub mod SpellingLaws

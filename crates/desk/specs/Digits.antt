@@ -2,26 +2,16 @@
 -- Assumes nothing.
 use Prim.Native.Nat.{ℕ, zero, suc, _+_, _-_, _/_, _%_, _^_, _≤_, _<_}
 use mathlib.Core.Path.{_≡_, refl, sym, ap, _∙_}
-use mathlib.Core.Bool.{Bool, true, false}
 use mathlib.Core.List.{List, [], _∷_, _++_, append-assoc}
 use native.Mathlib.Omega.{arith}
 use native.Mathlib.Nat.{pow-suc, div-lt-iff-lt-mul}
 use native.Mathlib.Numerals.{add-one}
-use lib.Dec.{ltb}
 use lib.ListN.{length, take, drop, set, length-set}
 use lib.Seq.{take-set-le, drop-set-lt, drop-cons, getD-set-same, take-add}
-use borrow.Author.Tests.{ltb-true, ltb-false}
 use Rattle.text.specs.Numeral.{decimal, written, write}
-use Rattle.text.specs.Positional.{decimal-positional, written-small, written-large, write-small, write-large}
+use Rattle.text.specs.Positional.{by-less, decimal-positional, written-small, written-large, write-small, write-large}
 use Rattle.grammar.specs.Format.Printer.{numeral}
 use Rattle.desk.specs.Output.{Puts}
-
-pub by-ten : {C : Type 0} (n : ℕ) → (n < 10 → C) → (10 ≤ n → C) → C
-by-ten {C} n f g = go (ltb n 10) refl
-  where
-    go : (t : Bool) → ltb n 10 ≡ t → C
-    go true e = f (ltb-true n 10 e)
-    go false e = g (ltb-false n 10 e)
 
 -- how many digits a number has
 unfoldable pub width : ℕ → ℕ
@@ -37,7 +27,7 @@ length-written : (f n : ℕ) (r : List ℕ) → length (written decimal f n r) �
 unfolding written
 length-written zero n r = omega arith
 length-written (suc f) n r =
-    by-ten n
+    by-less n 10
     (λ h. rw (written-small decimal f n r h, written-small decimal f n [] h) (omega arith))
     (λ h. rw (written-large decimal f n r h, written-large decimal f n [] h)
     (omega (arith, length-written f (n / 10) ((48 + n % 10) ∷ r), length-written f (n / 10) ((48 + n % 10) ∷ []))))
@@ -55,12 +45,12 @@ unfolding width
 width-large n h = rw (large-digits n [] h) (length-numeral (n / 10) _)
 
 pub width-some : (n : ℕ) → 1 ≤ width n
-width-some n = by-ten n (λ h. omega (arith, width-small n h)) (λ h. omega (arith, width-large n h))
+width-some n = by-less n 10 (λ h. omega (arith, width-small n h)) (λ h. omega (arith, width-large n h))
 
 width-below : (k n : ℕ) → n < 10 ^ suc k → width n ≤ suc k
 width-below zero n h = omega (arith, width-small n h)
 width-below (suc k) n h =
-    by-ten n (λ l. omega (arith, width-small n l))
+    by-less n 10 (λ l. omega (arith, width-small n l))
     (λ l. omega (arith, width-large n l, width-below k (n / 10) (div-lt-iff-lt-mul (omega arith) .1 (rw pow-suc at h))))
 
 -- "numbers of 1 to 10 digits"

@@ -1,20 +1,19 @@
 -- Printed token lines: each is read as its token, and all of them one after another.
 -- Assumes nothing.
-use Prim.Native.Nat.{ℕ, zero, suc, _+_, _/_, _%_}
+use Prim.Native.Nat.{ℕ, _+_}
 use mathlib.Core.Path.{_≡_, refl, ap, _∙_}
 use mathlib.Core.Bool.{false}
 use mathlib.Core.Option.{some}
 use mathlib.Core.List.{List, [], _∷_, _++_, append-nil, append-assoc}
 use lib.Dec.{eqb}
-use Rattle.text.specs.Numeral.{decimal, written, write}
-use Rattle.text.specs.Positional.{written-small, written-large}
+use Rattle.text.specs.Numeral.{decimal}
+use Rattle.text.specs.Positional.{write-front}
 use Rattle.grammar.specs.Evaluator.Tree.{Token}
 use Rattle.grammar.specs.Format.Printer.{Printer, bytes, literal, numeral, each}
 use Rattle.grammar.specs.Format.Ordered.{Every, every-[], every-∷, Fits}
 use Rattle.grammar.specs.Format.ReaderLaws.{number-reads, reading}
 use Rattle.grammar.specs.Demands.{numbersOf}
 use Rattle.desk.specs.Desk.{Lines, so-far, after-end, tokenLine, spelledBy, tokenOf, oneLine, allBytes}
-use Rattle.desk.specs.Digits.{by-ten}
 use Rattle.desk.specs.Lines.{printToken}
 use Rattle.desk.specs.Steps.{_▷_, line-tokens, some-joined, taken-on, taken-line}
 use Rattle.desk.specs.Unfed.{unfed, words, digits}
@@ -32,17 +31,8 @@ one-taken lines line r (more {c} {bs} h l) =
 
 -- A printed token is a line, in front of whatever comes after it
 
-written-front : (f n : ℕ) (r s : List ℕ) → written decimal f n (r ++ s) ≡ written decimal f n r ++ s
-unfolding written
-written-front zero n r s = refl
-written-front (suc f) n r s =
-    by-ten n
-    (λ h. rw (written-small decimal f n (r ++ s) h, written-small decimal f n r h))
-    (λ h. rw (written-large decimal f n (r ++ s) h, written-large decimal f n r h) (written-front f (n / 10) ((48 + n % 10) ∷ r) s))
-
 number-front : (n : ℕ) (r s : List ℕ) → numeral n (r ++ s) ≡ numeral n r ++ s
-unfolding write
-number-front n r s = written-front (suc n) n r s
+number-front n r s = write-front decimal n r s
 
 token-front : (kind value : ℕ) (r : List ℕ) → printToken kind value r ≡ printToken kind value [] ++ r
 unfolding printToken literal bytes

@@ -2,14 +2,12 @@
 use Prim.Native.Nat.{ℕ, zero, suc, _+_, _*_, _-_, _<_, _≤_}
 use native.Mathlib.Omega.{arith}
 use mathlib.Core.Path.{_≡_, refl, sym, _∙_}
-use mathlib.Core.Bool.{Bool, true, false}
 use mathlib.Core.List.{List, [], _∷_, _++_}
-use lib.Dec.{ltb}
 use lib.ListN.{length, getD, drop}
-use borrow.Author.Tests.{ltb-true, ltb-false}
 use Rattle.text.specs.Rest.{rest, left}
 use Rattle.text.specs.RestLaws.{rest-in, drop-more}
 use Rattle.text.specs.Numeral.{wordOf}
+use Rattle.text.specs.Positional.{by-less}
 use Rattle.grammar.specs.Format.Reader.{opening}
 use Rattle.grammar.specs.Format.ReaderLaws.{reading}
 
@@ -97,15 +95,16 @@ front (b ∷ bytes) text at h same =
 pub head-read : {word : ℕ} {bytes : List ℕ} (h : Head word bytes) (text : List ℕ) (at : ℕ) → at + length bytes ≤ length text → Same text at bytes 0 4
     → Same text (at + length bytes - 4) bytes (length bytes - 4) 4 → rest text (at + length bytes) ≡ opening word (rest text at)
 head-read {word} {bytes} h text at l first last =
-    rest-in text (at + length bytes) l ∙ sym (rw (rest-in text at (omega arith), front bytes text at l (λ i below. by i below (ltb i 4) refl))
+    rest-in text (at + length bytes) l ∙ sym (rw (rest-in text at (omega arith), front bytes text at l each)
     (h .opens (drop (at + length bytes) text)))
   where
-    by : (i : ℕ) → i < length bytes → (t : Bool) → ltb i 4 ≡ t → getD text (at + i) 0 ≡ getD bytes i 0
-    by i below true e =
-        let z : 0 + i ≡ i = omega arith in
-        rw z at (first .each i (ltb-true i 4 e))
-    by i below false e =
-        let late : 4 ≤ i = ltb-false i 4 e in
-        let here : at + length bytes - 4 + (i + 4 - length bytes) ≡ at + i = omega (arith, h .few, h .short) in
-        let there : length bytes - 4 + (i + 4 - length bytes) ≡ i = omega (arith, h .few, h .short) in
-        rw (here, there) at (last .each (i + 4 - length bytes) (omega (arith, h .few)))
+    each : (i : ℕ) → i < length bytes → getD text (at + i) 0 ≡ getD bytes i 0
+    each i below =
+        by-less i 4
+        (λ early.
+        let here : 0 + i ≡ i = omega arith in
+        rw here at (first .each i early))
+        (λ late.
+        let there : at + length bytes - 4 + (i + 4 - length bytes) ≡ at + i = omega (arith, h .few, h .short) in
+        let here : length bytes - 4 + (i + 4 - length bytes) ≡ i = omega (arith, h .few, h .short) in
+        rw (there, here) at (last .each (i + 4 - length bytes) (omega (arith, h .few))))

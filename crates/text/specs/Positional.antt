@@ -3,7 +3,7 @@
 use Prim.Native.Nat.{ℕ, zero, suc, _+_, _*_, _-_, _/_, _%_, _≤_, _<_}
 use mathlib.Core.Path.{_≡_, refl, sym, ap, _∙_}
 use mathlib.Core.Bool.{Bool, true, false}
-use mathlib.Core.List.{List, [], _∷_}
+use mathlib.Core.List.{List, [], _∷_, _++_}
 use native.Mathlib.Omega.{arith}
 use native.Mathlib.Nat.{div-lt-self, div-eq-sub-div, div-eq-of-lt, div-add-mod', mod-lt, mod-eq-of-lt}
 use native.Mathlib.Nat.{mul-add-div-right, mul-add-mod-self-right, mul-le-mul-right, zero-mul, one-mul}
@@ -39,17 +39,17 @@ unfoldable pub no-digit : System → List ℕ → Bool
 no-digit S [] = true
 no-digit S (b ∷ bs) = eqb (digitOf S b) (S .base)
 
-by-less : {C : Type 0} (a b : ℕ) → (a < b → C) → (b ≤ a → C) → C
+-- What was read, in front of a rest r
+pub record Was (S : System) (n : ℕ) (bs r : List ℕ) : Type 0 where
+  pub text : bs ≡ write S n r
+  pub bound : n ≤ S .limit
+
+pub by-less : {C : Type 0} (a b : ℕ) → (a < b → C) → (b ≤ a → C) → C
 by-less {C} a b f g = go (ltb a b) refl
   where
     go : (t : Bool) → ltb a b ≡ t → C
     go true e = f (ltb-true a b e)
     go false e = g (ltb-false a b e)
-
--- What was read, in front of a rest r
-pub record Was (S : System) (n : ℕ) (bs r : List ℕ) : Type 0 where
-  pub text : bs ≡ write S n r
-  pub bound : n ≤ S .limit
 
 module _ (S : System) where
   -- The clauses, as laws
@@ -70,6 +70,19 @@ module _ (S : System) where
       → written S (suc f) n r ≡ written S f (n / S .base) ((S .zero-byte + n % S .base) ∷ r)
   unfolding written
   written-large f n r h = rw (le-ltb n (S .base), written)
+
+  -- what is written stands in front of whatever comes after it
+  written-front : (f n : ℕ) (r s : List ℕ) → written S f n (r ++ s) ≡ written S f n r ++ s
+  unfolding written
+  written-front zero n r s = refl
+  written-front (suc f) n r s =
+      by-less n (S .base)
+      (λ h. rw (written-small f n (r ++ s) h, written-small f n r h))
+      (λ h. rw (written-large f n (r ++ s) h, written-large f n r h) (written-front f (n / S .base) ((S .zero-byte + n % S .base) ∷ r) s))
+
+  pub write-front : (n : ℕ) (r s : List ℕ) → write S n (r ++ s) ≡ write S n r ++ s
+  unfolding write
+  write-front n r s = written-front (suc n) n r s
 
   pub digits-stop : (n : ℕ) (r : List ℕ) → no-digit S r ≡ true → digits S n r ≡ got n r
   unfolding digits no-digit

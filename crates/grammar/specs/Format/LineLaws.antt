@@ -129,7 +129,7 @@ unfolding symbols
 most-symbols m o h =
     omega (arith, section-size (mark space) (λ (s : Unit {0}). symbol) (λ s X. s) (symbol-inverse .head-less) (symbol-inverse .one-less) tt o)
 
-abbrev printLookahead : ℕ → Printer
+abbrev pub printLookahead : ℕ → Printer
 printLookahead a = literal " t" · numeral a
 
 pub lookaheads-read : (xs r : List ℕ) → Ascends lookaheadKey [] xs → Every Fits xs → NoDigit r → found (naming (wordOf "t") (left r)) ≡ false

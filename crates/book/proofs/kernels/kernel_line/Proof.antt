@@ -1,5 +1,5 @@
 use Rattle.book.specs.KernelLines.{kernel-steps}
-use Rattle.book.specs.SameLookaheads.{closed-by}
+use Rattle.book.specs.KnownLookaheads.{closed-by}
 use borrow.Author.Needs.{needs}
 use Rattle.book.proofs.kernels.kernel_line.Statement.{statement}
 use Rattle.book.proofs.kernels.kernel_line.Tie as tie

@@ -1,6 +1,6 @@
 -- Lookaheads whose bytes are those of the lookaheads that were read last: what is known of those, and that the same was read here.
 -- Assumes nothing.
-use Prim.Native.Nat.{ℕ, zero, suc, _+_, _-_, _/_, _%_, _≤_, _<_}
+use Prim.Native.Nat.{ℕ, _+_, _-_, _≤_, _<_}
 use mathlib.Core.Path.{_≡_, refl, sym, ap, _∙_}
 use mathlib.Core.Bool.{Bool, true, false}
 use mathlib.Core.List.{List, [], _∷_, _++_}
@@ -12,73 +12,53 @@ use lib.Bits.{bitOr, bitXor, xor-add-and, and-le-l, and-le-r}
 use borrow.Author.Tests.{ltb-true, ltb-false, leb-true, leb-false}
 use Rattle.text.specs.Rest.{rest, left, must, size}
 use Rattle.text.specs.RestLaws.{lost≢left, left-is, rest-in, rest-out, rest-at, rest-end, must-got}
-use Rattle.text.specs.Numeral.{decimal, write, written}
-use Rattle.text.specs.Positional.{written-small, written-large}
+use Rattle.text.specs.Numeral.{decimal}
+use Rattle.text.specs.Positional.{write-front}
 use Rattle.sets.specs.Bits.{below-suc}
 use Rattle.sets.specs.Operations.{or-none}
-use Rattle.grammar.specs.Format.Printer.{Printer, _·_, bytes, literal, numeral, each}
-use Rattle.grammar.specs.Format.Reader.{parsed, result, remaining, closing}
+use Rattle.grammar.specs.Format.Printer.{bytes, literal, each}
+use Rattle.grammar.specs.Format.Reader.{parsed, result, closing}
 use Rattle.grammar.specs.Format.ReaderLaws.{closing-got, reading}
-use Rattle.grammar.specs.Format.LineLaws.{lookaheads-read, lookaheads-were, most-lookaheads}
+use Rattle.grammar.specs.Format.LineLaws.{printLookahead, lookaheads-read, lookaheads-were, most-lookaheads}
 use Rattle.grammar.specs.Format.Parse.{lookaheads}
-use Rattle.book.specs.declared.kernels.LookaheadsRead.{LookaheadsRead}
-use Rattle.book.specs.declared.kernels.Known.{Known}
+use Rattle.book.specs.declared.lookaheads.LookaheadsRead.{LookaheadsRead}
+use Rattle.lines.specs.Heads.{Same}
+use Rattle.book.specs.declared.known.Known.{Known}
 use Rattle.book.specs.KernelLines.{Looks}
 
 -- The same bytes at two places
 
-abbrev pub Same : List ℕ → ℕ → ℕ → ℕ → Type 0
-Same text a b m = (i : ℕ) → i < m → getD text (a + i) 0 ≡ getD text (b + i) 0
-
-pub same-none : (text : List ℕ) (a b : ℕ) → Same text a b 0
-same-none text a b i l = absurd (omega arith)
+pub same-none : (text : List ℕ) (a b : ℕ) → Same text a text b 0
+same-none text a b = record { each = λ i l. absurd (omega arith) }
 
 -- two numbers that differ in no bit
 xor-none : (x y : ℕ) → bitXor x y ≡ 0 → x ≡ y
 xor-none x y e = omega (arith, xor-add-and x y, and-le-l x y, and-le-r x y)
 
 -- the bits in which one more pair differs are gathered
-pub same-more : (text : List ℕ) (a b n bits : ℕ) → (bits ≡ 0 → Same text a b n) → bitOr bits (bitXor (getD text (a + n) 0) (getD text (b + n) 0)) ≡ 0
-    → Same text a b (n + 1)
-same-more text a b n bits before e i l =
+pub same-more : (text : List ℕ) (a b n bits : ℕ) → (bits ≡ 0 → Same text a text b n) → bitOr bits (bitXor (getD text (a + n) 0) (getD text (b + n) 0)) ≡ 0
+    → Same text a text b (n + 1)
+same-more text a b n bits before e =
     let (none, last) = or-none bits (bitXor (getD text (a + n) 0) (getD text (b + n) 0)) e in
-    below-suc (λ j. getD text (a + j) 0 ≡ getD text (b + j) 0) n i (omega arith) (before none i) (xor-none _ _ last)
+    record { each = λ i l. below-suc (λ j. getD text (a + j) 0 ≡ getD text (b + j) 0) n i (omega arith) (before none .each i) (xor-none _ _ last) }
 
-pub same-all : (text : List ℕ) (a b : ℕ) {n m : ℕ} → Same text a b n → m ≤ n → Same text a b m
-same-all text a b all l i h = all i (omega arith)
+pub same-all : (text : List ℕ) (a b : ℕ) {n m : ℕ} → Same text a text b n → m ≤ n → Same text a text b m
+same-all text a b all l = record { each = λ i h. all .each i (omega arith) }
 
-same-taken : (text : List ℕ) (a b m : ℕ) → a + m ≤ length text → b + m ≤ length text → Same text a b m → take m (drop a text) ≡ take m (drop b text)
+same-taken : (text : List ℕ) (a b m : ℕ) → a + m ≤ length text → b + m ≤ length text → Same text a text b m → take m (drop a text) ≡ take m (drop b text)
 same-taken text a b m h k same =
     let long : length (take m (drop a text)) ≡ m = length-take-le m (drop a text) (omega (arith, length-drop a text)) in
     let long′ : length (take m (drop b text)) ≡ m = length-take-le m (drop b text) (omega (arith, length-drop b text)) in
     ext-getD 0 _ _ (long ∙ sym long′) λ i l.
     let low : i < m = omega arith in
-    getD-take m (drop a text) i 0 low ∙ getD-drop a text i 0 ∙ same i low ∙ sym (getD-drop b text i 0) ∙ sym (getD-take m (drop b text) i 0 low)
+    getD-take m (drop a text) i 0 low ∙ getD-drop a text i 0 ∙ same .each i low ∙ sym (getD-drop b text i 0) ∙ sym (getD-take m (drop b text) i 0 low)
 
 -- What is printed stands in front of whatever comes after it
 
-by-ten : {C : Type 0} (n : ℕ) → (n < 10 → C) → (10 ≤ n → C) → C
-by-ten {C} n f g = go (ltb n 10) refl
-  where
-    go : (t : Bool) → ltb n 10 ≡ t → C
-    go true e = f (ltb-true n 10 e)
-    go false e = g (ltb-false n 10 e)
-
-written-front : (f n : ℕ) (r s : List ℕ) → written decimal f n (r ++ s) ≡ written decimal f n r ++ s
-unfolding written
-written-front zero n r s = refl
-written-front (suc f) n r s =
-    by-ten n
-    (λ h. rw (written-small decimal f n (r ++ s) h, written-small decimal f n r h))
-    (λ h. rw (written-large decimal f n (r ++ s) h, written-large decimal f n r h) (written-front f (n / 10) ((48 + n % 10) ∷ r) s))
-
-abbrev printLookahead : ℕ → Printer
-printLookahead a = literal " t" · numeral a
-
 printed-front : (xs r s : List ℕ) → each printLookahead xs (r ++ s) ≡ each printLookahead xs r ++ s
-unfolding each literal bytes write
+unfolding each literal bytes
 printed-front [] r s = refl
-printed-front (a ∷ xs) r s = rw (printed-front xs r s, written-front (suc a) a (each printLookahead xs r) s)
+printed-front (a ∷ xs) r s = rw (printed-front xs r s, write-front decimal a (each printLookahead xs r) s)
 
 -- What is known of the lookaheads that were read last: a bracket stands behind them, and what was read
 
@@ -92,10 +72,10 @@ pub record KnownIn (text : List ℕ) (known : Known) : Type 0 where
 pub record Again (text : List ℕ) (at : ℕ) (known : Known) : Type 0 where
   pub some : 0 < known .length
   pub inside : at + known .length ≤ length text
-  pub same : Same text (known .from) at (known .length)
+  pub same : Same text (known .from) text at (known .length)
 
 module _ (text : List ℕ) (from at k : ℕ) (h : from + k < length text) (h′ : at + k < length text) (bracket : getD text (from + k) 0 ≡ 41)
-    (same : Same text from at (k + 1)) where
+    (same : Same text from text at (k + 1)) where
   -- what was printed in front of the bracket is printed here
   printed-again : (xs : List ℕ) → drop from text ≡ each printLookahead xs (drop (from + k) text) → drop at text ≡ each printLookahead xs (drop (at + k) text)
   printed-again xs e =
@@ -108,7 +88,7 @@ module _ (text : List ℕ) (from at k : ℕ) (h : from + k < length text) (h′ 
       sym (take-append-drop k (drop at text)) ∙ rw (here, drop-drop k at text) (sym (printed-front xs [] _))
 
   rest-bracket : rest text (at + k) ≡ left (41 ∷ drop (at + k + 1) text)
-  rest-bracket = rest-at text (at + k) h′ ∙ rw (← same k (omega arith), bracket)
+  rest-bracket = rest-at text (at + k) h′ ∙ rw (← same .each k (omega arith), bracket)
 
   -- so the same is read here
   looks-again : {count last set : ℕ} → Looks (lookaheads (rest text from)) text count last set (from + k)

@@ -1,7 +1,7 @@
 use native.Mathlib.Omega.{arith}
 use mathlib.Core.Bool.{false≢true}
-use Rattle.book.proofs.kernels.as_before.Statement.{statement}
-use Rattle.book.proofs.kernels.as_before.Tie as tie
+use Rattle.book.proofs.known.as_before.Statement.{statement}
+use Rattle.book.proofs.known.as_before.Tie as tie
 
 returns : tie.Need-returns
 returns c = λ e. absurd (false≢true e)

@@ -2,13 +2,14 @@ use Prim.Native.Nat.{_-_, _≤_}
 use mathlib.Core.Path.{_≡_}
 use native.Mathlib.Omega.{arith}
 use borrow.Author.Tests.{eqb-true}
-use Rattle.book.specs.SameLookaheads.{Same, same-none, same-more, same-all}
+use Rattle.lines.specs.Heads.{Same}
+use Rattle.book.specs.KnownLookaheads.{same-none, same-more, same-all}
 use borrow.Author.Needs.{needs}
-use Rattle.book.proofs.kernels.same.Statement.{statement}
-use Rattle.book.proofs.kernels.same.Tie as tie
+use Rattle.book.proofs.known.same.Statement.{statement}
+use Rattle.book.proofs.known.same.Tie as tie
 
 abbrev Inv-loop : tie.InvT-loop
-Inv-loop text a b m bits₀ i₀ bits i = (i ≤ m) × (bits ≡ 0 → Same text a b i)
+Inv-loop text a b m bits₀ i₀ bits i = (i ≤ m) × (bits ≡ 0 → Same text a text b i)
 
 abbrev μ-loop : tie.MeasureT-loop
 μ-loop text a b m bits₀ i₀ bits i = m - i

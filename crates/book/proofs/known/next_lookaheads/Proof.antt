@@ -1,8 +1,8 @@
 use native.Mathlib.Omega.{arith}
-use Rattle.book.specs.SameLookaheads.{known-again}
+use Rattle.book.specs.KnownLookaheads.{known-again}
 use borrow.Author.Needs.{needs}
-use Rattle.book.proofs.kernels.next_lookaheads.Statement.{statement}
-use Rattle.book.proofs.kernels.next_lookaheads.Tie as tie
+use Rattle.book.proofs.known.next_lookaheads.Statement.{statement}
+use Rattle.book.proofs.known.next_lookaheads.Tie as tie
 
 as-before-requires : tie.Need-as-before-requires
 as-before-requires c κs = search needs

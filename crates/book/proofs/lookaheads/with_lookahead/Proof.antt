@@ -1,7 +1,7 @@
 use Rattle.book.specs.KernelLines.{with-large}
 use borrow.Author.Needs.{needs}
-use Rattle.book.proofs.kernels.with_lookahead.Statement.{statement}
-use Rattle.book.proofs.kernels.with_lookahead.Tie as tie
+use Rattle.book.proofs.lookaheads.with_lookahead.Statement.{statement}
+use Rattle.book.proofs.lookaheads.with_lookahead.Tie as tie
 
 with-requires : tie.Need-with-requires
 with-requires c κs = search needs

@@ -1,9 +1,9 @@
 use native.Mathlib.Omega.{arith}
 use mathlib.Core.Path.{refl}
-use Rattle.book.specs.SameLookaheads.{known-next}
+use Rattle.book.specs.KnownLookaheads.{known-next}
 use borrow.Author.Needs.{needs}
-use Rattle.book.proofs.kernels.known_after.Statement.{statement}
-use Rattle.book.proofs.kernels.known_after.Tie as tie
+use Rattle.book.proofs.known.known_after.Statement.{statement}
+use Rattle.book.proofs.known.known_after.Tie as tie
 
 returns : tie.Need-returns
 returns c = search needs

@@ -5,8 +5,8 @@ use Rattle.sets.specs.Sets.{empty}
 use Rattle.grammar.specs.Format.Parse.{lookaheads}
 use Rattle.book.specs.KernelLines.{Looking, looking-start, looking-done, looking-less, looking-turn, looking-out}
 use borrow.Author.Needs.{needs}
-use Rattle.book.proofs.kernels.lookaheads.Statement.{statement}
-use Rattle.book.proofs.kernels.lookaheads.Tie as tie
+use Rattle.book.proofs.lookaheads.lookaheads.Statement.{statement}
+use Rattle.book.proofs.lookaheads.lookaheads.Tie as tie
 
 abbrev Inv-loop : tie.InvT-loop
 Inv-loop t text at n p₀ count₀ last₀ set₀ p count last set = Looking (lookaheads (rest text at)) text count last set p

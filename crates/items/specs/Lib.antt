@@ -7,6 +7,7 @@ pub mod FirstLoops
 pub mod GrammarIn
 pub mod GrammarOf
 pub mod KernelLines
+pub mod Leads
 pub mod NoItems
 pub mod NullableLoops
 pub mod Part

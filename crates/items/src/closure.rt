@@ -13,6 +13,7 @@ ghost use Rattle.grammar.specs.Automaton.ClosureSets.{derivesInto, fromKernels,
 ghost use Rattle.items.specs.Arrays.{SuffixesIn};
 ghost use Rattle.items.specs.Passes.{Told};
 ghost use Rattle.items.specs.Derives.{GrammarIn};
+ghost use Rattle.items.specs.Leads.{Leads};
 ghost use Rattle.items.specs.KernelLines.{lines, KernelItemsIn, StateIn, lineInto, Begun};
 use super::passes::give;
 use super::words::word;
@@ -77,33 +78,47 @@ fn visit(rules: &[u32], nulls: &[u32], firsts: &[u32], rule: usize, looks: &mut 
     derive(rules, nulls, firsts, rule, 0, own, looks)
 }
 
-// One pass over the rules; whether it changed any lookaheads.
-fn pass(rules: &[u32], count: usize, nulls: &[u32], firsts: &[u32], looks: &mut [u32]) -> bool
+// One pass over the rules; whether it changed any lookaheads. From each rule it goes to the next one that derives anything.
+fn pass(
+    rules: &[u32],
+    count: usize,
+    leads: &[u8],
+    nulls: &[u32],
+    firsts: &[u32],
+    looks: &mut [u32],
+) -> bool
     requires { ⌜ ((b : Book) × (F : Sets) × GrammarIn b F (now rules) (now nulls) (now firsts) × (length (b .rules) ≡ count))
-        × (length (now looks) ≡ 32) ⌝ }
+        × Leads (now rules) count (now leads) × (length (now looks) ≡ 32) ⌝ }
     ensures { λ r. ⌜ ((b : Book) (F : Sets) → GrammarIn b F (now (rules .entry)) (now (nulls .entry)) (now (firsts .entry))
         → length (b .rules) ≡ count
         → Told (visits (closureRule b F) count (now (looks .entry))) (now (looks .entry)) (now (looks .exit)) r) ⌝ }
 {
     let mut changed = false;
-    let mut rule = 0;
+    let mut rule = leads[0] as usize;
     while rule < count {
         if visit(rules, nulls, firsts, rule, looks) {
             changed = true;
         }
-        rule += 1;
+        rule = leads[rule + 1] as usize;
     }
     changed
 }
 
 // Passes until one changes nothing.
-fn passes(rules: &[u32], count: usize, nulls: &[u32], firsts: &[u32], looks: &mut [u32])
+fn passes(
+    rules: &[u32],
+    count: usize,
+    leads: &[u8],
+    nulls: &[u32],
+    firsts: &[u32],
+    looks: &mut [u32],
+)
     requires { ⌜ ((b : Book) × (F : Sets) × GrammarIn b F (now rules) (now nulls) (now firsts) × (length (b .rules) ≡ count))
-        × (length (now looks) ≡ 32) ⌝ }
+        × Leads (now rules) count (now leads) × (length (now looks) ≡ 32) ⌝ }
     ensures { λ _. ⌜ ((b : Book) (F : Sets) → GrammarIn b F (now (rules .entry)) (now (nulls .entry)) (now (firsts .entry))
         → length (b .rules) ≡ count → now (looks .exit) ≡ least (closureRule b F) count (now (looks .entry))) ⌝ }
 {
-    while pass(rules, count, nulls, firsts, looks) {}
+    while pass(rules, count, leads, nulls, firsts, looks) {}
 }
 
 // Kernel line i gives the nonterminal behind its dot what it directly derives; whether that changed any lookaheads.
@@ -158,6 +173,7 @@ fn begin(
 pub fn closure(
     rules: &[u32],
     count: usize,
+    leads: &[u8],
     kernels: &[u32],
     from: usize,
     to: usize,
@@ -166,12 +182,12 @@ pub fn closure(
     looks: &mut [u32],
 )
     requires { ⌜ ((b : Book) × (F : Sets) × KernelItemsIn b F (now rules) (now kernels) (now nulls) (now firsts) × (length (b .rules) ≡ count)
-        × (to ≤ length (b .kernels))) × (now looks ≡ replicate 32 0) ⌝ }
+        × (to ≤ length (b .kernels))) × Leads (now rules) count (now leads) × (now looks ≡ replicate 32 0) ⌝ }
     ensures { λ _. ⌜ ((b : Book) (F : Sets) (S : ℕ)
         → KernelItemsIn b F (now (rules .entry)) (now (kernels .entry)) (now (nulls .entry)) (now (firsts .entry)) → length (b .rules) ≡ count
         → StateIn (b .kernels) S from to → now (looks .exit) ≡ closureSets b F S) ⌝ }
 {
     if begin(rules, kernels, from, to, nulls, firsts, looks) {
-        passes(rules, count, nulls, firsts, looks);
+        passes(rules, count, leads, nulls, firsts, looks);
     }
 }

@@ -5,8 +5,50 @@ ghost use Rattle.grammar.specs.Data.Book.{Book};
 ghost use Rattle.grammar.specs.Automaton.FirstSets.{Sets};
 ghost use Rattle.items.specs.Arrays.{ClosuresIn};
 ghost use Rattle.items.specs.Closures.{StateItemsIn};
+ghost use Rattle.items.specs.Leads.{Leads};
 use super::closure::closure;
+use super::leads::fill_leads;
 use super::words::word;
+
+// By the rules that lead on.
+fn state_closures(
+    rules: &[u32],
+    count: u32,
+    leads: &[u8],
+    kernels: &[u32],
+    starts: &[u32],
+    states: u32,
+    nulls: &[u32],
+    firsts: &[u32],
+    closures: &mut [u32],
+)
+    requires { ⌜ ((b : Book) × (F : Sets)
+        × StateItemsIn b F (now rules) count (now kernels) (now starts) states (now nulls) (now firsts))
+        × Leads (now rules) count (now leads) × (now closures ≡ replicate 4096 0) ⌝ }
+    ensures { λ _. ⌜ ((b : Book) (F : Sets)
+        → StateItemsIn b F (now (rules .entry)) count (now (kernels .entry)) (now (starts .entry)) states (now (nulls .entry)) (now (firsts .entry))
+        → ClosuresIn b F (now (closures .exit))) ⌝ }
+{
+    let mut s = 0;
+    while s < states as usize {
+        let from = word(starts, s);
+        let to = word(starts, s + 1);
+        let at = 32 * s;
+        let end = at + 32;
+        closure(
+            rules,
+            count as usize,
+            leads,
+            kernels,
+            from,
+            to,
+            nulls,
+            firsts,
+            &mut closures[at..end],
+        );
+        s += 1;
+    }
+}
 
 pub fn closures(
     rules: &[u32],
@@ -25,22 +67,17 @@ pub fn closures(
         → StateItemsIn b F (now (rules .entry)) count (now (kernels .entry)) (now (starts .entry)) states (now (nulls .entry)) (now (firsts .entry))
         → ClosuresIn b F (now (closures .exit))) ⌝ }
 {
-    let mut s = 0;
-    while s < states as usize {
-        let from = word(starts, s);
-        let to = word(starts, s + 1);
-        let at = 32 * s;
-        let end = at + 32;
-        closure(
-            rules,
-            count as usize,
-            kernels,
-            from,
-            to,
-            nulls,
-            firsts,
-            &mut closures[at..end],
-        );
-        s += 1;
-    }
+    let mut leads = [0u8; 65];
+    fill_leads(rules, count as usize, &mut leads);
+    state_closures(
+        rules,
+        count,
+        &leads,
+        kernels,
+        starts,
+        states,
+        nulls,
+        firsts,
+        closures,
+    );
 }

@@ -2,6 +2,7 @@
 pub mod closure;
 pub mod closures;
 pub mod first;
+pub mod leads;
 pub mod nullable;
 pub mod passes;
 pub mod reach;

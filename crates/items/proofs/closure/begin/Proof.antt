@@ -1,4 +1,4 @@
--- `automaton::closure::begin` meets its contract: the lines that are left give, after those before, what all lines give.
+-- `items::closure::begin` meets its contract: the lines that are left give, after those before, what all lines give.
 -- Assumes nothing.
 use Prim.Native.Nat.{_-_}
 use mathlib.Core.Logic.{⊎-elim}

@@ -1,4 +1,4 @@
--- `automaton::closure::derive` meets its contract: one law for each way out.
+-- `items::closure::derive` meets its contract: one law for each way out.
 -- Assumes nothing.
 use Prim.Native.Nat.{_+_, _*_, _<_}
 use native.Mathlib.Omega.{arith}

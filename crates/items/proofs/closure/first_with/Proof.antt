@@ -1,4 +1,4 @@
--- `automaton::closure::first_with` meets its contract, by the laws of the sets of a rest.
+-- `items::closure::first_with` meets its contract, by the laws of the sets of a rest.
 -- Assumes nothing.
 use mathlib.Core.Path.{sym, _∙_}
 use Rattle.items.specs.Derives.{first-null, first-full}

@@ -1,4 +1,4 @@
--- `automaton::closure::line` meets its contract: the words of the line are those of its item.
+-- `items::closure::line` meets its contract: the words of the line are those of its item.
 -- Assumes nothing.
 use mathlib.Core.Path.{refl}
 use native.Mathlib.Omega.{arith}

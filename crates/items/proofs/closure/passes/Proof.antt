@@ -1,4 +1,4 @@
--- `automaton::closure::passes` meets its contract: a pass more at the start ends at the same sets.
+-- `items::closure::passes` meets its contract: a pass more at the start ends at the same sets.
 -- Assumes nothing.
 use native.Mathlib.Omega.{arith}
 use Rattle.grammar.specs.Automaton.LeastLaws.{Family}
@@ -8,31 +8,32 @@ use Rattle.items.proofs.closure.passes.Statement.{statement}
 use Rattle.items.proofs.closure.passes.Tie as tie
 
 abbrev Inv-loop : tie.InvT-loop
-Inv-loop rules count nulls firsts looks₀ looks = Settling rules nulls firsts count looks₀ looks
+Inv-loop rules count leads nulls firsts looks₀ looks = Settling rules nulls firsts count looks₀ looks
 
 abbrev μ-loop : tie.MeasureT-loop
-μ-loop rules count nulls firsts looks₀ looks = left looks
+μ-loop rules count leads nulls firsts looks₀ looks = left looks
 
 -- the words lent are sets
-family : (c : tie.After-slice-known Inv-loop μ-loop) → Family 32 (c .before .before .before .before .args .looks .now)
-family c = record { long = c .before .before .before .before .pre .1; low = λ i. c .slice-known .given i .fits }
+family : (c : tie.After-slice-known Inv-loop μ-loop) → Family 32 (c .before .before .before .before .before .args .looks .now)
+family c = record { long = c .before .before .before .before .before .pre .2; low = λ i. c .slice-known .given i .fits }
 
 loop-holds : tie.Need-loop-holds Inv-loop μ-loop
 loop-holds c = λ b F H e. closing-begins (closure-fits H e (family c))
 
 pass-requires : tie.Need-pass-requires Inv-loop μ-loop
 pass-requires c κs =
-    let g = c .before .before .before .before .before .before .pre .0 in (
+    let g = c .before .before .before .before .before .before .before .pre .0 in (
       (g .0, g .1, g .2, g .3),
+      c .before .before .before .before .before .before .before .pre .1,
       omega (
         arith,
         (c .before .loop .inv (g .0) (g .1) (g .2) (g .3)) .family .long,
-        c .before .before .before .before .before .before .pre .1,
+        c .before .before .before .before .before .before .before .pre .2,
       ),
     )
 
 loop-less : tie.Need-loop-less Inv-loop μ-loop
-loop-less c = let g = c .before .before .before .before .before .before .before .before .before .before .pre .0 in
+loop-less c = let g = c .before .before .before .before .before .before .before .before .before .before .before .pre .0 in
     closing-less (closure-fits (g .2) (g .3) (family (c .before .before .before .before .before .before)))
     (c .before .before .before .before .before .loop .inv (g .0) (g .1) (g .2) (g .3))
     (c .before .before .before .pass .ensures (g .0) (g .1) (g .2) (g .3)) (c .if1 .taken)
@@ -44,7 +45,7 @@ loop-again c =
     (c .before .before .before .before .before .loop .inv b F H e) (c .before .before .before .pass .ensures b F H e)
 
 same-length : tie.Need-same-length Inv-loop μ-loop
-same-length c = let g = c .before .before .before .before .before .before .before .before .before .before .pre .0 in
+same-length c = let g = c .before .before .before .before .before .before .before .before .before .before .before .pre .0 in
     omega (
       arith,
       closing-turn (closure-fits (g .2) (g .3) (family (c .before .before .before .before .before .before)))

@@ -1,4 +1,4 @@
--- `automaton::closure::visit` meets its contract: a rule gives what its item with the dot in front gives.
+-- `items::closure::visit` meets its contract: a rule gives what its item with the dot in front gives.
 -- Assumes nothing.
 use native.Mathlib.Omega.{arith}
 use Rattle.items.specs.ClosurePasses.{left-low, rule-told}

@@ -1,4 +1,4 @@
--- `automaton::first::begins_with` meets its contract: by the symbol's word.
+-- `items::first::begins_with` meets its contract: by the symbol's word.
 -- Assumes nothing.
 use mathlib.Core.Path.{sym, ap, _∙_}
 use borrow.Author.Needs.{needs}

@@ -1,4 +1,4 @@
--- `automaton::first::first_rest` meets its contract: the loop keeps `Beginning`.
+-- `items::first::first_rest` meets its contract: the loop keeps `Beginning`.
 -- Assumes nothing.
 use Prim.Native.Nat.{_-_}
 use native.Mathlib.Omega.{arith}

@@ -1,4 +1,4 @@
--- `automaton::first::first_step` meets its contract: a symbol that vanishes adds what begins the rest behind it.
+-- `items::first::first_step` meets its contract: a symbol that vanishes adds what begins the rest behind it.
 -- Assumes nothing.
 use mathlib.Core.Path.{sym, _∙_}
 use borrow.Author.Needs.{needs}

@@ -1,4 +1,4 @@
--- `automaton::nullable::null_pass` meets its contract: the rules below p have been visited.
+-- `items::nullable::null_pass` meets its contract: the rules below p have been visited.
 -- Assumes nothing.
 use Prim.Native.Nat.{_-_}
 use mathlib.Core.Path.{_≡_, refl, ap, _∙_}

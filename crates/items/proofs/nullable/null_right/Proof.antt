@@ -1,4 +1,4 @@
--- `automaton::nullable::null_right` meets its contract: the loop keeps `Vanishing`.
+-- `items::nullable::null_right` meets its contract: the loop keeps `Vanishing`.
 -- Assumes nothing.
 use Prim.Native.Nat.{_-_}
 use mathlib.Core.Path.{refl}

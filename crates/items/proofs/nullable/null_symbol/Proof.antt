@@ -1,4 +1,4 @@
--- `automaton::nullable::null_symbol` meets its contract: by the symbol's word.
+-- `items::nullable::null_symbol` meets its contract: by the symbol's word.
 -- Assumes nothing.
 use mathlib.Core.Path.{sym, ap, _∙_}
 use borrow.Author.Needs.{needs}

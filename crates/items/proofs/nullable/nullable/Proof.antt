@@ -1,4 +1,4 @@
--- `automaton::nullable::nullable` meets its contract: the passes still to come end at the same set.
+-- `items::nullable::nullable` meets its contract: the passes still to come end at the same set.
 -- Assumes nothing.
 use Rattle.items.specs.NullableLoops.{NullClosing, nullLeft, null-begins, null-turn, null-less, null-ends}
 use Rattle.items.proofs.nullable.nullable.Statement.{statement}

@@ -1,4 +1,4 @@
--- `automaton::passes::give` meets its contract: by the laws of `given`.
+-- `items::passes::give` meets its contract: by the laws of `given`.
 -- Assumes nothing.
 use mathlib.Core.Path.{refl}
 use borrow.Author.Needs.{needs}

@@ -1,4 +1,4 @@
--- `automaton::reach::dead_end` meets its contract: by the two words of the rest.
+-- `items::reach::dead_end` meets its contract: by the two words of the rest.
 -- Assumes nothing.
 use mathlib.Core.Path.{sym}
 use Rattle.items.specs.Rests.{dead-end, vanishing-end, beginning-end}

@@ -1,4 +1,4 @@
--- `automaton::reach::reach_pass` meets its contract: the rules below p have been visited.
+-- `items::reach::reach_pass` meets its contract: the rules below p have been visited.
 -- Assumes nothing.
 use Prim.Native.Nat.{_-_}
 use mathlib.Core.Path.{_∙_}

@@ -1,4 +1,4 @@
--- `automaton::reach::reach_rest` meets its contract: by the rest's first symbol and the words of the rest behind it.
+-- `items::reach::reach_rest` meets its contract: by the rest's first symbol and the words of the rest behind it.
 -- Assumes nothing.
 use native.Mathlib.Omega.{arith}
 use borrow.Author.Needs.{needs}

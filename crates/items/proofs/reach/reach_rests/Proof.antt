@@ -1,4 +1,4 @@
--- `automaton::reach::reach_rests` meets its contract: the loop keeps `Reaching`.
+-- `items::reach::reach_rests` meets its contract: the loop keeps `Reaching`.
 -- Assumes nothing.
 use Prim.Native.Nat.{_+_, _-_}
 use native.Mathlib.Omega.{arith}

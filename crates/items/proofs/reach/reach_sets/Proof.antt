@@ -1,4 +1,4 @@
--- `automaton::reach::reach_sets` meets its contract: the passes still to come end at the same sets.
+-- `items::reach::reach_sets` meets its contract: the passes still to come end at the same sets.
 -- Assumes nothing.
 use mathlib.Core.Path.{_∙_, ap}
 use lib.ListN.{length}

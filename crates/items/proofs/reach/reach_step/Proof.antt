@@ -1,4 +1,4 @@
--- `automaton::reach::reach_step` meets its contract: by the symbol's word and the three tests.
+-- `items::reach::reach_step` meets its contract: by the symbol's word and the three tests.
 -- Assumes nothing.
 use borrow.Author.Needs.{needs}
 use Rattle.items.specs.Rests.{reach-terminal, reach-dead, reach-past, reach-stops}

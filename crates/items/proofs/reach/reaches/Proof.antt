@@ -1,4 +1,4 @@
--- `automaton::reach::reaches` meets its contract: the words of the rules below p are right.
+-- `items::reach::reaches` meets its contract: the words of the rules below p are right.
 -- Assumes nothing.
 use Prim.Native.Nat.{_-_}
 use mathlib.Core.Path.{_∙_}

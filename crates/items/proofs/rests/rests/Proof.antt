@@ -1,4 +1,4 @@
--- `automaton::rests::rests` meets its contract: each call prepares what the next one asks.
+-- `items::rests::rests` meets its contract: each call prepares what the next one asks.
 -- Assumes nothing.
 use mathlib.Core.Path.{refl}
 use borrow.Author.Needs.{needs}

@@ -1,4 +1,4 @@
--- `automaton::starts::kernel_starts` meets its contract: the starts of the states up to s cut the lines by their states.
+-- `items::starts::kernel_starts` meets its contract: the starts of the states up to s cut the lines by their states.
 -- Assumes nothing.
 use Prim.Native.Nat.{_-_}
 use borrow.Author.Needs.{needs}

@@ -1,4 +1,4 @@
--- `automaton::starts::past` meets its contract: up to the line looked at, all lines are of the state.
+-- `items::starts::past` meets its contract: up to the line looked at, all lines are of the state.
 -- Assumes nothing.
 use Prim.Native.Nat.{_-_}
 use borrow.Author.Needs.{needs}

@@ -1,4 +1,4 @@
--- `automaton::suffixes::first_rests` meets its contract: the loop keeps `Backward`.
+-- `items::suffixes::first_rests` meets its contract: the loop keeps `Backward`.
 -- Assumes nothing.
 use Prim.Native.Nat.{_-_}
 use mathlib.Core.Path.{refl}

@@ -1,4 +1,4 @@
--- `automaton::suffixes::null_rests` meets its contract: the loop keeps `Backward`.
+-- `items::suffixes::null_rests` meets its contract: the loop keeps `Backward`.
 -- Assumes nothing.
 use Prim.Native.Nat.{_-_}
 use mathlib.Core.Path.{refl}

@@ -1,4 +1,4 @@
--- `automaton::suffixes::null_step` meets its contract: a symbol that vanishes leaves it to the rest behind it.
+-- `items::suffixes::null_step` meets its contract: a symbol that vanishes leaves it to the rest behind it.
 -- Assumes nothing.
 use mathlib.Core.Path.{sym, ap, _∙_}
 use borrow.Author.Needs.{needs}

@@ -1,4 +1,4 @@
--- `automaton::suffixes::suffixes` meets its contract: the words of the rules below p are right in both arrays.
+-- `items::suffixes::suffixes` meets its contract: the words of the rules below p are right in both arrays.
 -- Assumes nothing.
 use Prim.Native.Nat.{_-_}
 use mathlib.Core.Path.{_∙_}

@@ -1,4 +1,4 @@
--- `machine::action::action_of` meets its contract, test by test. Assumes nothing.
+-- `stack::action::action_of` meets its contract, test by test. Assumes nothing.
 use mathlib.Core.Path.{sym}
 use borrow.Author.Needs.{needs}
 use Rattle.stack.specs.Action.{code-free, code-shift, code-accept, code-conflict, code-reduce}

@@ -1,4 +1,4 @@
--- `machine::firsts::first_lines` meets its contract: the words of the rules up to p cut the lines by their rules. Assumes nothing.
+-- `stack::firsts::first_lines` meets its contract: the words of the rules up to p cut the lines by their rules. Assumes nothing.
 use Prim.Native.Nat.{_-_, _≤_}
 use native.Mathlib.Omega.{arith}
 use borrow.Author.Needs.{needs}

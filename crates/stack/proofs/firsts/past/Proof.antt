@@ -1,4 +1,4 @@
--- `machine::firsts::past` meets its contract: up to the line looked at, all lines are of the rule. Assumes nothing.
+-- `stack::firsts::past` meets its contract: up to the line looked at, all lines are of the rule. Assumes nothing.
 use Prim.Native.Nat.{_-_}
 use native.Mathlib.Omega.{arith}
 use borrow.Author.Needs.{needs}

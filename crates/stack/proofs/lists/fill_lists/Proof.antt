@@ -1,4 +1,4 @@
--- `machine::lists::fill_lists` meets its contract: the attributes passed are in the lists of their owners, for all owners that the array holds.
+-- `stack::lists::fill_lists` meets its contract: the attributes passed are in the lists of their owners, for all owners that the array holds.
 -- Assumes nothing.
 use Prim.Native.Nat.{ℕ, _*_, _-_, _≤_, _<_}
 use mathlib.Core.List.{List, []}

@@ -1,4 +1,4 @@
--- `machine::pushes::push_node` meets its contract: the record that is put on the stack leaves room for what its row gathers. Assumes nothing.
+-- `stack::pushes::push_node` meets its contract: the record that is put on the stack leaves room for what its row gathers. Assumes nothing.
 use native.Mathlib.Omega.{arith}
 use borrow.Author.Needs.{needs}
 use Rattle.stack.specs.Pushes.{gathers-same}

@@ -1,4 +1,4 @@
--- `machine::records::node_values` meets its contract: the record has the values of the definitions before the line looked at. Assumes nothing.
+-- `stack::records::node_values` meets its contract: the record has the values of the definitions before the line looked at. Assumes nothing.
 use Prim.Native.Nat.{_-_, _≤_}
 use mathlib.Core.Path.{_≡_}
 use mathlib.Core.List.{[]}

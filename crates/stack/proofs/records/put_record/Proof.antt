@@ -1,4 +1,4 @@
--- `machine::records::put_record` meets its contract: the words up to the one looked at are stored. Assumes nothing.
+-- `stack::records::put_record` meets its contract: the words up to the one looked at are stored. Assumes nothing.
 use Prim.Native.Nat.{_*_, _-_, _≤_}
 use mathlib.Core.Path.{_≡_}
 use native.Mathlib.Omega.{arith}

@@ -1,4 +1,4 @@
--- `machine::rows::gather` meets its contract: the words up to the one looked at are written. Assumes nothing.
+-- `stack::rows::gather` meets its contract: the words up to the one looked at are written. Assumes nothing.
 use Prim.Native.Nat.{_+_, _*_, _-_, _≤_, _<_}
 use native.Mathlib.Omega.{arith}
 use lib.ListN.{length, getD}

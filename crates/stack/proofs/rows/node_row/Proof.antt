@@ -1,4 +1,4 @@
--- `machine::rows::node_row` meets its contract. Assumes nothing.
+-- `stack::rows::node_row` meets its contract. Assumes nothing.
 use Prim.Native.Nat.{_*_}
 use mathlib.Core.Path.{_≡_}
 use native.Mathlib.Omega.{arith}

@@ -1,4 +1,4 @@
--- `machine::rows::token_row` meets its contract. Assumes nothing.
+-- `stack::rows::token_row` meets its contract. Assumes nothing.
 use mathlib.Core.Path.{refl}
 use native.Mathlib.Omega.{arith}
 use lib.ListN.{length-set}

@@ -1,0 +1,47 @@
+-- `items::leads::derives` meets its contract, by the words of the rule. Assumes nothing.
+use borrow.Author.Needs.{needs}
+use Rattle.items.proofs.leads.derives.Statement.{statement}
+use Rattle.items.proofs.leads.derives.Tie as tie
+use Rattle.items.specs.Leads.{derivesCode}
+
+mul-result : tie.Need-mul-result
+mul-result c = search needs
+
+add-result : tie.Need-add-result
+add-result c = search needs
+
+mul-result-2 : tie.Need-mul-result-2
+mul-result-2 c = search needs
+
+shared-slice-read-result : tie.Need-shared-slice-read-result
+shared-slice-read-result c = search needs
+
+mul-result-3 : tie.Need-mul-result-3
+mul-result-3 c = search needs
+
+add-result-2 : tie.Need-add-result-2
+add-result-2 c = search needs
+
+mul-result-4 : tie.Need-mul-result-4
+mul-result-4 c = search needs
+
+shared-slice-read-result-2 : tie.Need-shared-slice-read-result-2
+shared-slice-read-result-2 c = search needs
+
+returns : tie.Need-returns
+unfolding derivesCode
+returns c = search needs
+
+pub derives-spec : {M : Type 1} → statement M
+derives-spec =
+    tie.close
+    (tie.spec
+    mul-result
+    add-result
+    mul-result-2
+    shared-slice-read-result
+    mul-result-3
+    add-result-2
+    mul-result-4
+    shared-slice-read-result-2
+    returns)

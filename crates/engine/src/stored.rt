@@ -4,8 +4,8 @@ ghost use lib.ListN.{length};
 ghost use Rattle.grammar.specs.Limits.{MAX-TEXT};
 ghost use Rattle.engine.specs.Stored.{Found};
 use book::Book;
-use packing::packing::filled;
-use packing::packing::unpack;
+use packing::unpacking::filled;
+use packing::unpacking::unpack;
 
 // Whether words are the filling of the text in them, and how many bytes it has.
 pub struct Filling {

@@ -1,2 +1,3 @@
 // The words of a stored book.
 pub mod packing;
+pub mod unpacking;

@@ -1,12 +1,12 @@
--- `packing::put_whole` meets its contract: four stores.
+-- `unpacking::put_whole` meets its contract: four stores.
 -- Assumes nothing.
 use native.Mathlib.Omega.{arith}
 use lib.ListN.{length-set}
 use Rattle.packing.specs.Words.{bytesOf}
 use Rattle.packing.specs.PlacedLaws.{placed-four}
 use borrow.Author.Needs.{needs}
-use Rattle.packing.proofs.packing.put_whole.Statement.{statement}
-use Rattle.packing.proofs.packing.put_whole.Tie as tie
+use Rattle.packing.proofs.unpacking.put_whole.Statement.{statement}
+use Rattle.packing.proofs.unpacking.put_whole.Tie as tie
 
 cast-text : tie.Need-cast-text
 cast-text c = search needs

@@ -1,4 +1,4 @@
--- `packing::zeros` meets its contract: the loop keeps the bits of all words.
+-- `unpacking::zeros` meets its contract: the loop keeps the bits of all words.
 -- Assumes nothing.
 use Prim.Native.Nat.{_-_}
 use mathlib.Core.Path.{_≡_, refl}
@@ -6,8 +6,8 @@ use lib.ListN.{length, drop}
 use Rattle.packing.specs.Words.{gathered}
 use Rattle.packing.specs.PackingLoops.{gathering-turn, gathering-end}
 use borrow.Author.Needs.{needs}
-use Rattle.packing.proofs.packing.zeros.Statement.{statement}
-use Rattle.packing.proofs.packing.zeros.Tie as tie
+use Rattle.packing.proofs.unpacking.zeros.Statement.{statement}
+use Rattle.packing.proofs.unpacking.zeros.Tie as tie
 
 abbrev Inv-loop : tie.InvT-loop
 Inv-loop words n bits₀ i₀ bits i = gathered bits (drop i words) ≡ gathered 0 words

@@ -1,9 +1,9 @@
--- `packing::filled` meets its contract, by the laws of `filling`.
+-- `unpacking::filled` meets its contract, by the laws of `filling`.
 -- Assumes nothing.
 use Rattle.packing.specs.WordsLaws.{filling-whole, filling-more, filling-rest}
 use borrow.Author.Needs.{needs}
-use Rattle.packing.proofs.packing.filled.Statement.{statement}
-use Rattle.packing.proofs.packing.filled.Tie as tie
+use Rattle.packing.proofs.unpacking.filled.Statement.{statement}
+use Rattle.packing.proofs.unpacking.filled.Tie as tie
 
 returns : tie.Need-returns
 returns c = let k = c .before in

@@ -1,4 +1,4 @@
--- `packing::put_last` meets its contract: as many stores as bytes before the first that is 0.
+-- `unpacking::put_last` meets its contract: as many stores as bytes before the first that is 0.
 -- Assumes nothing.
 use mathlib.Core.List.{[]}
 use native.Mathlib.Omega.{arith}
@@ -8,8 +8,8 @@ use Rattle.packing.specs.Words.{bytesOf}
 use Rattle.packing.specs.WordsLaws.{none-first, none-second, none-third, none-fourth, all-four}
 use Rattle.packing.specs.PlacedLaws.{placed-none, placed-one, placed-two, placed-three, placed-four}
 use borrow.Author.Needs.{needs}
-use Rattle.packing.proofs.packing.put_last.Statement.{statement}
-use Rattle.packing.proofs.packing.put_last.Tie as tie
+use Rattle.packing.proofs.unpacking.put_last.Statement.{statement}
+use Rattle.packing.proofs.unpacking.put_last.Tie as tie
 
 returns : tie.Need-returns
 returns c = let a = c .before .args in

@@ -1,12 +1,12 @@
--- `packing::full` meets its contract, by the first byte that is 0.
+-- `unpacking::full` meets its contract, by the first byte that is 0.
 -- Assumes nothing.
 use mathlib.Core.Path.{refl}
 use mathlib.Core.List.{[]}
 use Rattle.grammar.specs.Format.Packing.{unpack}
 use Rattle.packing.specs.WordsLaws.{full-of, none-first, none-second, none-third, none-fourth, all-four}
 use Rattle.packing.specs.Words.{bytesOf}
-use Rattle.packing.proofs.packing.full.Statement.{statement}
-use Rattle.packing.proofs.packing.full.Tie as tie
+use Rattle.packing.proofs.unpacking.full.Statement.{statement}
+use Rattle.packing.proofs.unpacking.full.Tie as tie
 
 returns : tie.Need-returns
 returns c = full-of _ _ (none-first (c .before .args .word) _ (c .if1 .taken)) refl

@@ -9,9 +9,7 @@ use native.Mathlib.Numerals.{add-one}
 use lib.ListN.{length, getD, drop-of-length-le}
 use lib.Seq.{drop-cons, set-getD}
 use Rattle.sets.specs.Sets.{union}
-use Rattle.sets.specs.SetsLaws.{subset-union, subset-true}
 use Rattle.grammar.specs.Limits.{MAX-RULES, MAX-RIGHT}
-use Rattle.grammar.specs.Automaton.Members.{none-in}
 use Rattle.grammar.specs.Data.Symbol.{Symbol, terminal, nonterminal, Rule, rightOf, after}
 use Rattle.grammar.specs.Data.Book.{Book}
 use Rattle.grammar.specs.Automaton.Small.{numberOf, Low, low-at, Small}
@@ -24,6 +22,7 @@ use Rattle.book.specs.Held.{RulesIn}
 use Rattle.items.specs.Arrays.{flag, SuffixesIn}
 use Rattle.items.specs.Passes.{Told, told-same, given, visit-given}
 use Rattle.items.specs.SymbolCodes.{terminal-code, nonterminal-code, code-low}
+use Rattle.items.specs.Unions.{union-none}
 
 -- a grammar in arrays: its rules, and the sets of every rest of a rule
 pub record GrammarIn (b : Book) (F : Sets) (rules nulls firsts : List ℕ) : Type 0 where
@@ -36,9 +35,6 @@ pub record GrammarIn (b : Book) (F : Sets) (rules nulls firsts : List ℕ) : Typ
 -- ---- a visit by what stands behind the dot
 
 -- nothing is given
-union-none : (a : ℕ) → a < 2 ^ 32 → union a 0 ≡ a
-union-none a l = subset-union a 0 l (subset-true 0 a (λ i h e. none-in i e))
-
 module _ {n : ℕ} {sets : List ℕ} (S : Family n sets) where
   given-none : (target : ℕ) → given target 0 sets ≡ sets
   unfolding given

@@ -18,3 +18,5 @@ pub mod Rests
 pub mod Searches
 pub mod Starts
 pub mod SymbolCodes
+pub mod Turned
+pub mod Unions

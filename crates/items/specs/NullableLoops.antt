@@ -1,15 +1,13 @@
 -- What the loops that find the nullable nonterminals keep true: over a right side, over the rules, and over passes.
 -- Assumes nothing.
-use Prim.Native.Nat.{ℕ, _+_, _-_, _^_, _≤_, _<_}
+use Prim.Native.Nat.{ℕ, suc, _+_, _-_, _^_, _≤_, _<_}
 use mathlib.Core.Path.{_≡_, refl, sym, ap, _∙_}
 use mathlib.Core.Bool.{Bool, true, false}
 use mathlib.Core.List.{List, [], _∷_}
 use native.Mathlib.Omega.{arith}
-use native.Mathlib.Numerals.{add-one}
 use lib.ListN.{drop}
-use Rattle.sets.specs.Sets.{union, with}
-use Rattle.sets.specs.SetsLaws.{union-lt, subset-true, subset-union}
-use Rattle.grammar.specs.Automaton.Members.{none-in}
+use Rattle.sets.specs.Sets.{with}
+use Rattle.sets.specs.SetsLaws.{union-lt}
 use Rattle.grammar.specs.Data.Symbol.{rightOf}
 use Rattle.grammar.specs.Automaton.Fixpoint.{setAt, visit, visits, least}
 use Rattle.grammar.specs.Automaton.FirstSets.{nullIn, nullRule, nullable}
@@ -30,7 +28,9 @@ use Rattle.items.specs.GrammarOf.{
 }
 use Rattle.items.specs.Passes.{Told, Closing, left, closing-begins, closing-turn, closing-ends, closing-less, pass-told, told-same}
 use Rattle.items.specs.Rests.{nullSymbol, null-past, null-stops}
-use Rattle.items.specs.Searches.{null-fits}
+use Rattle.items.specs.Searches.{null-fits, null-rising}
+use Rattle.items.specs.Turned.{turned, turned-fits, turned-least}
+use Rattle.items.specs.Unions.{union-none}
 
 -- ---- over a right side, from the first symbol: what is asked of the whole is asked of the rest
 
@@ -63,67 +63,82 @@ module _ {words : List ℕ} {P nulls last d : ℕ} (R : Vanishing words P nulls 
 
 -- ---- over the rules
 
+-- those from p on have been visited
 pub record NullPassing (words : List ℕ) (count nulls found p : ℕ) : Type 0 where
   pub within : p ≤ count
   pub low : found < 2 ^ 32
-  pub found-is : (found ∷ []) ≡ visits (nullRule (grammarOf words count)) p (nulls ∷ [])
+  pub found-is : (found ∷ []) ≡ visits (turned (nullRule (grammarOf words count)) count) (count - p) (nulls ∷ [])
 
-union-none : (s : ℕ) → s < 2 ^ 32 → union s 0 ≡ s
-union-none s l = subset-union s 0 l (subset-true 0 s (λ i h e. none-in i e))
+pub null-passing : (words : List ℕ) (count nulls : ℕ) → nulls < 2 ^ 32 → NullPassing words count nulls nulls count
+unfolding visits
+null-passing words count nulls l = record {
+  within = omega arith;
+  low = l;
+  found-is = let none : count - count ≡ 0 = omega arith in rw none;
+}
 
-module _ {words : List ℕ} {count nulls found p : ℕ} (N : NullPassing words count nulls found p) (h : p < count)
-    {r : Bool} (e : r ≡ nullIn found (rightIn words p)) where
-  right-null : nullIn found (rightOf (grammarOf words count) p) ≡ r
-  right-null = ap (nullIn found) (right-is words count p h) ∙ sym e
+module _ {words : List ℕ} {count nulls found p : ℕ} (N : NullPassing words count nulls found p) where
+  pub null-visited : p ≤ 0 → (found ∷ []) ≡ visits (turned (nullRule (grammarOf words count)) count) count (nulls ∷ [])
+  null-visited h = let all : count - p ≡ count = omega arith in rw all at (N .found-is)
 
-  -- what the visit of rule p makes of the sets found so far
-  next-found : {next : ℕ} → (next ∷ []) ≡ visit (nullRule (grammarOf words count) p) (found ∷ [])
-      → (next ∷ []) ≡ visits (nullRule (grammarOf words count)) (p + 1) (nulls ∷ [])
-  unfolding visits
-  next-found q = q ∙ ap (visit (nullRule (grammarOf words count) p)) (N .found-is) ∙ rw (add-one p)
+  module _ (h : 0 < p) {r : Bool} (e : r ≡ nullIn found (rightIn words (p - 1))) where
+    inside : p - 1 < count
+    inside = omega (arith, N .within)
 
-  pub null-found : {next : ℕ} → r ≡ true → next ≡ with found (leftWord words p) → NullPassing words count nulls next (p + 1)
-  unfolding with
-  null-found {next} q w = record {
-    within = omega arith;
-    low = rw w (union-lt found _);
-    found-is = next-found visited;
-  }
-    where
-      visited : (next ∷ []) ≡ visit (nullRule (grammarOf words count) p) (found ∷ [])
-      visited = unfold visit nullRule with in rw (right-null ∙ q, nullRule, left-is words count p h, w)
+    right-null : nullIn found (rightOf (grammarOf words count) (p - 1)) ≡ r
+    right-null = ap (nullIn found) (right-is words count (p - 1) inside) ∙ sym e
 
-  pub null-left : r ≡ false → NullPassing words count nulls found (p + 1)
-  null-left q = record {
-    within = omega arith;
-    low = N .low;
-    found-is = next-found visited;
-  }
-    where
-      visited : (found ∷ []) ≡ visit (nullRule (grammarOf words count) p) (found ∷ [])
-      visited = unfold visit nullRule in rw (right-null ∙ q, nullRule, union-none found (N .low))
+    -- what the visit of the rule before makes of the sets found so far
+    next-found : {next : ℕ} → (next ∷ []) ≡ visit (nullRule (grammarOf words count) (p - 1)) (found ∷ [])
+        → (next ∷ []) ≡ visits (turned (nullRule (grammarOf words count)) count) (count - (p - 1)) (nulls ∷ [])
+    unfolding visits
+    next-found q =
+        let one : count - (p - 1) ≡ suc (count - p) = omega (arith, N .within) in
+        let here : count - 1 - (count - p) ≡ p - 1 = omega (arith, N .within) in
+        rw (one, here) (q ∙ ap (visit (nullRule (grammarOf words count) (p - 1))) (N .found-is))
+
+    pub null-found : {next : ℕ} → r ≡ true → next ≡ with found (leftWord words (p - 1)) → NullPassing words count nulls next (p - 1)
+    unfolding with
+    null-found {next} q w = record {
+      within = omega (arith, N .within);
+      low = rw w (union-lt found _);
+      found-is = next-found visited;
+    }
+      where
+        visited : (next ∷ []) ≡ visit (nullRule (grammarOf words count) (p - 1)) (found ∷ [])
+        visited = unfold visit nullRule with in rw (right-null ∙ q, nullRule, left-is words count (p - 1) inside, w)
+
+    pub null-left : r ≡ false → NullPassing words count nulls found (p - 1)
+    null-left q = record {
+      within = omega (arith, N .within);
+      low = N .low;
+      found-is = next-found visited;
+    }
+      where
+        visited : (found ∷ []) ≡ visit (nullRule (grammarOf words count) (p - 1)) (found ∷ [])
+        visited = unfold visit nullRule in rw (right-null ∙ q, nullRule, union-none found (N .low))
 
 -- ---- over passes
 
 pub record NullClosing (words : List ℕ) (count nulls next : ℕ) : Type 0 where
-  pub closing : Closing (nullRule (grammarOf words count)) count (0 ∷ []) (nulls ∷ [])
-  pub next-is : (next ∷ []) ≡ visits (nullRule (grammarOf words count)) count (nulls ∷ [])
+  pub closing : Closing (turned (nullRule (grammarOf words count)) count) count (0 ∷ []) (nulls ∷ [])
+  pub next-is : (next ∷ []) ≡ visits (turned (nullRule (grammarOf words count)) count) count (nulls ∷ [])
 
 abbrev pub nullLeft : ℕ → ℕ
 nullLeft nulls = left (nulls ∷ [])
 
 module _ {words : List ℕ} {count : ℕ} (F : GrammarFits words count) where
-  fits : Fits (nullRule (grammarOf words count)) count (0 ∷ [])
-  fits = null-fits F 0 (omega arith)
+  fits : Fits (turned (nullRule (grammarOf words count)) count) count (0 ∷ [])
+  fits = turned-fits (null-fits F 0 (omega arith))
 
-  pub null-begins : {next : ℕ} → (next ∷ []) ≡ visits (nullRule (grammarOf words count)) count (0 ∷ []) → NullClosing words count 0 next
+  pub null-begins : {next : ℕ} → (next ∷ []) ≡ visits (turned (nullRule (grammarOf words count)) count) count (0 ∷ []) → NullClosing words count 0 next
   null-begins e = record { closing = closing-begins fits; next-is = e }
 
   module _ {nulls next : ℕ} (N : NullClosing words count nulls next) where
-    more : (next ≡ nulls → ⊥) → Told (visits (nullRule (grammarOf words count)) count (nulls ∷ [])) (nulls ∷ []) (next ∷ []) true
+    more : (next ≡ nulls → ⊥) → Told (visits (turned (nullRule (grammarOf words count)) count) count (nulls ∷ [])) (nulls ∷ []) (next ∷ []) true
     more h = pass-told fits (N .closing) (N .next-is) (λ e. h cc)
 
-    pub null-turn : {after : ℕ} → (next ≡ nulls → ⊥) → (after ∷ []) ≡ visits (nullRule (grammarOf words count)) count (next ∷ [])
+    pub null-turn : {after : ℕ} → (next ≡ nulls → ⊥) → (after ∷ []) ≡ visits (turned (nullRule (grammarOf words count)) count) count (next ∷ [])
         → NullClosing words count next after
     null-turn h e = record { closing = closing-turn fits (N .closing) (more h); next-is = e }
 
@@ -133,6 +148,7 @@ module _ {words : List ℕ} {count : ℕ} (F : GrammarFits words count) where
     pub null-ends : next ≡ nulls → nulls ≡ nullable (grammarOf words count)
     unfolding nullable
     null-ends q =
-        let still : visits (nullRule (grammarOf words count)) count (nulls ∷ []) ≡ nulls ∷ [] = sym (N .next-is) ∙ ap (λ (s : ℕ). s ∷ []) q in
-        ap (λ (l : List ℕ). setAt l 0) (closing-ends fits (N .closing) (told-same still) refl)
+        let still : visits (turned (nullRule (grammarOf words count)) count) count (nulls ∷ []) ≡ nulls ∷ [] = sym (N .next-is) ∙ ap (λ (s : ℕ). s ∷ []) q in
+        ap (λ (l : List ℕ). setAt l 0)
+        (closing-ends fits (N .closing) (told-same still) refl ∙ turned-least (null-fits F 0 (omega arith)) (null-rising (grammarOf words count) count))
         ∙ ap (λ (n : ℕ). setAt (least (nullRule (grammarOf words count)) n (0 ∷ [])) 0) (sym (grammar-size words count))

@@ -1,12 +1,16 @@
--- The constraints of nullable, FIRST and the reached sets, for a grammar that an array holds: they fit the laws of passes.
+-- The constraints of nullable, FIRST and the reached sets, for a grammar that an array holds: they fit the laws of passes, in either order.
 -- Assumes nothing.
 use Prim.Native.Nat.{ℕ, zero, suc, _^_, _<_}
+use mathlib.Core.Path.{_≡_, refl, sym}
+use mathlib.Core.Bool.{Bool, true, false}
+use mathlib.Core.Logic.{⊎-elim}
 use mathlib.Core.List.{List, [], _∷_}
 use native.Mathlib.Omega.{arith}
 use lib.ListN.{length}
 use Rattle.sets.specs.Sets.{bit, single, union}
-use Rattle.sets.specs.SetsLaws.{single-lt, union-lt}
-use Rattle.grammar.specs.Automaton.TestLaws.{by-test}
+use Rattle.sets.specs.SetsLaws.{bit-lt, single-lt, union-lt, union-left, union-right, union-either}
+use Rattle.grammar.specs.Automaton.TestLaws.{by-test, true-false}
+use Rattle.grammar.specs.Automaton.Members.{none-in}
 use Rattle.grammar.specs.Data.Symbol.{Symbol, terminal, nonterminal, Rule, leftOf, rightOf}
 use Rattle.grammar.specs.Automaton.Small.{Low}
 use Rattle.grammar.specs.Automaton.Fixpoint.{setAt}
@@ -14,10 +18,56 @@ use Rattle.grammar.specs.Automaton.LeastLaws.{Family, Fits}
 use Rattle.grammar.specs.Automaton.FirstSets.{nullIn, firstIn, nullRule, firstRule, Sets, null, first}
 use Rattle.grammar.specs.Automaton.ReachSets.{dead, reachIn, reachRule}
 use Rattle.items.specs.GrammarOf.{GrammarFits, grammarOf, grammar-size, grammar-small}
+use Rattle.items.specs.Turned.{Inside, Rising}
+
+-- ---- larger sets are given no less
+
+null-more : (small large : ℕ) → ((B : ℕ) → bit small B ≡ true → bit large B ≡ true) → (β : List Symbol) → nullIn small β ≡ true → nullIn large β ≡ true
+unfolding nullIn
+null-more small large w [] e = refl
+null-more small large w (terminal a ∷ β) e = true-false refl (sym e)
+null-more small large w (nonterminal B ∷ β) e = go (bit small B) refl (null-more small large w β)
+  where
+    go : (t : Bool) → bit small B ≡ t → (nullIn small β ≡ true → nullIn large β ≡ true) → nullIn large (nonterminal B ∷ β) ≡ true
+    go true q rest = rw (w B q, nullIn) (rest (rw (q, nullIn) at e))
+    go false q rest = true-false refl (sym (rw (q, nullIn) at e))
+
+pub first-more : (nulls : ℕ) (small large : List ℕ) → Inside small large → (β : List Symbol) (a : ℕ)
+    → bit (firstIn nulls small β) a ≡ true → bit (firstIn nulls large β) a ≡ true
+unfolding firstIn
+first-more nulls small large w [] a e = e
+first-more nulls small large w (terminal c ∷ β) a e = e
+first-more nulls small large w (nonterminal B ∷ β) a e = go (bit nulls B) refl (first-more nulls small large w β a)
+  where
+    go : (t : Bool) → bit nulls B ≡ t → (bit (firstIn nulls small β) a ≡ true → bit (firstIn nulls large β) a ≡ true)
+        → bit (firstIn nulls large (nonterminal B ∷ β)) a ≡ true
+    go true q rest =
+        let u : bit (union (setAt small B) (firstIn nulls small β)) a ≡ true = rw (q, firstIn) at e in
+        let l : a < 32 = bit-lt _ a (union-lt _ _) u in
+        rw (q, firstIn) (⊎-elim (λ s. union-left (setAt large B) _ a l (w B a s)) (λ s. union-right (setAt large B) _ a l (rest s)) (union-either _ _ a l u))
+    go false q rest = rw (q, firstIn) (w B a (rw (q, firstIn) at e))
+
+null-gives : (G : List Rule) (P : ℕ) (family : List ℕ) → nullIn (setAt family 0) (rightOf G P) ≡ true
+    → (nullRule G P) .gives family ≡ single (leftOf G P)
+unfolding nullRule
+null-gives G P family n = rw (n, nullRule)
+
+pub null-rising : (G : List Rule) (count : ℕ) → Rising (nullRule G) count
+null-rising G count = record { rises = λ p l small large w. more p small large w }
+  where
+    more : (p : ℕ) (small large : List ℕ) → Inside small large → (a : ℕ) → bit ((nullRule G p) .gives small) a ≡ true
+        → bit ((nullRule G p) .gives large) a ≡ true
+    more p small large w a = unfold nullRule in
+        by-test (nullIn (setAt small 0) (rightOf G p)) (single (leftOf G p)) 0 (λ x. bit x a ≡ true → bit ((nullRule G p) .gives large) a ≡ true)
+        (λ n e. rw (null-gives G p large (null-more (setAt small 0) (setAt large 0) (w 0) (rightOf G p) n)) e) (λ _ e. none-in a e)
+
+pub first-rising : (G : List Rule) (nulls count : ℕ) → Rising (firstRule G nulls) count
+unfolding firstRule
+first-rising G nulls count = record { rises = λ p l small large w. first-more nulls small large w (rightOf G p) }
 
 -- ---- sets of numbers below 32
 
-first-lt : (nulls : ℕ) (firsts : List ℕ) → ((i : ℕ) → setAt firsts i < 2 ^ 32) → (β : List Symbol) → Low β → firstIn nulls firsts β < 2 ^ 32
+pub first-lt : (nulls : ℕ) (firsts : List ℕ) → ((i : ℕ) → setAt firsts i < 2 ^ 32) → (β : List Symbol) → Low β → firstIn nulls firsts β < 2 ^ 32
 unfolding firstIn
 first-lt nulls firsts f [] l = omega arith
 first-lt nulls firsts f (terminal a ∷ β) l = single-lt a (l .0)
@@ -45,7 +95,7 @@ module _ {words : List ℕ} {count : ℕ} (F : GrammarFits words count) where
   low-right : (P : ℕ) → P < count → Low (rightOf G P)
   low-right P h = grammar-small words count F .right-low P (inside h)
 
-  -- ---- the constraints
+  -- ---- the constraints fit
 
   pub null-fits : (nulls : ℕ) → nulls < 2 ^ 32 → Fits (nullRule G) count (nulls ∷ [])
   unfolding nullRule

@@ -9,6 +9,7 @@ ghost use Rattle.grammar.specs.Automaton.FirstSets.{firstIn, firstRule, firstSe
 ghost use Rattle.items.specs.GrammarOf.{symbolOf, sizeWord, rightIn, grammarOf, RuleFits, GrammarFits};
 ghost use Rattle.items.specs.Passes.{Told};
 ghost use Rattle.items.specs.Rests.{beginsWith};
+ghost use Rattle.items.specs.Turned.{turned};
 use super::nullable::null_symbol;
 use super::passes::give;
 use super::rules::left;
@@ -16,7 +17,7 @@ use super::rules::size;
 use super::rules::symbol;
 
 // What can begin a symbol.
-fn begins_with(word: u32, firsts: &[u32]) -> u32
+pub fn begins_with(word: u32, firsts: &[u32]) -> u32
     requires { ⌜ (word < 64) × (length (now firsts) ≡ 32) ⌝ }
     ensures { λ r. ⌜ r ≡ beginsWith (now (firsts .entry)) (symbolOf word) ⌝ }
 {
@@ -38,35 +39,39 @@ pub fn first_step(word: u32, nulls: u32, firsts: &[u32], behind: u32) -> u32
     own
 }
 
-// What can begin the rest of rule p after d symbols: symbol by symbol from the last.
-fn first_rest(rules: &[u32], p: usize, d: usize, nulls: u32, firsts: &[u32]) -> u32
-    requires { ⌜ RuleFits (now rules) p × (d ≤ sizeWord (now rules) p) × (length (now firsts) ≡ 32) ⌝ }
-    ensures { λ r. ⌜ r ≡ firstIn nulls (now (firsts .entry)) (drop d (rightIn (now (rules .entry)) p)) ⌝ }
+// What can begin the right side of rule p: symbol by symbol, to the first that does not vanish.
+fn first_right(rules: &[u32], p: usize, nulls: u32, firsts: &[u32]) -> u32
+    requires { ⌜ RuleFits (now rules) p × (length (now firsts) ≡ 32) ⌝ }
+    ensures { λ r. ⌜ r ≡ firstIn nulls (now (firsts .entry)) (rightIn (now (rules .entry)) p) ⌝ }
 {
-    let mut at = size(rules, p);
+    let last = size(rules, p);
     let mut found = 0;
-    while d < at {
-        at -= 1;
-        found = first_step(symbol(rules, p, at), nulls, firsts, found);
+    let mut d = 0;
+    while d < last {
+        let word = symbol(rules, p, d);
+        found = sets::union(found, begins_with(word, firsts));
+        if !null_symbol(word, nulls) {
+            return found;
+        }
+        d += 1;
     }
     found
 }
 
-// Gives each rule's left side what can begin its right side; whether anything changed.
+// Gives each rule's left side what can begin its right side, from the last rule to the first; whether anything changed.
 fn first_pass(rules: &[u32], count: u32, nulls: u32, firsts: &mut [u32]) -> bool
     requires { ⌜ GrammarFits (now rules) count × (length (now firsts) ≡ 32) ⌝ }
-    ensures { λ r. ⌜ Told (visits (firstRule (grammarOf (now (rules .entry)) count) nulls) count (now (firsts .entry)))
+    ensures { λ r. ⌜ Told (visits (turned (firstRule (grammarOf (now (rules .entry)) count) nulls) count) count (now (firsts .entry)))
         (now (firsts .entry)) (now (firsts .exit)) r ⌝ }
 {
-    let rules_count = count as usize;
     let mut changed = false;
-    let mut p = 0;
-    while p < rules_count {
-        let more = first_rest(rules, p, 0, nulls, firsts);
+    let mut p = count as usize;
+    while 0 < p {
+        p -= 1;
+        let more = first_right(rules, p, nulls, firsts);
         if give(firsts, left(rules, p), more) {
             changed = true;
         }
-        p += 1;
     }
     changed
 }

@@ -6,6 +6,7 @@ ghost use Rattle.grammar.specs.Automaton.Fixpoint.{visits};
 ghost use Rattle.grammar.specs.Automaton.FirstSets.{nullIn, nullRule, nullable};
 ghost use Rattle.items.specs.GrammarOf.{symbolOf, rightIn, grammarOf, RuleFits, GrammarFits};
 ghost use Rattle.items.specs.Rests.{nullSymbol};
+ghost use Rattle.items.specs.Turned.{turned};
 use super::rules::left;
 use super::rules::size;
 use super::rules::symbol;
@@ -37,19 +38,18 @@ fn null_right(rules: &[u32], p: usize, nulls: u32) -> bool
     true
 }
 
-// `nulls` with the left side of every rule that it makes nullable, rule after rule.
+// `nulls` with the left side of every rule that it makes nullable, from the last rule to the first: most rules use nonterminals of later ones.
 fn null_pass(rules: &[u32], count: u32, nulls: u32) -> u32
     requires { ⌜ GrammarFits (now rules) count ⌝ }
-    ensures { λ r. ⌜ (r ∷ []) ≡ visits (nullRule (grammarOf (now (rules .entry)) count)) count (nulls ∷ []) ⌝ }
+    ensures { λ r. ⌜ (r ∷ []) ≡ visits (turned (nullRule (grammarOf (now (rules .entry)) count)) count) count (nulls ∷ []) ⌝ }
 {
-    let rules_count = count as usize;
     let mut found = nulls;
-    let mut p = 0;
-    while p < rules_count {
+    let mut p = count as usize;
+    while 0 < p {
+        p -= 1;
         if null_right(rules, p, found) {
             found = sets::with(found, left(rules, p));
         }
-        p += 1;
     }
     found
 }

@@ -13,8 +13,6 @@ use borrow.Author.Tests.{eqb-true, eqb-false}
 use Rattle.sets.specs.Bits.{below-suc}
 use Rattle.grammar.specs.Limits.{MAX-RULES}
 use Rattle.grammar.specs.Data.Symbol.{Symbol, rightOf, after}
-use Rattle.grammar.specs.Automaton.FirstSets.{nullIn, firstIn, sets, null, first}
-use Rattle.items.specs.Arrays.{flag, SuffixesIn}
 use Rattle.items.specs.GrammarOf.{
   symbolOf,
   sizeWord,
@@ -109,14 +107,14 @@ module _ (f : List Symbol → ℕ) {words : List ℕ} {P : ℕ} {old : List ℕ}
     kept : Filled (ofRest f words P) (9 * P) d (sizeWord words P + 1) old (set now (9 * P + d) behind)
     kept = fill-down (B .filled) d (omega (arith, R .below, R .size-low, B .within)) (B .behind-is) refl
 
-    pub backward-turn : 0 < d → {word next : ℕ} → word ≡ symbolWord words P (d - 1)
-        → ((β : List Symbol) → behind ≡ f β → next ≡ f (symbolOf word ∷ β)) → Backward f words P old (set now (9 * P + d) behind) (d - 1) next
-    backward-turn l {word} e step = record {
+    pub backward-turn : 0 < d → {word next : ℕ} → word ≡ symbolWord words P (d - 1) → next ≡ f (symbolOf word ∷ drop d (rightIn words P))
+        → Backward f words P old (set now (9 * P + d) behind) (d - 1) next
+    backward-turn l {word} e q = record {
       within = omega (arith, B .within);
       filled =
-          let q : d ≡ d - 1 + 1 = omega arith in
-          subst (λ (n : ℕ). Filled (ofRest f words P) (9 * P) n (sizeWord words P + 1) old (set now (9 * P + d) behind)) q kept;
-      behind-is = step (drop d (rightIn words P)) (B .behind-is) ∙ ap f (rw e (sym (rest-before words P d l (B .within))));
+          let one : d ≡ d - 1 + 1 = omega arith in
+          subst (λ (n : ℕ). Filled (ofRest f words P) (9 * P) n (sizeWord words P + 1) old (set now (9 * P + d) behind)) one kept;
+      behind-is = q ∙ ap f (rw e (sym (rest-before words P d l (B .within))));
     }
 
     pub backward-ends : d ≤ 0 → RestsAre f words P old (set now (9 * P) behind)
@@ -146,15 +144,3 @@ module _ (f : List Symbol → ℕ) {words : List ℕ} {count : ℕ} {old : List 
         let e : rightOf (grammarOf words count) P ≡ rightIn words P = right-is words count P i in
         let n : D ≤ sizeWord words P = rw (e, right-size words P) at m in
         R .rules .word-is P D (omega arith) n ∙ ap (λ (β : List Symbol). f (drop D β)) (sym e)
-
--- both arrays, when all rules are done
-pub suffixes-done : (nulls : ℕ) (firsts : List ℕ) {words : List ℕ} {count p : ℕ} {old old₁ vanishes begins : List ℕ}
-    → RestsFilled (λ β. flag (nullIn nulls β)) words count old vanishes p → RestsFilled (firstIn nulls firsts) words count old₁ begins p → count ≤ p
-    → length old ≡ 9 * MAX-RULES → length old₁ ≡ 9 * MAX-RULES → SuffixesIn (grammarOf words count) (sets nulls firsts) vanishes begins
-unfolding null first
-suffixes-done nulls firsts A B h l m = record {
-  nulls-long = A .rules .long ∙ l;
-  firsts-long = B .rules .long ∙ m;
-  null-is = rests-end (λ β. flag (nullIn nulls β)) A h;
-  first-is = rests-end (firstIn nulls firsts) B h;
-}

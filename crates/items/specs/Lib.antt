@@ -1,6 +1,7 @@
 pub mod Arrays
 pub mod ClosurePasses
 pub mod Closures
+pub mod Copying
 pub mod Derives
 pub mod Filling
 pub mod FirstLoops
@@ -8,6 +9,7 @@ pub mod GrammarIn
 pub mod GrammarOf
 pub mod KernelLines
 pub mod Leads
+pub mod Living
 pub mod NoItems
 pub mod NullableLoops
 pub mod Part
@@ -17,6 +19,7 @@ pub mod RestSets
 pub mod Rests
 pub mod Searches
 pub mod Starts
+pub mod SuffixLoops
 pub mod SymbolCodes
 pub mod Turned
 pub mod Unions

@@ -62,6 +62,23 @@ pub record RestIs (F : Sets) (β : List Symbol) (vanishes begins : ℕ) : Type 0
   pub null-is : vanishes ≡ flag (null F β)
   pub first-is : begins ≡ first F β
 
+-- of a symbol with a rest behind it, by the tests that were made
+module _ {nulls : ℕ} {firsts : List ℕ} {β : List Symbol} {X : Symbol} {vanishes begins own : ℕ} {r : Bool} (R : RestIs (sets nulls firsts) β vanishes begins)
+    (o : own ≡ beginsWith firsts X) (t : r ≡ nullSymbol nulls X) where
+  pub rest-past : r ≡ true → {u : ℕ} → u ≡ union own begins → RestIs (sets nulls firsts) (X ∷ β) vanishes u
+  unfolding null first
+  rest-past q e = record {
+    null-is = R .null-is ∙ sym (ap flag (null-past nulls X β (sym t ∙ q)));
+    first-is = e ∙ rw (o, R .first-is) (sym (first-past nulls firsts X β (sym t ∙ q)));
+  }
+
+  pub rest-stops : r ≡ false → RestIs (sets nulls firsts) (X ∷ β) 0 own
+  unfolding null first flag
+  rest-stops q = record {
+    null-is = sym (ap flag (null-stops nulls X β (sym t ∙ q)));
+    first-is = o ∙ sym (first-stops nulls firsts X β (sym t ∙ q));
+  }
+
 -- of every rest of β, the words from a place on
 pub record RestsIn (F : Sets) (β : List Symbol) (place : ℕ) (vanishes begins : List ℕ) : Type 0 where
   pub rest-is : (D : ℕ) → D ≤ length β → RestIs F (drop D β) (getD vanishes (place + D) 0) (getD begins (place + D) 0)
@@ -95,7 +112,7 @@ module _ {F : Sets} {β : List Symbol} {vanishes begins : ℕ} (R : RestIs F β 
       go true e = rw (e, dead)
       go false e = rw (e, dead) (ne-eqb (first F β) 0 (λ q. b (R .first-is ∙ q)))
 
-null-one : (F : Sets) (B : ℕ) → null F (nonterminal B ∷ []) ≡ bit (nullsOf F) B
+pub null-one : (F : Sets) (B : ℕ) → null F (nonterminal B ∷ []) ≡ bit (nullsOf F) B
 unfolding null nullIn nullsOf
 null-one (sets nulls firsts) B = go (bit nulls B) refl
   where

@@ -52,6 +52,21 @@ null-gives : (G : List Rule) (P : ℕ) (family : List ℕ) → nullIn (setAt fam
 unfolding nullRule
 null-gives G P family n = rw (n, nullRule)
 
+reach-more : (F : Sets) (small large : List ℕ) → Inside small large → (β : List Symbol) (a : ℕ)
+    → bit (reachIn F small β) a ≡ true → bit (reachIn F large β) a ≡ true
+unfolding reachIn
+reach-more F small large w [] a e = e
+reach-more F small large w (terminal c ∷ β) a e = e
+reach-more F small large w (nonterminal B ∷ β) a e = by (dead F β) refl (null F (nonterminal B ∷ [])) refl
+  where
+    by : (t : Bool) → dead F β ≡ t → (s : Bool) → null F (nonterminal B ∷ []) ≡ s → bit (reachIn F large (nonterminal B ∷ β)) a ≡ true
+    by true d s n = none-in a (rw (d, reachIn) at e)
+    by false d true n =
+        let u : bit (union (setAt small B) (first F β)) a ≡ true = rw (d, n, reachIn) at e in
+        let l : a < 32 = bit-lt _ a (union-lt _ _) u in
+        rw (d, n, reachIn) (⊎-elim (λ s. union-left (setAt large B) _ a l (w B a s)) (union-right (setAt large B) _ a l) (union-either _ _ a l u))
+    by false d false n = rw (d, n, reachIn) (w B a (rw (d, n, reachIn) at e))
+
 pub null-rising : (G : List Rule) (count : ℕ) → Rising (nullRule G) count
 null-rising G count = record { rises = λ p l small large w. more p small large w }
   where
@@ -64,6 +79,10 @@ null-rising G count = record { rises = λ p l small large w. more p small large 
 pub first-rising : (G : List Rule) (nulls count : ℕ) → Rising (firstRule G nulls) count
 unfolding firstRule
 first-rising G nulls count = record { rises = λ p l small large w. first-more nulls small large w (rightOf G p) }
+
+pub reach-rising : (G : List Rule) (F : Sets) (count : ℕ) → Rising (reachRule G F) count
+unfolding reachRule
+reach-rising G F count = record { rises = λ p l small large w. reach-more F small large w (rightOf G p) }
 
 -- ---- sets of numbers below 32
 

@@ -1,12 +1,10 @@
 // What can begin a string of symbols, and for each nonterminal what can begin what it derives.
 ghost use mathlib.Core.Path.{_≡_};
-ghost use mathlib.Core.List.{List, _∷_};
-ghost use Prim.Native.Nat.{_<_, _≤_};
-ghost use lib.ListN.{length, drop, replicate};
-ghost use Rattle.grammar.specs.Data.Symbol.{Symbol};
+ghost use Prim.Native.Nat.{_<_};
+ghost use lib.ListN.{length, replicate};
 ghost use Rattle.grammar.specs.Automaton.Fixpoint.{visits};
 ghost use Rattle.grammar.specs.Automaton.FirstSets.{firstIn, firstRule, firstSets};
-ghost use Rattle.items.specs.GrammarOf.{symbolOf, sizeWord, rightIn, grammarOf, RuleFits, GrammarFits};
+ghost use Rattle.items.specs.GrammarOf.{symbolOf, rightIn, grammarOf, RuleFits, GrammarFits};
 ghost use Rattle.items.specs.Passes.{Told};
 ghost use Rattle.items.specs.Rests.{beginsWith};
 ghost use Rattle.items.specs.Turned.{turned};
@@ -25,18 +23,6 @@ pub fn begins_with(word: u32, firsts: &[u32]) -> u32
         return sets::single(word);
     }
     firsts[(word - 32) as usize]
-}
-
-// What can begin a symbol with a rest behind it, of which `behind` is told.
-pub fn first_step(word: u32, nulls: u32, firsts: &[u32], behind: u32) -> u32
-    requires { ⌜ (word < 64) × (length (now firsts) ≡ 32) ⌝ }
-    ensures { λ r. ⌜ ((β : List Symbol) → behind ≡ firstIn nulls (now (firsts .entry)) β → r ≡ firstIn nulls (now (firsts .entry)) (symbolOf word ∷ β)) ⌝ }
-{
-    let own = begins_with(word, firsts);
-    if null_symbol(word, nulls) {
-        return sets::union(own, behind);
-    }
-    own
 }
 
 // What can begin the right side of rule p: symbol by symbol, to the first that does not vanish.

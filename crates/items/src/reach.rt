@@ -20,7 +20,7 @@ use super::rules::size;
 use super::rules::symbol;
 
 // Whether nothing can follow where a rest stands: it does not vanish, and nothing can begin it.
-fn dead_end(vanishes: u32, begins: u32) -> bool
+pub fn dead_end(vanishes: u32, begins: u32) -> bool
     ensures { λ r. ⌜ ((F : Sets) (β : List Symbol) → RestIs F β vanishes begins → r ≡ dead F β) ⌝ }
 {
     if vanishes != 0 {
@@ -101,7 +101,7 @@ fn reach_pass(
 }
 
 // What is reached through every nonterminal: passes until one changes nothing.
-pub fn reach_sets(
+fn reach_sets(
     rules: &[u32],
     count: u32,
     nulls: u32,
@@ -139,7 +139,7 @@ fn reach_rests(
 }
 
 // The array, rule by rule.
-pub fn reaches(
+fn fill_reaches(
     rules: &[u32],
     count: u32,
     nulls: u32,
@@ -158,4 +158,22 @@ pub fn reaches(
         reach_rests(rules, p, nulls, vanishes, begins, reached, reaches);
         p += 1;
     }
+}
+
+// The array of a grammar, by the reached sets.
+pub fn reaches(
+    rules: &[u32],
+    count: u32,
+    nulls: u32,
+    vanishes: &[u32],
+    begins: &[u32],
+    reaches: &mut [u32],
+)
+    requires { ⌜ SetsIn (now rules) count nulls (now vanishes) (now begins) × (length (now reaches) ≡ 9 * MAX-RULES) ⌝ }
+    ensures { λ _. ⌜ ReachesIn (grammarOf (now (rules .entry)) count) (setsOf (grammarOf (now (rules .entry)) count))
+        (reachSets (grammarOf (now (rules .entry)) count) (setsOf (grammarOf (now (rules .entry)) count))) (now (reaches .exit)) ⌝ }
+{
+    let mut reached = [0u32; 32];
+    reach_sets(rules, count, nulls, vanishes, begins, &mut reached);
+    fill_reaches(rules, count, nulls, vanishes, begins, &reached, reaches);
 }

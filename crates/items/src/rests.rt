@@ -9,11 +9,11 @@ ghost use Rattle.items.specs.GrammarOf.{GrammarHeld};
 ghost use Rattle.items.specs.RestSets.{RestSetsIn};
 use super::first::first_sets;
 use super::nullable::nullable;
-use super::reach::reach_sets;
 use super::reach::reaches;
 use super::suffixes::suffixes;
+use super::words::copy;
 
-// Fills three arrays of nine words a rule.
+// Fills three arrays of nine words a rule. Where no rest is a dead end, what is reached is what can begin.
 pub fn rests(
     rules: &[u32],
     count: u32,
@@ -29,8 +29,9 @@ pub fn rests(
     let nulls = nullable(rules, count);
     let mut firsts = [0u32; 32];
     first_sets(rules, count, nulls, &mut firsts);
-    suffixes(rules, count, nulls, &firsts, vanishes, begins);
-    let mut inside = [0u32; 32];
-    reach_sets(rules, count, nulls, vanishes, begins, &mut inside);
-    reaches(rules, count, nulls, vanishes, begins, &inside, reached);
+    if suffixes(rules, count, nulls, &firsts, vanishes, begins) {
+        copy(begins, 9 * (count as usize), reached);
+    } else {
+        reaches(rules, count, nulls, vanishes, begins, reached);
+    }
 }

@@ -1,61 +1,81 @@
 // Of every rule's rest after every dot, whether it vanishes and what can begin it: nine words a rule.
 ghost use mathlib.Core.Path.{_≡_};
+ghost use mathlib.Core.Bool.{true};
 ghost use mathlib.Core.List.{List, _∷_};
 ghost use Prim.Native.Nat.{_<_, _*_};
 ghost use lib.ListN.{length};
 ghost use Rattle.grammar.specs.Limits.{MAX-RULES};
 ghost use Rattle.grammar.specs.Data.Symbol.{Symbol};
-ghost use Rattle.grammar.specs.Automaton.FirstSets.{nullIn, firstIn, sets};
-ghost use Rattle.items.specs.Arrays.{flag, SuffixesIn};
+ghost use Rattle.grammar.specs.Automaton.FirstSets.{sets};
+ghost use Rattle.items.specs.Arrays.{SuffixesIn};
 ghost use Rattle.items.specs.GrammarOf.{symbolOf, grammarOf, RuleFits, GrammarFits};
-ghost use Rattle.items.specs.Filling.{RestsAre};
-use super::first::first_step;
+ghost use Rattle.items.specs.Living.{Living};
+ghost use Rattle.items.specs.Rests.{RestIs};
+ghost use Rattle.items.specs.SuffixLoops.{RuleSuffixes};
+use super::first::begins_with;
 use super::nullable::null_symbol;
+use super::reach::dead_end;
 use super::rules::size;
 use super::rules::symbol;
 
-// Whether a symbol with a rest behind it vanishes, where `behind` tells it of the rest.
-fn null_step(word: u32, nulls: u32, behind: u32) -> u32
-    requires { ⌜ word < 64 ⌝ }
-    ensures { λ r. ⌜ ((β : List Symbol) → behind ≡ flag (nullIn nulls β) → r ≡ flag (nullIn nulls (symbolOf word ∷ β))) ⌝ }
+// What is told of a rest.
+pub struct Rest {
+    pub vanishes: u32,
+    pub begins: u32,
+}
+
+// Of a symbol with a rest behind it.
+fn longer(word: u32, nulls: u32, firsts: &[u32], rest: Rest) -> Rest
+    requires { ⌜ (word < 64) × (length (now firsts) ≡ 32) ⌝ }
+    ensures { λ r. ⌜ ((β : List Symbol) → RestIs (sets nulls (now (firsts .entry))) β (rest .vanishes) (rest .begins)
+        → RestIs (sets nulls (now (firsts .entry))) (symbolOf word ∷ β) (r .vanishes) (r .begins)) ⌝ }
 {
+    let own = begins_with(word, firsts);
     if null_symbol(word, nulls) {
-        return behind;
+        return Rest {
+            vanishes: rest.vanishes,
+            begins: sets::union(own, rest.begins),
+        };
     }
-    0
+    Rest {
+        vanishes: 0,
+        begins: own,
+    }
 }
 
-// Rule p's words, from the last dot to the first: whether the rest vanishes.
-fn null_rests(rules: &[u32], p: usize, nulls: u32, vanishes: &mut [u32])
-    requires { ⌜ RuleFits (now rules) p × (length (now vanishes) ≡ 9 * MAX-RULES) ⌝ }
-    ensures { λ _. ⌜ RestsAre (λ β. flag (nullIn nulls β)) (now (rules .entry)) p (now (vanishes .entry)) (now (vanishes .exit)) ⌝ }
+// Rule p's words in both arrays, from the last dot to the first; whether something can follow wherever a rest stands.
+fn rule_suffixes(
+    rules: &[u32],
+    p: usize,
+    nulls: u32,
+    firsts: &[u32],
+    vanishes: &mut [u32],
+    begins: &mut [u32],
+) -> bool
+    requires { ⌜ RuleFits (now rules) p × (length (now firsts) ≡ 32) ⌝ }
+    requires { ⌜ (length (now vanishes) ≡ 9 * MAX-RULES) × (length (now begins) ≡ 9 * MAX-RULES) ⌝ }
+    ensures { λ r. ⌜ RuleSuffixes (now (rules .entry)) p nulls (now (firsts .entry))
+        (now (vanishes .entry)) (now (vanishes .exit)) (now (begins .entry)) (now (begins .exit)) r ⌝ }
 {
     let mut d = size(rules, p);
-    let mut behind = 1;
+    let mut rest = Rest {
+        vanishes: 1,
+        begins: 0,
+    };
+    let mut alive = true;
     while 0 < d {
-        vanishes[9 * p + d] = behind;
+        vanishes[9 * p + d] = rest.vanishes;
+        begins[9 * p + d] = rest.begins;
         d -= 1;
-        behind = null_step(symbol(rules, p, d), nulls, behind);
+        rest = longer(symbol(rules, p, d), nulls, firsts, rest);
+        alive = alive & !dead_end(rest.vanishes, rest.begins);
     }
-    vanishes[9 * p] = behind;
+    vanishes[9 * p] = rest.vanishes;
+    begins[9 * p] = rest.begins;
+    alive
 }
 
-// What can begin the rest.
-fn first_rests(rules: &[u32], p: usize, nulls: u32, firsts: &[u32], begins: &mut [u32])
-    requires { ⌜ RuleFits (now rules) p × (length (now firsts) ≡ 32) × (length (now begins) ≡ 9 * MAX-RULES) ⌝ }
-    ensures { λ _. ⌜ RestsAre (firstIn nulls (now (firsts .entry))) (now (rules .entry)) p (now (begins .entry)) (now (begins .exit)) ⌝ }
-{
-    let mut d = size(rules, p);
-    let mut behind = 0;
-    while 0 < d {
-        begins[9 * p + d] = behind;
-        d -= 1;
-        behind = first_step(symbol(rules, p, d), nulls, firsts, behind);
-    }
-    begins[9 * p] = behind;
-}
-
-// Both arrays, rule by rule.
+// Both arrays, rule by rule; whether something can follow wherever a rest stands.
 pub fn suffixes(
     rules: &[u32],
     count: u32,
@@ -63,16 +83,19 @@ pub fn suffixes(
     firsts: &[u32],
     vanishes: &mut [u32],
     begins: &mut [u32],
-)
+) -> bool
     requires { ⌜ GrammarFits (now rules) count × (length (now firsts) ≡ 32) ⌝ }
     requires { ⌜ (length (now vanishes) ≡ 9 * MAX-RULES) × (length (now begins) ≡ 9 * MAX-RULES) ⌝ }
-    ensures { λ _. ⌜ SuffixesIn (grammarOf (now (rules .entry)) count) (sets nulls (now (firsts .entry))) (now (vanishes .exit)) (now (begins .exit)) ⌝ }
+    ensures { λ r. ⌜ SuffixesIn (grammarOf (now (rules .entry)) count) (sets nulls (now (firsts .entry))) (now (vanishes .exit)) (now (begins .exit))
+        × (r ≡ true → Living (grammarOf (now (rules .entry)) count) (sets nulls (now (firsts .entry)))) ⌝ }
 {
     let rules_count = count as usize;
+    let mut alive = true;
     let mut p = 0;
     while p < rules_count {
-        null_rests(rules, p, nulls, vanishes);
-        first_rests(rules, p, nulls, firsts, begins);
+        let lives = rule_suffixes(rules, p, nulls, firsts, vanishes, begins);
+        alive = alive & lives;
         p += 1;
     }
+    alive
 }

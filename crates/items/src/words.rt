@@ -1,9 +1,10 @@
-// Words read as indices, bytes filled, and words looked at.
+// Words read as indices, copied and looked at, and bytes filled.
 ghost use mathlib.Core.Path.{_≡_};
 ghost use mathlib.Core.Bool.{true};
 ghost use mathlib.Core.List.{_++_};
 ghost use Prim.Native.Nat.{_+_, _<_, _≤_};
 ghost use lib.ListN.{length, getD, drop, replicate};
+ghost use Rattle.items.specs.Copying.{Copied};
 ghost use Rattle.items.specs.NoItems.{Nothing};
 
 // Word i as an index.
@@ -12,6 +13,18 @@ pub fn word(words: &[u32], i: usize) -> usize
     ensures { λ r. ⌜ r ≡ getD (now (words .entry)) i 0 ⌝ }
 {
     words[i] as usize
+}
+
+// The first `count` words of an array, to the same places of another.
+pub fn copy(from: &[u32], count: usize, to: &mut [u32])
+    requires { ⌜ (count ≤ length (now from)) × (count ≤ length (now to)) ⌝ }
+    ensures { λ _. ⌜ Copied (now (from .entry)) count (now (to .exit)) ⌝ }
+{
+    let mut i = 0;
+    while i < count {
+        to[i] = from[i];
+        i += 1;
+    }
 }
 
 // The first `count` bytes become `value`.

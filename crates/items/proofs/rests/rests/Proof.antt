@@ -1,10 +1,10 @@
 -- `items::rests::rests` meets its contract: each call prepares what the next one asks.
 -- Assumes nothing.
-use mathlib.Core.Path.{refl}
+use mathlib.Core.Path.{refl, _∙_}
 use borrow.Author.Needs.{needs}
 use Rattle.items.specs.GrammarOf.{grammar-fits}
 use Rattle.items.specs.ReachLoops.{SetsIn}
-use Rattle.items.specs.RestSets.{sets-in, rest-sets-in}
+use Rattle.items.specs.RestSets.{sets-in, rest-sets-in, living-reaches-in}
 use Rattle.items.proofs.rests.rests.Statement.{statement}
 use Rattle.items.proofs.rests.rests.Tie as tie
 
@@ -19,7 +19,7 @@ prepared : (c : tie.After-suffixes)
 prepared c =
     sets-in (grammar-fits (start c .pre .0 .1)) (c .before .before .before .before .before .before .before .nullable .ensures)
     (c .before .before .before .before .before .first-sets .ensures)
-    (c .suffixes .ensures)
+    (c .suffixes .ensures .0)
 
 nullable-requires : tie.Need-nullable-requires
 nullable-requires c κs = grammar-fits (c .before .before .before .before .pre .0 .1)
@@ -38,19 +38,14 @@ suffixes-requires c κs =
     let start = c .before .before .before .before .before .before .before .before .before .before .before in
     ((grammar-fits (start .pre .0 .1), c .before .before .before .before .first-sets .kept .1 .1 .1 .0), (start .pre .1 .0, start .pre .1 .1))
 
-slice-aggregate-reach-sets : tie.Need-slice-aggregate-reach-sets
-slice-aggregate-reach-sets c = search needs
+mul-copy : tie.Need-mul-copy
+mul-copy c = search needs
 
-reach-sets-requires : tie.Need-reach-sets-requires
-reach-sets-requires c κs = (prepared (c .before .before .before .before .before .before .before), refl)
-
-slice-aggregate-reaches : tie.Need-slice-aggregate-reaches
-slice-aggregate-reaches c = search needs
+copy-requires : tie.Need-copy-requires
+copy-requires c κs = search needs
 
 reaches-requires : tie.Need-reaches-requires
-reaches-requires c κs =
-    let filled = c .before .before .before .before .before .before .before .before .before .before .before .before .before in
-    (prepared filled, c .before .before .before .before .before .reach-sets .kept .1 .1 .1 .1 .1 .0, start filled .pre .1 .2)
+reaches-requires c κs = let filled = c .before .before .before .before .before .before .before .before in (prepared filled, start filled .pre .1 .2)
 
 same-length : tie.Need-same-length
 same-length c = search needs
@@ -63,9 +58,27 @@ same-length-3 c = search needs
 
 returns : tie.Need-returns
 returns c =
-    rest-sets-in (prepared
-    (c .before .before .before .before .before .before .before .before .before .before .before .before .before .before .before .before))
-    (c .before .before .before .before .before .before .before .before .reach-sets .ensures) (c .before .before .reaches .ensures)
+    let filled = c .before .before .before .before .before .before .before .before .before .before in
+    let firsts = filled .before .before .before .before .before in
+    let copied = c .before .before in
+    let alive = copied .before .before .before in
+    rest-sets-in (prepared filled)
+    (living-reaches-in (prepared filled) (firsts .first-sets .ensures) (filled .suffixes .ensures .1 (alive .if1 .taken))
+    (copied .copy .kept .1 .1 .0 ∙ start filled .pre .1 .2) (copied .copy .ensures))
+
+same-length-4 : tie.Need-same-length-4
+same-length-4 c = search needs
+
+same-length-5 : tie.Need-same-length-5
+same-length-5 c = search needs
+
+same-length-6 : tie.Need-same-length-6
+same-length-6 c = search needs
+
+returns-2 : tie.Need-returns-2
+returns-2 c =
+    let filled = c .before .before .before .before .before .before .before .before .before .before .before in
+    rest-sets-in (prepared filled) (c .before .before .reaches .ensures)
 
 pub rests-spec : {M : Type 1} → statement M
 rests-spec =
@@ -76,11 +89,14 @@ rests-spec =
     first-sets-requires
     slice-aggregate-suffixes
     suffixes-requires
-    slice-aggregate-reach-sets
-    reach-sets-requires
-    slice-aggregate-reaches
+    mul-copy
+    copy-requires
     reaches-requires
     same-length
     same-length-2
     same-length-3
-    returns)
+    returns
+    same-length-4
+    same-length-5
+    same-length-6
+    returns-2)

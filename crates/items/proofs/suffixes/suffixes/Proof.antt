@@ -1,39 +1,35 @@
 -- `items::suffixes::suffixes` meets its contract: the words of the rules below p are right in both arrays.
 -- Assumes nothing.
 use Prim.Native.Nat.{_-_}
-use mathlib.Core.Path.{_∙_}
+use mathlib.Core.Path.{refl, _∙_}
 use native.Mathlib.Omega.{arith}
 use borrow.Author.Needs.{needs}
-use Rattle.grammar.specs.Automaton.FirstSets.{nullIn, firstIn}
-use Rattle.items.specs.Arrays.{flag}
-use Rattle.items.specs.Filling.{RestsFilled, rests-begin, rests-turn, suffixes-done}
+use Rattle.items.specs.SuffixLoops.{SuffixesFilled, suffixes-begin, suffixes-turn, suffixes-end, living-end}
 use Rattle.items.proofs.suffixes.suffixes.Statement.{statement}
 use Rattle.items.proofs.suffixes.suffixes.Tie as tie
 
 abbrev Inv-loop : tie.InvT-loop
-Inv-loop rules count nulls firsts vanishes₀ begins₀ rules-count p₀ vanishes begins p =
-    RestsFilled (λ β. flag (nullIn nulls β)) rules count vanishes₀ vanishes p × RestsFilled (firstIn nulls firsts) rules count begins₀ begins p
+Inv-loop rules count nulls firsts vanishes₀ begins₀ rules-count alive₀ p₀ vanishes begins alive p =
+    SuffixesFilled rules count nulls firsts vanishes₀ vanishes begins₀ begins alive p
 
 abbrev μ-loop : tie.MeasureT-loop
-μ-loop rules count nulls firsts vanishes₀ begins₀ rules-count p₀ vanishes begins p = count - p
+μ-loop rules count nulls firsts vanishes₀ begins₀ rules-count alive₀ p₀ vanishes begins alive p = count - p
+
+-- the function's start
+abbrev start : tie.At-loop Inv-loop μ-loop → tie.Start Inv-loop μ-loop
+start c = c .before .before .before .before .before
 
 loop-holds : tie.Need-loop-holds Inv-loop μ-loop
-loop-holds c = (rests-begin _, rests-begin _)
+loop-holds c = suffixes-begin
 
-null-rests-requires : tie.Need-null-rests-requires Inv-loop μ-loop
-null-rests-requires c κs =
-    let start = c .before .before .before .before .before .before .before in (
-      start .pre .0 .0 .rule-fits (c .before .before .loop .p) (c .before .loop-test .taken),
-      c .before .before .loop .inv .0 .rules .long
-          ∙ start .pre .1 .0,
+rule-suffixes-requires : tie.Need-rule-suffixes-requires Inv-loop μ-loop
+rule-suffixes-requires c κs =
+    let at = c .before .before .before in
+    let inv = at .loop .inv in
+    let pre = start at .pre in (
+      (pre .0 .0 .rule-fits (at .loop .p) (c .before .before .loop-test .taken), pre .0 .1),
+      (inv .nulls-filled .rules .long ∙ pre .1 .0, inv .firsts-filled .rules .long ∙ pre .1 .1),
     )
-
-first-rests-requires : tie.Need-first-rests-requires Inv-loop μ-loop
-first-rests-requires c κs =
-    let start = c .before .before .before .before .before .before .before .before .before .before .before in
-    let at = c .before .before .before .before .before .before in
-    let turn = c .before .before .before .before .before in
-    (start .pre .0 .0 .rule-fits (at .loop .p) (turn .loop-test .taken), start .pre .0 .1, at .loop .inv .1 .rules .long ∙ start .pre .1 .1)
 
 add-p : tie.Need-add-p Inv-loop μ-loop
 add-p c = search needs
@@ -43,26 +39,21 @@ loop-less c = omega arith
 
 loop-again : tie.Need-loop-again Inv-loop μ-loop
 loop-again c =
-    let start = c .before .before .before .before .before .before .before .before .before .before .before .before .before .before in
-    let turn = c .before .before .before .before .before .before .before .before in
-    let at = c .before .before .before .before .before .before .before .before .before in
-    let F = start .pre .0 .0 in
-    let h = turn .loop-test .taken in (
-      rests-turn _ (at .loop .inv .0) F h (c .before .before .before .before .before .before .null-rests .ensures),
-      rests-turn _ (at .loop .inv .1) F h
-          (c .before .before .first-rests .ensures),
-    )
+    let told = c .before .before .before .before in
+    let at = told .before .before .before .before in
+    suffixes-turn (at .loop .inv) (start at .pre .0 .0) (told .before .before .before .loop-test .taken) (told .rule-suffixes .ensures) refl
 
 same-length : tie.Need-same-length Inv-loop μ-loop
-same-length c = c .before .loop .inv .0 .rules .long
+same-length c = c .before .loop .inv .nulls-filled .rules .long
 
 same-length-2 : tie.Need-same-length-2 Inv-loop μ-loop
-same-length-2 c = c .before .loop .inv .1 .rules .long
+same-length-2 c = c .before .loop .inv .firsts-filled .rules .long
 
 returns : tie.Need-returns Inv-loop μ-loop
 returns c =
-    let start = c .before .before .before .before .before .before in
-    suffixes-done _ _ (c .before .loop .inv .0) (c .before .loop .inv .1) (c .loop-test .left) (start .pre .1 .0) (start .pre .1 .1)
+    let inv = c .before .loop .inv in
+    let pre = start (c .before) .pre in
+    (suffixes-end inv (c .loop-test .left) (pre .1 .0) (pre .1 .1), living-end inv (c .loop-test .left))
 
 pub suffixes-spec : {M : Type 1} → statement M
 suffixes-spec =
@@ -71,8 +62,7 @@ suffixes-spec =
     Inv-loop
     μ-loop
     loop-holds
-    null-rests-requires
-    first-rests-requires
+    rule-suffixes-requires
     add-p
     loop-less
     loop-again

@@ -92,25 +92,29 @@ module _ (b : Book) (member : ℕ → ℕ → Bool) where
       by true q = rw (visit, q)
       by false q = rw (visit, q, due, e)
 
-  visits-on : (i j : ℕ) (s : Progress) → i ≤ j → ((d : ℕ) → i ≤ d → d < j → (t : Progress) → visit b member d t ≡ t)
-      → visits (visit b member) j s ≡ visits (visit b member) i s
-  unfolding visits
-  visits-on i zero s l still = let e : i ≡ 0 = omega arith in rw e
-  visits-on i (suc j) s l still = by (ℕ-discrete i (suc j)) (λ h. visits-on i j s h (λ d a k. still d a (omega arith)))
-    where
-      by : Dec (i ≡ suc j) → (i ≤ j → visits (visit b member) j s ≡ visits (visit b member) i s)
-          → visits (visit b member) (suc j) s ≡ visits (visit b member) i s
-      by (yes e) before = rw e
-      by (no n) before = still j (omega arith) (omega arith) (visits (visit b member) j s) ∙ before (omega arith)
+-- visits that change nothing
+pub visits-on : {T : Type 0} (visit : ℕ → T → T) (i j : ℕ) (s : T) → i ≤ j → ((d : ℕ) → i ≤ d → d < j → (t : T) → visit d t ≡ t)
+    → visits visit j s ≡ visits visit i s
+unfolding visits
+visits-on visit i zero s l still = let e : i ≡ 0 = omega arith in rw e
+visits-on visit i (suc j) s l still = by (ℕ-discrete i (suc j)) (λ h. visits-on visit i j s h (λ d a k. still d a (omega arith)))
+  where
+    by : Dec (i ≡ suc j) → (i ≤ j → visits visit j s ≡ visits visit i s) → visits visit (suc j) s ≡ visits visit i s
+    by (yes e) before = rw e
+    by (no n) before = still j (omega arith) (omega arith) (visits visit j s) ∙ before (omega arith)
+
+-- the set of a definition's item
+pub item-word : {b : Book} {definitions rules owned masks : List ℕ} → CheckHeld b definitions rules owned masks → {d : ℕ} → d < grammar.definitions b
+    → getD masks (9 * lineAt b d .rule + dotOf (lineAt b d)) 0 ≡ itemSet definitions masks d
+item-word {masks = masks} H l = ap (λ (k : ℕ). getD masks k 0) (place-is H l refl refl)
 
 -- from line i to line j
 pub visits-skip : {b : Book} {definitions rules owned masks : List ℕ} → CheckHeld b definitions rules owned masks → {lines i j : ℕ}
     → lines ≡ grammar.definitions b → Skip definitions masks lines i j → (wanted : ℕ) (s : Progress)
     → visits (visit b (memberIn masks wanted)) i s ≡ visits (visit b (memberIn masks wanted)) j s
 visits-skip {b} {definitions} {rules} {owned} {masks} H {lines} {i} {j} e S wanted s =
-    sym (visits-on b (memberIn masks wanted) i j s (S .low)
+    sym (visits-on (visit b (memberIn masks wanted)) i j s (S .low)
     λ d a h. visit-absent b (memberIn masks wanted) d (nothing d (omega (arith, S .high)) (S .absent d a h)))
   where
     nothing : (d : ℕ) → d < grammar.definitions b → itemSet definitions masks d ≡ 0 → memberIn masks wanted (lineAt b d .rule) (dotOf (lineAt b d)) ≡ false
-    nothing d l z =
-        ap (λ (k : ℕ). meets (getD masks k 0) wanted) (place-is H l refl refl) ∙ ap (λ (set : ℕ). meets set wanted) z ∙ meets-nothing wanted
+    nothing d l z = ap (λ (set : ℕ). meets set wanted) (item-word H l ∙ z) ∙ meets-nothing wanted

@@ -5,6 +5,7 @@ pub mod PassLaws
 pub mod PlanCell
 pub mod PlanRows
 pub mod PlanRowsLaws
+pub mod PlanSkips
 pub mod Planning
 pub mod PlanningLaws
 pub mod Plans

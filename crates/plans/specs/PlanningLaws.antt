@@ -73,6 +73,11 @@ module _ (b : Book) (member : ℕ → ℕ → Bool) where
   unfolding planLine
   planLine-sets d lines known e h = rw (planLine, e, h)
 
+  -- a definition whose item is not in the partial state is not planned
+  pub planLine-absent : (d : ℕ) → member (lineAt b d .rule) (dotOf (lineAt b d)) ≡ false → (s : Planning) → planLine b member d s ≡ s
+  planLine-absent d e (planning lines known) =
+      planLine-by (λ t. t ≡ planning lines known) d lines known refl (λ n h. true-false (due-item b member known d h) e)
+
   pub planned-more : (d : ℕ) → d < definitions b → {lines : List ℕ} {known : List Bool} → Planned lines known
       → getD known (lineAt b d .attribute) true ≡ false → dueIn b member known (lineAt b d) ≡ true
       → Planned (lines ++ d ∷ []) (set known (lineAt b d .attribute) true)
@@ -116,6 +121,13 @@ module _ (b : Book) (member : ℕ → ℕ → Bool) where
   planned-right : Right (planned b member)
   unfolding planned
   planned-right = passes-keep (planLine b member) Right knownIn (definitions b) planLine-right unplanned unplanned-right
+
+  -- a plan of no items has no lines
+  pub plan-none : ((d : ℕ) → d < definitions b → member (lineAt b d .rule) (dotOf (lineAt b d)) ≡ false) → plan b member ≡ []
+  unfolding plan planned linesOf
+  plan-none none =
+      ap linesOf
+      (passes-keep (planLine b member) (λ (s : Planning). s ≡ unplanned) knownIn (definitions b) (λ d l s e. planLine-absent d (none d l) s ∙ e) unplanned refl)
 
   -- a plan has at most a line for each attribute
   pub plan-short : length (plan b member) ≤ MAX-INHERITED

@@ -1,6 +1,6 @@
 -- The plans of all partial states of a book, and the memory of those that are worked out: for the partial state (S, a) byte 32 * S + a of the counts is 0,
 -- or one more than the number of the plan's lines, which then stand in the sixteen bytes of the lists from 16 * (32 * S + a) on. Assumes nothing.
-use Prim.Native.Nat.{ℕ, suc, _+_, _*_, _<_}
+use Prim.Native.Nat.{ℕ, suc, _+_, _*_, _<_, _≤_}
 use mathlib.Core.Path.{_≡_}
 use mathlib.Core.List.{List}
 use lib.ListN.{length, getD}
@@ -28,6 +28,13 @@ pub record PlansIn (b : Book) (counts lists : List ℕ) : Type 0 where
   pub counts-long : length counts ≡ 4096
   pub lists-long : length lists ≡ 65536
   pub plan-at : (S a : ℕ) → S < b .states → a < 32 → (getD counts (32 * S + a) 0 ≡ 0 → ⊥) → PlanAt (planOf b S a) counts lists (32 * S + a)
+
+-- the plans of the first n partial states of state S are known to have no lines, and the other counts are as they were
+pub record NoLines (S n : ℕ) (old new : List ℕ) : Type 0 where
+  pub long : length new ≡ length old
+  pub none : (a : ℕ) → a < n → getD new (32 * S + a) 0 ≡ 1
+  pub before : (i : ℕ) → i < 32 * S → getD new i 0 ≡ getD old i 0
+  pub behind : (i : ℕ) → 32 * S + n ≤ i → getD new i 0 ≡ getD old i 0
 
 -- what the plans ask of a book and of its arrays
 pub record PlansHeld (b : Book) (rules : List ℕ) (count : ℕ) (definitions : List ℕ) (lines : ℕ) (owned kernels starts closures nulls reaches : List ℕ) : Type 0

@@ -3,9 +3,9 @@ use Prim.Native.Nat.{ℕ, suc, _+_, _*_, _<_, _≤_}
 use native.Mathlib.Numerals.{add-one}
 use native.Mathlib.Omega.{arith}
 use native.Mathlib.Decide.{ℕ-discrete, decLt}
-use mathlib.Core.Path.{_≡_, sym, ap, _∙_}
+use mathlib.Core.Path.{_≡_, refl, sym, ap, _∙_}
 use mathlib.Core.Bool.{Bool}
-use mathlib.Core.List.{List}
+use mathlib.Core.List.{List, []}
 use lib.ListN.{length, getD, set, replicate, length-set, length-replicate, getD-replicate}
 use lib.Seq.{getD-set-same, getD-set-other}
 use Rattle.grammar.specs.Limits.{MAX-INHERITED}
@@ -30,7 +30,7 @@ use Rattle.plans.specs.Planning.{applied, plan}
 use Rattle.plans.specs.PlanningLaws.{plan-short, plan-same}
 use Rattle.plans.specs.PlanCell.{planned-cell}
 use Rattle.plans.specs.PlanRows.{PlanRow, Elsewhere}
-use Rattle.plans.specs.Plans.{planOf, PlanAt, PlansIn}
+use Rattle.plans.specs.Plans.{planOf, PlanAt, PlansIn, NoLines}
 
 -- The plan of a partial state
 
@@ -107,3 +107,40 @@ module _ {b : Book} {counts lists new : List ℕ} (M : PlansIn b counts lists) (
           rw (same, also) more-here
       by S′ a′ s′ low′ k (no m) =
           more-there S′ a′ s′ low′ m (M .plan-at S′ a′ s′ low′ (λ z. k (getD-set-other counts place (32 * S′ + a′) (n + 1) 0 m ∙ z)))
+
+-- all plans of a state, one count after the other
+pub none-start : (S : ℕ) {counts : List ℕ} → NoLines S 0 counts counts
+none-start S = record { long = refl; none = λ a l. absurd (omega arith); before = λ i l. refl; behind = λ i l. refl }
+
+pub none-more : (S : ℕ) {a : ℕ} {old new : List ℕ} → 32 * S + a < length new → NoLines S a old new → NoLines S (a + 1) old (set new (32 * S + a) 1)
+none-more S {a} {old} {new} there N = record {
+  long = length-set new (32 * S + a) 1 ∙ N .long;
+  none = λ c l. by c l (ℕ-discrete c a);
+  before = λ i l. getD-set-other new (32 * S + a) i 1 0 (λ e. let z : ⊥ = omega arith in z) ∙ N .before i l;
+  behind = λ i l. getD-set-other new (32 * S + a) i 1 0 (λ e. let z : ⊥ = omega arith in z) ∙ N .behind i (omega arith);
+}
+  where
+    by : (c : ℕ) → c < a + 1 → Dec (c ≡ a) → getD (set new (32 * S + a) 1) (32 * S + c) 0 ≡ 1
+    by c l (yes e) = rw e (getD-set-same new (32 * S + a) 1 0 there)
+    by c l (no n) = getD-set-other new (32 * S + a) (32 * S + c) 1 0 (λ e. n (omega arith)) ∙ N .none c (omega (arith, n))
+
+-- where none of them has a line
+pub plans-nothing : {b : Book} {counts new lists : List ℕ} → PlansIn b counts lists → (S : ℕ) → ((a : ℕ) → a < 32 → planOf b S a ≡ [])
+    → NoLines S 32 counts new → PlansIn b new lists
+plans-nothing {b} {counts} {new} {lists} M S empty N = record {
+  counts-long = N .long ∙ M .counts-long;
+  lists-long = M .lists-long;
+  plan-at = λ S′ a s low k. by S′ a s low k (ℕ-discrete S′ S);
+}
+  where
+    same : (S′ a : ℕ) → a < 32 → (S′ ≡ S → ⊥) → Dec (S′ < S) → getD new (32 * S′ + a) 0 ≡ getD counts (32 * S′ + a) 0
+    same S′ a low other (yes l) = N .before (32 * S′ + a) (omega arith)
+    same S′ a low other (no m) = N .behind (32 * S′ + a) (omega (arith, other))
+
+    by : (S′ a : ℕ) → S′ < b .states → a < 32 → (getD new (32 * S′ + a) 0 ≡ 0 → ⊥) → Dec (S′ ≡ S) → PlanAt (planOf b S′ a) new lists (32 * S′ + a)
+    by S′ a s low k (yes e) =
+        rw (e, empty a low) (record { count-is = N .none a low; line-is = λ i l. absurd (omega arith) })
+    by S′ a s low k (no other) =
+        let is = same S′ a low other (decLt S′ S) in
+        let P = M .plan-at S′ a s low (λ z. k (is ∙ z)) in
+        record { count-is = is ∙ P .count-is; line-is = P .line-is }

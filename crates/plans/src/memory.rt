@@ -5,9 +5,22 @@ ghost use Prim.Native.Nat.{_+_, _*_, _<_};
 ghost use lib.ListN.{length};
 ghost use Rattle.grammar.specs.Data.Book.{Book};
 ghost use Rattle.plans.specs.PlanRows.{PlanRow};
-ghost use Rattle.plans.specs.Plans.{planOf, PlansIn, PlansHeld};
+ghost use Rattle.plans.specs.Plans.{planOf, PlansIn, PlansHeld, NoLines};
 use super::planning::plan;
 use attributes::masks::masks;
+use attributes::skips::skip;
+
+// The plans of all partial states of a state are known, and have no lines.
+fn plan_nothing(counts: &mut [u8], state: usize)
+    requires { ⌜ (state < 128) × (length (now counts) ≡ 4096) ⌝ }
+    ensures { λ _. ⌜ NoLines state 32 (now (counts .entry)) (now (counts .exit)) ⌝ }
+{
+    let mut a = 0;
+    while a < 32 {
+        counts[32 * state + a] = 1;
+        a += 1;
+    }
+}
 
 // The plan of a state and a terminal: how many lines it has. They stand in `lists` from byte 16 * (32 * state + terminal) on. `sets` is room for the state's
 // items.
@@ -51,10 +64,17 @@ pub fn planned(
         state,
         sets,
     );
+    let mut skips = [0u8; 129];
+    skip(definitions, lines as usize, sets, &mut skips);
+    if skips[0] as u32 == lines {
+        plan_nothing(counts, state);
+        return 0;
+    }
     let n = plan(
         definitions,
         lines as usize,
         terminal,
+        &skips,
         sets,
         rules,
         owned,

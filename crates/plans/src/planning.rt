@@ -8,6 +8,7 @@ ghost use Rattle.grammar.specs.Formulas.FormulaCheck as grammar;
 ghost use Rattle.grammar.specs.Formulas.Passes as fixpoint;
 ghost use Rattle.grammar.specs.Formulas.Passes.{visits};
 ghost use Rattle.attributes.specs.Checking.{memberOf, CheckHeld};
+ghost use Rattle.attributes.specs.Skips.{Skips};
 ghost use Rattle.plans.specs.Planning as specs;
 ghost use Rattle.plans.specs.Planning.{Planning, knownIn, planLine};
 ghost use Rattle.plans.specs.PlanRows.{PlanningIn, Elsewhere, PlanRow};
@@ -54,11 +55,12 @@ fn visit(
     }
 }
 
-// One pass over the definitions.
+// One pass over the definitions whose items are in the state.
 fn pass(
     definitions: &[u32],
     lines: usize,
     terminal: u32,
+    skips: &[u8],
     masks: &[u32],
     rules: &[u32],
     owned: &[u32],
@@ -67,17 +69,18 @@ fn pass(
     mut p: Progress,
 ) -> Progress
     requires { ⌜ ((b : Book) × (s : Planning) × CheckHeld b (now definitions) (now rules) (now owned) (now masks) × (lines ≡ grammar.definitions b)
-        × PlanningIn b (memberOf (now masks) terminal) s (now row) from (p .known) (p .count)) × (terminal < 32) ⌝ }
+        × PlanningIn b (memberOf (now masks) terminal) s (now row) from (p .known) (p .count)) × (terminal < 32)
+        × Skips (now definitions) (now masks) lines (now skips) ⌝ }
     ensures { λ r. ⌜ ((b : Book) (s : Planning) → CheckHeld b (now (definitions .entry)) (now (rules .entry)) (now (owned .entry)) (now (masks .entry))
         → lines ≡ grammar.definitions b
         → PlanningIn b (memberOf (now (masks .entry)) terminal) s (now (row .entry)) from (p .known) (p .count)
         → PlanningIn b (memberOf (now (masks .entry)) terminal) (visits (planLine b (memberOf (now (masks .entry)) terminal)) lines s) (now (row .exit)) from
         (r .known) (r .count)) × Elsewhere from (now (row .entry)) (now (row .exit)) ⌝ }
 {
-    let mut i = 0;
+    let mut i = skips[0] as usize;
     while i < lines {
         p = visit(definitions, i, terminal, masks, rules, owned, row, from, p);
-        i += 1;
+        i = skips[i + 1] as usize;
     }
     p
 }
@@ -87,6 +90,7 @@ fn passes(
     definitions: &[u32],
     lines: usize,
     terminal: u32,
+    skips: &[u8],
     masks: &[u32],
     rules: &[u32],
     owned: &[u32],
@@ -95,7 +99,8 @@ fn passes(
     mut p: Progress,
 ) -> Progress
     requires { ⌜ ((b : Book) × (s : Planning) × CheckHeld b (now definitions) (now rules) (now owned) (now masks) × (lines ≡ grammar.definitions b)
-        × PlanningIn b (memberOf (now masks) terminal) s (now row) from (p .known) (p .count)) × (terminal < 32) ⌝ }
+        × PlanningIn b (memberOf (now masks) terminal) s (now row) from (p .known) (p .count)) × (terminal < 32)
+        × Skips (now definitions) (now masks) lines (now skips) ⌝ }
     ensures { λ r. ⌜ ((b : Book) (s : Planning) → CheckHeld b (now (definitions .entry)) (now (rules .entry)) (now (owned .entry)) (now (masks .entry))
         → lines ≡ grammar.definitions b
         → PlanningIn b (memberOf (now (masks .entry)) terminal) s (now (row .entry)) from (p .known) (p .count)
@@ -109,6 +114,7 @@ fn passes(
             definitions,
             lines,
             terminal,
+            skips,
             masks,
             rules,
             owned,
@@ -127,6 +133,7 @@ pub fn plan(
     definitions: &[u32],
     lines: usize,
     terminal: u32,
+    skips: &[u8],
     masks: &[u32],
     rules: &[u32],
     owned: &[u32],
@@ -134,7 +141,7 @@ pub fn plan(
     from: usize,
 ) -> usize
     requires { ⌜ ((b : Book) × CheckHeld b (now definitions) (now rules) (now owned) (now masks) × (lines ≡ grammar.definitions b))
-        × (terminal < 32) × (from + 16 ≤ length (now row)) ⌝ }
+        × (terminal < 32) × (from + 16 ≤ length (now row)) × Skips (now definitions) (now masks) lines (now skips) ⌝ }
     ensures { λ r. ⌜ ((b : Book) → CheckHeld b (now (definitions .entry)) (now (rules .entry)) (now (owned .entry)) (now (masks .entry))
         → lines ≡ grammar.definitions b → PlanRow (specs.plan b (memberOf (now (masks .entry)) terminal)) (now (row .exit)) from r)
         × Elsewhere from (now (row .entry)) (now (row .exit)) ⌝ }
@@ -144,6 +151,7 @@ pub fn plan(
         definitions,
         lines,
         terminal,
+        skips,
         masks,
         rules,
         owned,

@@ -2,9 +2,10 @@
 -- Assumes nothing.
 use Prim.Native.Nat.{_≤_, _<_, _+_, _*_}
 use native.Mathlib.Omega.{arith}
+use mathlib.Core.Path.{refl}
 use borrow.Author.Needs.{needs}
 use Rattle.grammar.specs.Limits.{MAX-INHERITED}
-use Rattle.plans.specs.MemoryLaws.{row-short, place-low, plans-check, plan-known, plan-new}
+use Rattle.plans.specs.MemoryLaws.{row-short, place-low, few-states, few-lines, plans-check, plan-known, plan-new, plans-none-due}
 use Rattle.plans.proofs.memory.planned.Statement.{statement}
 use Rattle.plans.proofs.memory.planned.Tie as tie
 
@@ -12,12 +13,16 @@ use Rattle.plans.proofs.memory.planned.Tie as tie
 abbrev entry : tie.After-slice-known4 → tie.Start
 entry c = c .before .before .before .before .before .before .before .before .before .before .before .before
 
--- where the state's items are worked out, and where they are known
+-- where the state's items are worked out
 abbrev asked : tie.After-masks → tie.After-slice-known4
 asked c = c .before .before .before
 
-abbrev marked : tie.After-plan → tie.After-masks
+-- where it is known which definitions are of these items
+abbrev marked : tie.After-skip → tie.After-masks
 marked c = c .before .before .before .before .before
+
+abbrev skipped : tie.After-plan → tie.After-skip
+skipped c = c .before .before .before .before .before .before
 
 place : (c : tie.After-slice-known4) → 32 * entry c .args .state + entry c .args .terminal < 4096
 place c = let s = entry c in place-low (s .pre .0 .1) (s .pre .0 .2) (s .pre .1)
@@ -25,7 +30,7 @@ place c = let s = entry c in place-low (s .pre .0 .1) (s .pre .0 .2) (s .pre .1)
 -- a plan is short
 few : (c : tie.After-plan) → c .plan .result ≤ MAX-INHERITED
 few c =
-    let m = marked c in
+    let m = marked (skipped c) in
     let (b, H, l, M) = entry (asked m) .pre .0 in
     let F = H .formulas-held in
     let marks = m .masks .ensures b (H .firsts) (F .marks-held) (F .rules-counted) l in
@@ -52,28 +57,30 @@ returns c = λ b H s M. plan-known H M s (entry (c .before) .pre .1) (c .if1 .ta
 masks-requires : tie.Need-masks-requires
 masks-requires c κs = search needs
 
-mul-plan : tie.Need-mul-plan
-mul-plan c = omega (arith, place (c .before .before .before .before .before .before .before))
+slice-aggregate-skip : tie.Need-slice-aggregate-skip
+slice-aggregate-skip c = search needs
 
-plan-requires : tie.Need-plan-requires
-plan-requires c κs =
+skip-requires : tie.Need-skip-requires
+skip-requires c κs =
     let m = c .before .before .before .before in
-    let s = entry (asked m) in
-    let (b, H, l, M) = s .pre .0 in
+    let (b, H, l, M) = entry (asked m) .pre .0 in
     let F = H .formulas-held in
     let marks = m .masks .ensures b (H .firsts) (F .marks-held) (F .rules-counted) l in
-    ((b, plans-check H (marks .long), F .definitions-counted), omega (arith, s .pre .1), omega (arith, place (asked m), M .lists-long))
+    ((b, _, _, plans-check H (marks .long), F .definitions-counted), refl)
 
-cast-counts : tie.Need-cast-counts
-cast-counts c = omega (arith, few (c .before .before))
+array-read-if2 : tie.Need-array-read-if2
+array-read-if2 c = search needs
 
-add-counts : tie.Need-add-counts
-add-counts c = omega (arith, few (c .before .before))
+cast-if2 : tie.Need-cast-if2
+cast-if2 c =
+    let v = c .before in
+    let (b, H, l, M) = entry (asked (marked v)) .pre .0 in
+    omega (arith, v .skip .ensures .skip 0 (omega arith) (omega arith) .high, few-lines H)
 
-slice-write-counts : tie.Need-slice-write-counts
-slice-write-counts c =
-    let e = asked (marked (c .before .before)) in
-    omega (arith, place e, entry e .pre .0 .3 .counts-long)
+plan-nothing-requires : tie.Need-plan-nothing-requires
+plan-nothing-requires c κs =
+    let (b, H, l, M) = entry (asked (marked (c .before .before .before))) .pre .0 in
+    (omega (arith, l, few-states H), M .counts-long)
 
 same-length : tie.Need-same-length
 same-length c = search needs
@@ -81,13 +88,65 @@ same-length c = search needs
 same-length-2 : tie.Need-same-length-2
 same-length-2 c = search needs
 
+returns-2 : tie.Need-returns-2
+returns-2 c =
+    λ b H l M.
+    let n = c .before .before in
+    let v = n .before .before .before .before in
+    let m = marked v in
+    let F = H .formulas-held in
+    let marks = m .masks .ensures b (H .firsts) (F .marks-held) (F .rules-counted) l in
+    let skip = v .skip .ensures .skip 0 (omega arith) (omega arith) in
+    plans-none-due H M _ marks (rw (n .before .before .if2 .taken) at skip) (n .plan-nothing .ensures) _ (entry (asked m) .pre .1)
+
+slice-aggregate-plan : tie.Need-slice-aggregate-plan
+slice-aggregate-plan c = search needs
+
+mul-plan : tie.Need-mul-plan
+mul-plan c =
+    omega (arith, place (asked (marked (c .before .before .before .before .before))))
+
+plan-requires : tie.Need-plan-requires
+plan-requires c κs =
+    let v = c .before .before .before .before .before in
+    let m = marked v in
+    let s = entry (asked m) in
+    let (b, H, l, M) = s .pre .0 in
+    let F = H .formulas-held in
+    let marks = m .masks .ensures b (H .firsts) (F .marks-held) (F .rules-counted) l in (
+      (b, plans-check H (marks .long), F .definitions-counted),
+      omega (arith, s .pre .1),
+      omega (arith, place (asked m), M .lists-long),
+      v .skip .ensures,
+    )
+
+cast-counts : tie.Need-cast-counts
+cast-counts c =
+    omega (arith, few (c .before .before))
+
+add-counts : tie.Need-add-counts
+add-counts c =
+    omega (arith, few (c .before .before))
+
+slice-write-counts : tie.Need-slice-write-counts
+slice-write-counts c =
+    let e = asked (marked (skipped (c .before .before))) in
+    omega (arith, place e, entry e .pre .0 .3 .counts-long)
+
 same-length-3 : tie.Need-same-length-3
 same-length-3 c = search needs
 
-returns-2 : tie.Need-returns-2
-returns-2 c = λ b H l M.
+same-length-4 : tie.Need-same-length-4
+same-length-4 c = search needs
+
+same-length-5 : tie.Need-same-length-5
+same-length-5 c = search needs
+
+returns-3 : tie.Need-returns-3
+returns-3 c =
+    λ b H l M.
     let p = c .before .before in
-    let m = marked p in
+    let m = marked (skipped p) in
     let F = H .formulas-held in
     let marks = m .masks .ensures b (H .firsts) (F .marks-held) (F .rules-counted) l in
     plan-new H M l (entry (asked m) .pre .1) marks (p .plan .ensures .0 b (plans-check H (marks .long)) (F .definitions-counted)) (p .plan .ensures .1)
@@ -103,12 +162,21 @@ planned-spec =
     sub-result
     returns
     masks-requires
+    slice-aggregate-skip
+    skip-requires
+    array-read-if2
+    cast-if2
+    plan-nothing-requires
+    same-length
+    same-length-2
+    returns-2
+    slice-aggregate-plan
     mul-plan
     plan-requires
     cast-counts
     add-counts
     slice-write-counts
-    same-length
-    same-length-2
     same-length-3
-    returns-2)
+    same-length-4
+    same-length-5
+    returns-3)

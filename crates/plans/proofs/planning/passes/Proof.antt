@@ -15,18 +15,18 @@ use Rattle.plans.proofs.planning.passes.Statement.{statement}
 use Rattle.plans.proofs.planning.passes.Tie as tie
 
 abbrev Inv-loop : tie.InvT-loop
-Inv-loop definitions lines terminal masks rules owned row₀ from p₀ row p =
+Inv-loop definitions lines terminal skips masks rules owned row₀ from p₀ row p =
     Elsewhere from row₀ row × ((b : Book) (s : Planning) → CheckHeld b definitions rules owned masks → lines ≡ grammar.definitions b
     → PlanningIn b (memberOf masks terminal) s row₀ from (p₀ .known) (p₀ .count)
     → Passing b (memberOf masks terminal) s row from (p .known) (p .count))
 
 abbrev μ-loop : tie.MeasureT-loop
-μ-loop definitions lines terminal masks rules owned row₀ from p₀ row p = MAX-INHERITED - p .count
+μ-loop definitions lines terminal skips masks rules owned row₀ from p₀ row p = MAX-INHERITED - p .count
 
 -- Places: the entry, and the turn that has made its pass
 
 abbrev entry : tie.At-loop Inv-loop μ-loop → tie.Start Inv-loop μ-loop
-entry c = c .before .before .before .before .before .before
+entry c = c .before .before .before .before .before .before .before
 
 abbrev turn : tie.After-pass Inv-loop μ-loop → tie.At-loop Inv-loop μ-loop
 turn c = c .before .before
@@ -39,7 +39,7 @@ pass-requires c κs =
     let g = entry (c .before) .pre in
     let (b, s, H, e, R) = g .0 in
     let P = c .before .loop .inv .1 b s H e R in
-    ((b, P .now-at, H, e, P .holds), g .1)
+    ((b, P .now-at, H, e, P .holds), g .1, g .2)
 
 same-length : tie.Need-same-length Inv-loop μ-loop
 same-length c = let v = c .before .before .before .before in elsewhere-then (turn v .loop .inv .0) (v .pass .ensures .1) .long

@@ -7,13 +7,13 @@ use Rattle.plans.proofs.planning.plan.Statement.{statement}
 use Rattle.plans.proofs.planning.plan.Tie as tie
 
 abbrev entry : tie.After-passes-arg → tie.Start
-entry c = c .before .before .before .before .before .before
+entry c = c .before .before .before .before .before .before .before
 
 passes-requires : tie.Need-passes-requires
 passes-requires c κs =
     let g = entry c .pre in
     let (b, H, e) = g .0 in
-    ((b, unplanned, H, e, begun b _ (g .2)), g .1)
+    ((b, unplanned, H, e, begun b _ (g .2)), g .1, g .3)
 
 same-length : tie.Need-same-length
 same-length c = search needs

@@ -1,0 +1,57 @@
+-- `memory::plan_nothing` meets its contract: the counts before the turn's are 1.
+-- Assumes nothing.
+use Prim.Native.Nat.{_+_, _*_, _-_, _<_, _≤_}
+use mathlib.Core.Path.{_≡_}
+use native.Mathlib.Omega.{arith}
+use borrow.Author.Needs.{needs}
+use lib.ListN.{length}
+use Rattle.plans.specs.Plans.{NoLines}
+use Rattle.plans.specs.PlansLaws.{none-start, none-more}
+use Rattle.plans.proofs.memory.plan_nothing.Statement.{statement}
+use Rattle.plans.proofs.memory.plan_nothing.Tie as tie
+
+abbrev Inv-loop : tie.InvT-loop
+Inv-loop counts₀ state a₀ counts a = (a ≤ 32) × NoLines state a counts₀ counts
+
+abbrev μ-loop : tie.MeasureT-loop
+μ-loop counts₀ state a₀ counts a = 32 - a
+
+there : (c : tie.In-loop Inv-loop μ-loop) → 32 * c .before .before .args .state + c .before .loop .a < length (c .before .loop .counts)
+there c =
+    let s = c .before .before in
+    omega (arith, s .pre .0, s .pre .1, c .loop-test .taken, c .before .loop .inv .1 .long)
+
+loop-holds : tie.Need-loop-holds Inv-loop μ-loop
+loop-holds c = (omega arith, none-start _)
+
+mul-counts : tie.Need-mul-counts Inv-loop μ-loop
+mul-counts c = omega (arith, c .before .before .pre .0)
+
+add-counts : tie.Need-add-counts Inv-loop μ-loop
+add-counts c = omega (arith, c .before .before .pre .0, c .loop-test .taken)
+
+slice-write-counts : tie.Need-slice-write-counts Inv-loop μ-loop
+slice-write-counts c = there c
+
+add-a : tie.Need-add-a Inv-loop μ-loop
+add-a c = search needs
+
+loop-less : tie.Need-loop-less Inv-loop μ-loop
+loop-less c = search needs
+
+loop-again : tie.Need-loop-again Inv-loop μ-loop
+loop-again c = (omega (arith, c .loop-test .taken), none-more _ (there c) (c .before .loop .inv .1))
+
+same-length : tie.Need-same-length Inv-loop μ-loop
+same-length c = c .before .loop .inv .1 .long
+
+returns : tie.Need-returns Inv-loop μ-loop
+returns c =
+    let at = c .before .loop in
+    let end : at .a ≡ 32 = omega (arith, at .inv .0, c .loop-test .left) in
+    rw end at (at .inv .1)
+
+pub plan-nothing-spec : {M : Type 1} → statement M
+plan-nothing-spec =
+    tie.close
+    (tie.spec Inv-loop μ-loop loop-holds mul-counts add-counts slice-write-counts add-a loop-less loop-again same-length returns)

@@ -1,0 +1,32 @@
+-- The definitions whose items are not in a state (`Skips` of crate attributes) are not planned: a pass goes from one of the others to the next.
+-- Assumes nothing.
+use Prim.Native.Nat.{ℕ, _<_, _≤_}
+use native.Mathlib.Omega.{arith}
+use mathlib.Core.Path.{_≡_, sym, ap, _∙_}
+use mathlib.Core.Bool.{false}
+use mathlib.Core.List.{List, []}
+use Rattle.sets.specs.Sets.{bit, empty}
+use Rattle.sets.specs.SetsLaws.{bit-empty}
+use Rattle.grammar.specs.Data.Book.{Book}
+use Rattle.grammar.specs.Formulas.Passes.{visits}
+use Rattle.grammar.specs.Formulas.FormulaCheck.{dotOf, definitions, lineAt}
+use Rattle.attributes.specs.Checking.{memberOf, CheckHeld}
+use Rattle.attributes.specs.Skips.{Skip, visits-on, item-word}
+use Rattle.plans.specs.Planning.{Planning, planLine, plan}
+use Rattle.plans.specs.PlanningLaws.{planLine-absent, plan-none}
+
+module _ {b : Book} {words rules owned masks : List ℕ} (H : CheckHeld b words rules owned masks) {lines : ℕ} (e : lines ≡ definitions b) (a : ℕ) where
+  absent : {i j : ℕ} → Skip words masks lines i j → (d : ℕ) → i ≤ d → d < j → memberOf masks a (lineAt b d .rule) (dotOf (lineAt b d)) ≡ false
+  unfolding empty
+  absent S d l h =
+      ap (λ (set : ℕ). bit set a) (item-word H {d = d} (omega (arith, S .high)) ∙ S .absent d l h) ∙ bit-empty a
+
+  -- from line i to line j
+  pub planning-skip : {i j : ℕ} → Skip words masks lines i j → (s : Planning)
+      → visits (planLine b (memberOf masks a)) i s ≡ visits (planLine b (memberOf masks a)) j s
+  planning-skip {i} {j} S s =
+      sym (visits-on (planLine b (memberOf masks a)) i j s (S .low) λ d l h. planLine-absent b (memberOf masks a) d (absent S d l h))
+
+  -- past all lines
+  pub plan-skipped : Skip words masks lines 0 lines → plan b (memberOf masks a) ≡ []
+  plan-skipped S = plan-none b (memberOf masks a) λ d l. absent S d (omega arith) (omega arith)

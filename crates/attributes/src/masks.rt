@@ -5,14 +5,17 @@ ghost use Prim.Native.Nat.{ℕ, _+_, _*_, _≤_, _<_};
 ghost use lib.ListN.{length, getD, set, replicate};
 ghost use lib.Seq.{slice};
 ghost use Rattle.sets.specs.Sets.{union};
-ghost use Rattle.grammar.specs.Data.Symbol.{Rule, rightOf, after};
+ghost use Rattle.grammar.specs.Data.Symbol.{Rule, leftOf, rightOf, after};
+ghost use Rattle.grammar.specs.Automaton.Fixpoint.{setAt};
 ghost use Rattle.grammar.specs.Automaton.FirstSets.{Sets};
 ghost use Rattle.grammar.specs.Automaton.ReachSets.{reachWith};
 ghost use Rattle.grammar.specs.Data.Book.{Book, Kernel};
-ghost use Rattle.grammar.specs.Automaton.CoreItems.{Core, ofRules, ofKernels};
+ghost use Rattle.grammar.specs.Automaton.CoreItems.{Core, entered, ofKernels};
+ghost use Rattle.grammar.specs.Formulas.FormulaCheck as grammar;
 ghost use Rattle.items.specs.Arrays.{SuffixesIn, ReachesIn};
+ghost use Rattle.attributes.specs.Checking.{CheckHeld};
 ghost use Rattle.attributes.specs.Marks.{MarksIn};
-ghost use Rattle.attributes.specs.MarkRules.{LooksIn};
+ghost use Rattle.attributes.specs.MarkFronts.{LooksIn, fronts};
 ghost use Rattle.attributes.specs.MarkLines.{ItemLinesIn, itemOf};
 ghost use Rattle.attributes.specs.StateMarks.{MarksHeld, StateMarksIn};
 use items::words::nothing;
@@ -57,9 +60,9 @@ fn mark_rule(
 )
     requires { ⌜ ((G : List Rule) × (L : List ℕ) × LooksIn G (now rules) L (now looks) first × (rule < length G)) × (first + 32 ≤ length (now looks))
         × (length (now nulls) ≡ 576) × (length (now reaches) ≡ 576) × (length (now masks) ≡ 576) ⌝ }
-    ensures { λ _. ⌜ ((G : List Rule) (F : Sets) (R firsts L : List ℕ) → LooksIn G (now (rules .entry)) L (now (looks .entry)) first → rule < length G
-        → SuffixesIn G F (now (nulls .entry)) firsts → ReachesIn G F R (now (reaches .entry)) → MarksIn G F R (ofRules G L rule) (now (masks .entry))
-        → MarksIn G F R (ofRules G L (rule + 1)) (now (masks .exit))) ⌝ }
+    ensures { λ _. ⌜ ((G : List Rule) (F : Sets) (R firsts L : List ℕ) (items : List Core) → LooksIn G (now (rules .entry)) L (now (looks .entry)) first
+        → rule < length G → SuffixesIn G F (now (nulls .entry)) firsts → ReachesIn G F R (now (reaches .entry)) → MarksIn G F R items (now (masks .entry))
+        → MarksIn G F R (entered rule (setAt L (leftOf G rule)) items) (now (masks .exit))) ⌝ }
 {
     let left = word(rules, 10 * rule);
     let own = looks[first + left];
@@ -69,28 +72,57 @@ fn mark_rule(
     mark_item(nulls, reaches, rule, 0, own, masks);
 }
 
-// The items of all rules with the dot in front, from sets that have nothing.
-fn mark_rules(
+// The item of the definition in a line, if its dot is in front.
+fn mark_front(
+    definitions: &[u32],
+    line: usize,
     rules: &[u32],
-    count: usize,
     looks: &[u32],
     first: usize,
     nulls: &[u32],
     reaches: &[u32],
     masks: &mut [u32],
 )
-    requires { ⌜ ((G : List Rule) × (L : List ℕ) × LooksIn G (now rules) L (now looks) first × (count ≡ length G)) × (first + 32 ≤ length (now looks))
+    requires { ⌜ ((b : Book) × (owned : List ℕ) × (cleared : List ℕ) × (L : List ℕ) × CheckHeld b (now definitions) (now rules) owned cleared
+        × LooksIn (b .rules) (now rules) L (now looks) first × (line < grammar.definitions b)) × (first + 32 ≤ length (now looks))
         × (length (now nulls) ≡ 576) × (length (now reaches) ≡ 576) × (length (now masks) ≡ 576) ⌝ }
-    ensures { λ _. ⌜ ((G : List Rule) (F : Sets) (R firsts L : List ℕ) → LooksIn G (now (rules .entry)) L (now (looks .entry)) first → count ≡ length G
-        → SuffixesIn G F (now (nulls .entry)) firsts → ReachesIn G F R (now (reaches .entry)) → MarksIn G F R [] (now (masks .entry))
-        → MarksIn G F R (ofRules G L count) (now (masks .exit))) ⌝ }
+    ensures { λ _. ⌜ ((b : Book) (F : Sets) (R firsts owned cleared L : List ℕ) → CheckHeld b (now (definitions .entry)) (now (rules .entry)) owned cleared
+        → LooksIn (b .rules) (now (rules .entry)) L (now (looks .entry)) first → line < grammar.definitions b
+        → SuffixesIn (b .rules) F (now (nulls .entry)) firsts → ReachesIn (b .rules) F R (now (reaches .entry))
+        → MarksIn (b .rules) F R (fronts b L line) (now (masks .entry)) → MarksIn (b .rules) F R (fronts b L (line + 1)) (now (masks .exit))) ⌝ }
+{
+    if word(definitions, 49 * line + 1) != 1 {
+        return;
+    }
+    let rule = word(definitions, 49 * line);
+    mark_rule(rules, looks, first, nulls, reaches, rule, masks);
+}
+
+// The items of all definitions with the dot in front, from sets that have nothing.
+fn mark_fronts(
+    definitions: &[u32],
+    lines: usize,
+    rules: &[u32],
+    looks: &[u32],
+    first: usize,
+    nulls: &[u32],
+    reaches: &[u32],
+    masks: &mut [u32],
+)
+    requires { ⌜ ((b : Book) × (owned : List ℕ) × (cleared : List ℕ) × (L : List ℕ) × CheckHeld b (now definitions) (now rules) owned cleared
+        × LooksIn (b .rules) (now rules) L (now looks) first × (lines ≡ grammar.definitions b)) × (first + 32 ≤ length (now looks))
+        × (length (now nulls) ≡ 576) × (length (now reaches) ≡ 576) × (length (now masks) ≡ 576) ⌝ }
+    ensures { λ _. ⌜ ((b : Book) (F : Sets) (R firsts owned cleared L : List ℕ) → CheckHeld b (now (definitions .entry)) (now (rules .entry)) owned cleared
+        → LooksIn (b .rules) (now (rules .entry)) L (now (looks .entry)) first → lines ≡ grammar.definitions b
+        → SuffixesIn (b .rules) F (now (nulls .entry)) firsts → ReachesIn (b .rules) F R (now (reaches .entry))
+        → MarksIn (b .rules) F R [] (now (masks .entry)) → MarksIn (b .rules) F R (fronts b L lines) (now (masks .exit))) ⌝ }
 {
     if nothing(looks, first) {
         return;
     }
     let mut i = 0;
-    while i < count {
-        mark_rule(rules, looks, first, nulls, reaches, i, masks);
+    while i < lines {
+        mark_front(definitions, i, rules, looks, first, nulls, reaches, masks);
         i += 1;
     }
 }
@@ -142,10 +174,12 @@ fn clear(masks: &mut [u32])
     }
 }
 
-// For each item of a state the terminals with which it is in a partial state: word 9 * P + D is of rule P with the dot after D symbols.
+// For each item of a state that a definition is of, the terminals with which it is in a partial state: word 9 * P + D is of rule P with the dot after D
+// symbols.
 pub fn masks(
+    definitions: &[u32],
+    lines: usize,
     rules: &[u32],
-    count: usize,
     kernels: &[u32],
     starts: &[u32],
     closures: &[u32],
@@ -154,15 +188,25 @@ pub fn masks(
     state: usize,
     masks: &mut [u32],
 )
-    requires { ⌜ ((b : Book) × (firsts : List ℕ)
+    requires { ⌜ ((b : Book) × (firsts : List ℕ) × (owned : List ℕ)
         × MarksHeld b (now rules) (now kernels) (now starts) (now closures) (now nulls) firsts (now reaches)
-        × (count ≡ length (b .rules)) × (state < b .states)) × (length (now masks) ≡ 576) ⌝ }
-    ensures { λ _. ⌜ ((b : Book) (firsts : List ℕ) → MarksHeld b (now (rules .entry)) (now (kernels .entry)) (now (starts .entry)) (now (closures .entry))
-        (now (nulls .entry)) firsts (now (reaches .entry)) → count ≡ length (b .rules) → state < b .states
+        × CheckHeld b (now definitions) (now rules) owned (now masks) × (lines ≡ grammar.definitions b) × (state < b .states)) ⌝ }
+    ensures { λ _. ⌜ ((b : Book) (firsts owned : List ℕ) → MarksHeld b (now (rules .entry)) (now (kernels .entry)) (now (starts .entry))
+        (now (closures .entry)) (now (nulls .entry)) firsts (now (reaches .entry))
+        → CheckHeld b (now (definitions .entry)) (now (rules .entry)) owned (now (masks .entry)) → lines ≡ grammar.definitions b → state < b .states
         → StateMarksIn b state (now (masks .exit))) ⌝ }
 {
     clear(masks);
-    mark_rules(rules, count, closures, 32 * state, nulls, reaches, masks);
+    mark_fronts(
+        definitions,
+        lines,
+        rules,
+        closures,
+        32 * state,
+        nulls,
+        reaches,
+        masks,
+    );
     let first = word(starts, state);
     let last = word(starts, state + 1);
     mark_lines(kernels, first, last, nulls, reaches, masks);

@@ -56,8 +56,9 @@ fn state_right(
         return true;
     }
     masks(
+        definitions,
+        lines as usize,
         rules,
-        count as usize,
         kernels,
         starts,
         closures,

@@ -1,10 +1,9 @@
--- Laws of the plans of a book: which tests give them, that they set the cells, and how the memory of them grows. Assumes nothing.
+-- Laws of the plans of a book: that sets of terminals give them, that they set the cells, and how the memory of them grows. Assumes nothing.
 use Prim.Native.Nat.{ℕ, suc, _+_, _*_, _<_, _≤_}
 use native.Mathlib.Numerals.{add-one}
 use native.Mathlib.Omega.{arith}
 use native.Mathlib.Decide.{ℕ-discrete, decLt}
-use mathlib.Core.Path.{_≡_, refl, sym, ap, _∙_}
-use mathlib.Core.Bool.{Bool}
+use mathlib.Core.Path.{_≡_, refl, ap, _∙_}
 use mathlib.Core.List.{List, []}
 use lib.ListN.{length, getD, set, replicate, length-set, length-replicate, getD-replicate}
 use lib.Seq.{getD-set-same, getD-set-other}
@@ -20,12 +19,12 @@ use Rattle.grammar.specs.Automaton.ReachSets.{reachSets}
 use Rattle.grammar.specs.Automaton.ItemsRightLaws.{book-items-right}
 use Rattle.grammar.specs.Evaluator.Machine.{Frame, cell}
 use Rattle.grammar.specs.Formulas.PartialLaws.{partialAt, partial-items}
-use Rattle.grammar.specs.Formulas.FormulaCheck.{dotOf, lineAt, listed}
+use Rattle.grammar.specs.Formulas.FormulaCheck.{listed}
 use Rattle.grammar.specs.Formulas.FormulaCheckLaws.{Tells}
 use Rattle.grammar.specs.Formulas.FormulaCheckAll.{listed-tells}
 use Rattle.attributes.specs.Checking.{memberOf}
 use Rattle.attributes.specs.StateMarks.{StateMarksIn}
-use Rattle.attributes.specs.Telling.{memberWithin, tells-same, within-same, within-tells}
+use Rattle.attributes.specs.Telling.{marks-tell}
 use Rattle.plans.specs.Planning.{applied, plan}
 use Rattle.plans.specs.PlanningLaws.{plan-short, plan-same}
 use Rattle.plans.specs.PlanCell.{planned-cell}
@@ -38,16 +37,9 @@ module _ {b : Book} (ordered : Ordered b) (limits : WithinLimits b) (declared : 
   listed-tell : Tells b S a (listed (partialAt b (setsOf (b .rules)) (reachSets (b .rules) (setsOf (b .rules))) S a))
   listed-tell = listed-tells _ (partial-items (book-items-right b (small-book ordered limits declared)) S a)
 
-  -- every test that tells the items gives the plan
-  pub plan-told : {member : ℕ → ℕ → Bool} → Tells b S a member → plan b member ≡ planOf b S a
-  plan-told {member} tells =
-      plan-same b member _ (λ d l. tells-same {b = b} {S = S} {a = a} tells listed-tell (lineAt b d .rule) (dotOf (lineAt b d)))
-
-  -- and so do the sets of terminals of the state's items
+  -- the sets of terminals of the state's items give the plan
   pub plan-marked : {masks : List ℕ} → StateMarksIn b S masks → a < 32 → plan b (memberOf masks a) ≡ planOf b S a
-  plan-marked {masks} H low =
-      sym (plan-same b (memberWithin masks a) (memberOf masks a) (within-same limits declared masks a))
-      ∙ plan-told (within-tells limits declared ordered S H a low)
+  plan-marked {masks} H low = plan-same b (memberOf masks a) _ (marks-tell limits declared ordered S H a low listed-tell)
 
 -- "Set the top cell's inherited values by the partial state's formulas, 0 where there is none"
 pub plan-sets-cell : {b : Book} → Spelled b → Sound b → (S a : ℕ) (st : List Frame) (K : ℕ)

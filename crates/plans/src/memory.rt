@@ -54,8 +54,9 @@ pub fn planned(
         return known as usize - 1;
     }
     masks(
+        definitions,
+        lines as usize,
         rules,
-        count as usize,
         kernels,
         starts,
         closures,

@@ -1,9 +1,9 @@
--- `masks::mark_rule` meets its contract, by the laws of `ofRules`.
+-- `masks::mark_rule` meets its contract, by the laws of an item that is entered.
 -- Assumes nothing.
 use Prim.Native.Nat.{_<_}
 use native.Mathlib.Omega.{arith}
 use borrow.Author.Needs.{needs}
-use Rattle.attributes.specs.MarkRules.{left-word, rule-idle, rule-marks}
+use Rattle.attributes.specs.MarkFronts.{left-word, rule-idle, rule-marks}
 use Rattle.attributes.proofs.masks.mark_rule.Statement.{statement}
 use Rattle.attributes.proofs.masks.mark_rule.Tie as tie
 
@@ -27,9 +27,9 @@ shared-slice-read-own : tie.Need-shared-slice-read-own
 shared-slice-read-own c = omega (arith, left (c .before), c .before .before .before .before .before .before .before .pre .1)
 
 returns : tie.Need-returns
-returns c = λ G F R firsts L H p N T M.
+returns c = λ G F R firsts L items H p N T M.
     let w = c .before .before in
-    rule-idle H (w .before .before .before .before .before .before .args .rule) p (w .word .ensures) (c .if1 .taken) M
+    rule-idle H (w .before .before .before .before .before .before .args .rule) p items (w .word .ensures) (c .if1 .taken) M
 
 mark-item-requires : tie.Need-mark-item-requires
 mark-item-requires c κs = search needs
@@ -38,12 +38,12 @@ same-length : tie.Need-same-length
 same-length c = search needs
 
 returns-2 : tie.Need-returns-2
-returns-2 c = λ G F R firsts L H p N T M.
+returns-2 c = λ G F R firsts L items H p N T M.
     let v = c .before .before in
     let e = v .before .before in
     let w = e .before .before in
     rw (v .mark-item .ensures G F R firsts N T p (omega arith))
-    (rule-marks H (w .before .before .before .before .before .before .args .rule) p (w .word .ensures) (e .if1 .left) M)
+    (rule-marks H (w .before .before .before .before .before .before .args .rule) p items (w .word .ensures) (e .if1 .left) M)
 
 pub mark-rule-spec : {M : Type 1} → statement M
 mark-rule-spec =

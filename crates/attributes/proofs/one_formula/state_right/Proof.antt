@@ -28,14 +28,16 @@ returns c = λ b firsts states H O L l.
 masks-requires : tie.Need-masks-requires
 masks-requires c κs =
     let s = entry c in
-    let g = s .pre .0 in ((g .0, g .1, g .3 .marks-held, g .3 .rules-counted, omega (arith, g .6, g .3 .states-are)), s .pre .1)
+    let g = s .pre .0 in
+    (g .0, g .1, _, g .3 .marks-held, held-check (g .3) (g .4) (s .pre .1), g .3 .definitions-counted, omega (arith, g .6, g .3 .states-are))
 
 check-state-requires : tie.Need-check-state-requires
 check-state-requires c κs =
     let m = c .before .before .before .before .before .before .before .before in
     let s = entry (m .before) in
     let g = s .pre .0 in
-    let M = m .masks .ensures (g .0) (g .1) (g .3 .marks-held) (g .3 .rules-counted) (omega (arith, g .6, g .3 .states-are)) in (
+    let C = held-check (g .3) (g .4) (s .pre .1) in
+    let M = m .masks .ensures (g .0) (g .1) _ (g .3 .marks-held) C (g .3 .definitions-counted) (omega (arith, g .6, g .3 .states-are)) in (
       (g .0, held-check (g .3) (g .4) (M .long), g .3 .definitions-counted),
       terminals-low (g .3),
       s .pre .2,
@@ -63,9 +65,10 @@ returns-2 : tie.Need-returns-2
 returns-2 c = λ b firsts states H O L l.
     let v = c .before .before .before .before .before .before .before .before .before .before in
     let m = v .before .before .before .before .before .before .before .before .before in
-    let M = m .masks .ensures b firsts (H .marks-held) (H .rules-counted) (omega (arith, l, H .states-are)) in
+    let s = entry (m .before) in
+    let M = m .masks .ensures b firsts _ (H .marks-held) (held-check H O (s .pre .1)) (H .definitions-counted) (omega (arith, l, H .states-are)) in
     v .check-state .ensures b (held-check H O (M .long)) (H .definitions-counted) (H .terminals-are)
-    ∙ state-told H (entry (m .before) .args .state) M
+    ∙ state-told H (s .args .state) M
 
 pub state-right-spec : {M : Type 1} → statement M
 state-right-spec =

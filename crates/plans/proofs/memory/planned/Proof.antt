@@ -33,7 +33,7 @@ few c =
     let m = marked (skipped c) in
     let (b, H, l, M) = entry (asked m) .pre .0 in
     let F = H .formulas-held in
-    let marks = m .masks .ensures b (H .firsts) (F .marks-held) (F .rules-counted) l in
+    let marks = m .masks .ensures b (H .firsts) _ (F .marks-held) (plans-check H (entry (asked m) .pre .2)) (F .definitions-counted) l in
     row-short b _ (c .plan .ensures .0 b (plans-check H (marks .long)) (F .definitions-counted))
 
 mul-place : tie.Need-mul-place
@@ -55,7 +55,11 @@ returns : tie.Need-returns
 returns c = λ b H s M. plan-known H M s (entry (c .before) .pre .1) (c .if1 .taken)
 
 masks-requires : tie.Need-masks-requires
-masks-requires c κs = search needs
+masks-requires c κs =
+    let s = entry (c .before .before) in
+    let (b, H, l, M) = s .pre .0 in
+    let F = H .formulas-held in
+    (b, H .firsts, _, F .marks-held, plans-check H (s .pre .2), F .definitions-counted, l)
 
 slice-aggregate-skip : tie.Need-slice-aggregate-skip
 slice-aggregate-skip c = search needs
@@ -65,7 +69,7 @@ skip-requires c κs =
     let m = c .before .before .before .before in
     let (b, H, l, M) = entry (asked m) .pre .0 in
     let F = H .formulas-held in
-    let marks = m .masks .ensures b (H .firsts) (F .marks-held) (F .rules-counted) l in
+    let marks = m .masks .ensures b (H .firsts) _ (F .marks-held) (plans-check H (entry (asked m) .pre .2)) (F .definitions-counted) l in
     ((b, _, _, plans-check H (marks .long), F .definitions-counted), refl)
 
 array-read-if2 : tie.Need-array-read-if2
@@ -95,7 +99,7 @@ returns-2 c =
     let v = n .before .before .before .before in
     let m = marked v in
     let F = H .formulas-held in
-    let marks = m .masks .ensures b (H .firsts) (F .marks-held) (F .rules-counted) l in
+    let marks = m .masks .ensures b (H .firsts) _ (F .marks-held) (plans-check H (entry (asked m) .pre .2)) (F .definitions-counted) l in
     let skip = v .skip .ensures .skip 0 (omega arith) (omega arith) in
     plans-none-due H M _ marks (rw (n .before .before .if2 .taken) at skip) (n .plan-nothing .ensures) _ (entry (asked m) .pre .1)
 
@@ -113,7 +117,7 @@ plan-requires c κs =
     let s = entry (asked m) in
     let (b, H, l, M) = s .pre .0 in
     let F = H .formulas-held in
-    let marks = m .masks .ensures b (H .firsts) (F .marks-held) (F .rules-counted) l in (
+    let marks = m .masks .ensures b (H .firsts) _ (F .marks-held) (plans-check H (entry (asked m) .pre .2)) (F .definitions-counted) l in (
       (b, plans-check H (marks .long), F .definitions-counted),
       omega (arith, s .pre .1),
       omega (arith, place (asked m), M .lists-long),
@@ -148,7 +152,7 @@ returns-3 c =
     let p = c .before .before in
     let m = marked (skipped p) in
     let F = H .formulas-held in
-    let marks = m .masks .ensures b (H .firsts) (F .marks-held) (F .rules-counted) l in
+    let marks = m .masks .ensures b (H .firsts) _ (F .marks-held) (plans-check H (entry (asked m) .pre .2)) (F .definitions-counted) l in
     plan-new H M l (entry (asked m) .pre .1) marks (p .plan .ensures .0 b (plans-check H (marks .long)) (F .definitions-counted)) (p .plan .ensures .1)
 
 pub planned-spec : {M : Type 1} → statement M

@@ -30,6 +30,7 @@ use Rattle.items.specs.SymbolCodes.{terminal-code, nonterminal-code}
 use Rattle.items.specs.GrammarIn.{GrammarIn, Next, after-none, after-some, right-symbol-low, set-word}
 use Rattle.automaton.specs.StatesIn.{StatesIn, Stands, Range, state-range, lines-next}
 use Rattle.automaton.specs.Advances.{kernel-stands}
+use Rattle.automaton.specs.Lefts.{Lefts, Gathered, Least, Rest, rest-first, rest-none, rest-there, rest-idle, rest-more, idle-rules}
 use Rattle.automaton.specs.Cells.{shifting, shift-code}
 use Rattle.automaton.specs.ActionRows.{Row, Clash, Melded, Given, meldAt, itemCells, melded-at, melded-same, melded-none, melded-then, melded-clash}
 
@@ -146,49 +147,69 @@ module _ {b : Book} {F : Sets} {rules closures : List ℕ} (g : GrammarIn b rule
       go zero n m = absurd (n refl)
       go (suc M) n m = unfold entered cellFrom in m
 
--- the rules below `rule` are done
-pub record RulesActing (rules closures : List ℕ) (T S count : ℕ) (old now : List ℕ) (rule : ℕ) : Type 0 where
-  pub within : rule ≤ count
+-- the rules below `rule` are done, and the others that the closure has are among the bits of `rest`
+pub record RulesActing (rules closures lefts : List ℕ) (T S : ℕ) (old now : List ℕ) (rest rule : ℕ) : Type 0 where
   pub long : length now ≡ length old
-  pub so-far : (b : Book) (F : Sets) → GrammarIn b rules → ClosuresIn b F closures → S < b .states → T ≡ b .terminals → count ≡ length (b .rules)
-      → Row T S (cellFrom (b .rules) []) old → Melded T S (cellFrom (b .rules) (ofRules (b .rules) (closureSets b F S) rule)) old now true
+  pub walk : (count : ℕ) → Lefts rules count lefts → Rest rules closures S count rest rule
+  pub so-far : (b : Book) (F : Sets) → GrammarIn b rules → ClosuresIn b F closures → S < b .states → T ≡ b .terminals
+      → Lefts rules (length (b .rules)) lefts → Row T S (cellFrom (b .rules) []) old
+      → Melded T S (cellFrom (b .rules) (ofRules (b .rules) (closureSets b F S) rule)) old now true
 
-pub acting-none : (rules closures : List ℕ) (T S count : ℕ) (old : List ℕ) → RulesActing rules closures T S count old old 0
+pub acting-none : (rules : List ℕ) {closures lefts : List ℕ} (T : ℕ) {S mask : ℕ} (old : List ℕ) → Gathered closures (32 * S) lefts 32 mask
+    → RulesActing rules closures lefts T S old old mask 0
 unfolding ofRules
-acting-none rules closures T S count old = record { within = omega arith; long = refl; so-far = λ b F g k s t c row. melded-none row }
+acting-none rules T old G = record { long = refl; walk = λ count L. rest-first L G; so-far = λ b F g k s t L row. melded-none row }
 
 -- a closure without items gives none
-pub acting-nothing : {b : Book} {F : Sets} {rules closures : List ℕ} → GrammarIn b rules → ClosuresIn b F closures → {T S count : ℕ} → S < b .states
-    → count ≡ length (b .rules) → Nothing closures (32 * S) 32 → {old : List ℕ} → Row T S (cellFrom (b .rules) []) old
-    → Melded T S (cellFrom (b .rules) (ofRules (b .rules) (closureSets b F S) count)) old old true
-acting-nothing g k s c idle row = rw (no-items g k s c idle) (melded-none row)
+pub acting-nothing : {b : Book} {F : Sets} {rules closures : List ℕ} → GrammarIn b rules → ClosuresIn b F closures → {T S : ℕ} → S < b .states
+    → Nothing closures (32 * S) 32 → {old : List ℕ} → Row T S (cellFrom (b .rules) []) old
+    → Melded T S (cellFrom (b .rules) (ofRules (b .rules) (closureSets b F S) (length (b .rules)))) old old true
+acting-nothing g k s idle row = rw (no-items g k s refl idle) (melded-none row)
 
-module _ {rules closures : List ℕ} {T S count : ℕ} {old now : List ℕ} {rule : ℕ} (k : RulesActing rules closures T S count old now rule) where
-  pub acting-all : count ≤ rule → (b : Book) (F : Sets) → GrammarIn b rules → ClosuresIn b F closures → S < b .states → T ≡ b .terminals
-      → count ≡ length (b .rules) → Row T S (cellFrom (b .rules) []) old
-      → Melded T S (cellFrom (b .rules) (ofRules (b .rules) (closureSets b F S) count)) old now true
-  acting-all l b F g h s t c row = let e : rule ≡ count = omega (arith, k .within) in rw e at (k .so-far b F g h s t c row)
+module _ {rules closures lefts : List ℕ} {T S : ℕ} {old now : List ℕ} {rest rule : ℕ} (k : RulesActing rules closures lefts T S old now rest rule) where
+  pub acting-all : rest ≡ 0 → (b : Book) (F : Sets) → GrammarIn b rules → ClosuresIn b F closures → S < b .states → T ≡ b .terminals
+      → Lefts rules (length (b .rules)) lefts → Row T S (cellFrom (b .rules) []) old
+      → Melded T S (cellFrom (b .rules) (ofRules (b .rules) (closureSets b F S) (length (b .rules)))) old now true
+  acting-all z b F g h s t L row =
+      let R : Rest rules closures S (length (b .rules)) rest rule = k .walk (length (b .rules)) L in
+      rw (idle-rules g h s rule (length (b .rules)) (R .within) (omega arith) (rest-none R z)) (k .so-far b F g h s t L row)
 
-  module _ (l : rule < count) {new : List ℕ} {r : Bool}
-      (f : (b : Book) (F : Sets) (items : List Core) → GrammarIn b rules → ClosuresIn b F closures → Stands b S rule 0 → T ≡ b .terminals
-      → Row T S (cellFrom (b .rules) items) now
-      → Melded T S (cellFrom (b .rules) (entered rule (setAt (closureSets b F S) (leftOf (b .rules) rule)) items)) now new r) where
-    next-rule : (b : Book) (F : Sets) → GrammarIn b rules → ClosuresIn b F closures → S < b .states → T ≡ b .terminals → count ≡ length (b .rules)
-        → Row T S (cellFrom (b .rules) []) old → Melded T S (cellFrom (b .rules) (ofRules (b .rules) (closureSets b F S) (rule + 1))) old new r
-    unfolding ofRules
-    next-rule b F g h s t c row =
-        let m : Melded T S (cellFrom (b .rules) (ofRules (b .rules) (closureSets b F S) rule)) old now true = k .so-far b F g h s t c row in
-        let stands : Stands b S rule 0 = record { state-there = s; rule-there = omega arith; dot-there = zero-le } in
-        rw (add-one rule) (melded-then m (f b F (ofRules (b .rules) (closureSets b F S) rule) g h stands t (m .row refl)))
+  -- the next rule
+  module _ {gap : ℕ} (least : Least rest gap) where
+    pub acting-stands : (b : Book) → S < b .states → Lefts rules (length (b .rules)) lefts → Stands b S (rule + gap) 0
+    acting-stands b s L = record { state-there = s; rule-there = rest-there (k .walk (length (b .rules)) L) least; dot-there = zero-le }
 
-    pub acting-more : r ≡ true → length new ≡ length now → RulesActing rules closures T S count old new (rule + 1)
-    acting-more q e = record { within = omega arith; long = e ∙ k .long; so-far = λ b F g h s t c row. rw q at (next-rule b F g h s t c row) }
+    module _ {new : List ℕ} {r : Bool}
+        (f : (b : Book) (F : Sets) (items : List Core) → GrammarIn b rules → ClosuresIn b F closures → Stands b S (rule + gap) 0 → T ≡ b .terminals
+        → Row T S (cellFrom (b .rules) items) now
+        → Melded T S (cellFrom (b .rules) (entered (rule + gap) (setAt (closureSets b F S) (leftOf (b .rules) (rule + gap))) items)) now new r) where
+      next-rule : (b : Book) (F : Sets) → GrammarIn b rules → ClosuresIn b F closures → S < b .states → T ≡ b .terminals
+          → Lefts rules (length (b .rules)) lefts → Row T S (cellFrom (b .rules) []) old
+          → Melded T S (cellFrom (b .rules) (ofRules (b .rules) (closureSets b F S) (rule + gap + 1))) old new r
+      unfolding ofRules
+      next-rule b F g h s t L row =
+          let R : Rest rules closures S (length (b .rules)) rest rule = k .walk (length (b .rules)) L in
+          let left-out : ofRules (b .rules) (closureSets b F S) (rule + gap) ≡ ofRules (b .rules) (closureSets b F S) rule =
+          idle-rules g h s rule (rule + gap) (omega arith) (omega (arith, rest-there R least)) (rest-idle R least) in
+          let m : Melded T S (cellFrom (b .rules) (ofRules (b .rules) (closureSets b F S) (rule + gap))) old now true =
+          rw left-out (k .so-far b F g h s t L row) in
+          rw (add-one (rule + gap)) (melded-then m (f b F (ofRules (b .rules) (closureSets b F S) (rule + gap)) g h (acting-stands b s L) t (m .row refl)))
 
-    pub acting-fail : r ≡ false → (b : Book) (F : Sets) → GrammarIn b rules → ClosuresIn b F closures → S < b .states → T ≡ b .terminals
-        → count ≡ length (b .rules) → Row T S (cellFrom (b .rules) []) old
-        → Melded T S (cellFrom (b .rules) (ofRules (b .rules) (closureSets b F S) count)) old new false
-    acting-fail q b F g h s t c row =
-        melded-clash (clash-rules (b .rules) (closureSets b F S) count (rule + 1) (omega arith) (next-rule b F g h s t c row .clash q))
+      pub acting-more : r ≡ true → length new ≡ length now → {next : ℕ} → ((i : ℕ) → bit next i ≡ bit rest (gap + 1 + i))
+          → RulesActing rules closures lefts T S old new next (rule + gap + 1)
+      acting-more q e next-is = record {
+        long = e ∙ k .long;
+        walk = λ count L. rest-more (k .walk count L) least next-is;
+        so-far = λ b F g h s t L row. rw q at (next-rule b F g h s t L row);
+      }
+
+      pub acting-fail : r ≡ false → (b : Book) (F : Sets) → GrammarIn b rules → ClosuresIn b F closures → S < b .states → T ≡ b .terminals
+          → Lefts rules (length (b .rules)) lefts → Row T S (cellFrom (b .rules) []) old
+          → Melded T S (cellFrom (b .rules) (ofRules (b .rules) (closureSets b F S) (length (b .rules)))) old new false
+      acting-fail q b F g h s t L row =
+          let there : rule + gap < length (b .rules) = rest-there (k .walk (length (b .rules)) L) least in
+          melded-clash (clash-rules (b .rules) (closureSets b F S) (length (b .rules)) (rule + gap + 1) (omega arith)
+          (next-rule b F g h s t L row .clash q))
 
 -- ---- the kernel lines of a state, from the last on
 
@@ -269,14 +290,15 @@ unfolding ofKernels
 clash-append G [] items c = c
 clash-append G (k ∷ ks) items c = clash-item G (k .rule) (k .dot) (setOf (k .lookaheads)) (ofKernels ks ++ items) (clash-append G ks items c)
 
-module _ (b : Book) (F : Sets) {T S count : ℕ} (c : count ≡ length (b .rules)) where
-  pub state-fail : {old mid new : List ℕ} → Melded T S (cellFrom (b .rules) (ofRules (b .rules) (closureSets b F S) count)) old mid false
+module _ (b : Book) (F : Sets) {T S : ℕ} where
+  pub state-fail : {old mid new : List ℕ} → Melded T S (cellFrom (b .rules) (ofRules (b .rules) (closureSets b F S) (length (b .rules)))) old mid false
       → Melded T S (cellFrom (b .rules) (coreItems b F S)) old new false
   unfolding coreItems
-  state-fail m = melded-clash (clash-append (b .rules) (kernelsIn (b .kernels) S) _ (rw c at (m .clash refl)))
+  state-fail m = melded-clash (clash-append (b .rules) (kernelsIn (b .kernels) S) _ (m .clash refl))
 
-  pub state-rest : {old mid new : List ℕ} {r : Bool} → Melded T S (cellFrom (b .rules) (ofRules (b .rules) (closureSets b F S) count)) old mid true
-      → Melded T S (cellFrom (b .rules) (ofKernels (kernelsIn (b .kernels) S) ++ ofRules (b .rules) (closureSets b F S) count)) mid new r
+  pub state-rest : {old mid new : List ℕ} {r : Bool}
+      → Melded T S (cellFrom (b .rules) (ofRules (b .rules) (closureSets b F S) (length (b .rules)))) old mid true
+      → Melded T S (cellFrom (b .rules) (ofKernels (kernelsIn (b .kernels) S) ++ ofRules (b .rules) (closureSets b F S) (length (b .rules)))) mid new r
       → Melded T S (cellFrom (b .rules) (coreItems b F S)) old new r
   unfolding coreItems
-  state-rest m n = rw c at (melded-then m n)
+  state-rest m n = melded-then m n

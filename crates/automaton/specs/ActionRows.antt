@@ -1,20 +1,24 @@
 -- The actions of one state in an array, 32 words from 32 * S on, and what is told of them when an item's action is melded in.
 -- Assumes nothing.
-use Prim.Native.Nat.{ℕ, _+_, _*_, _<_, _≤_}
+use Prim.Native.Nat.{ℕ, _+_, _*_, _-_, _/_, _%_, _^_, _<_, _≤_}
 use native.Mathlib.Omega.{arith}
 use mathlib.Core.Path.{_≡_, refl, sym, ap, _∙_}
 use mathlib.Core.Logic.{_⊎_, inl, inr}
-use mathlib.Core.Bool.{Bool, true, false}
+use mathlib.Core.Bool.{Bool, true, false, not, _&&_, _||_, and-true}
 use mathlib.Core.List.{List, []}
-use lib.Dec.{eqb, ltb}
+use lib.Dec.{eqb, ltb, leb}
+use lib.Bits.{bitAnd}
+use lib.Pow.{shr-shr, pow-mono}
 use lib.ListN.{length, getD, set}
 use lib.Seq.{getD-set-same, getD-set-other, set-getD}
-use borrow.Author.Tests.{eqb-true, eqb-false, eq-eqb, ne-eqb, ltb-true, ltb-false, lt-ltb, le-ltb}
+use borrow.Author.Tests.{eqb-true, eqb-false, eq-eqb, ne-eqb, ltb-true, ltb-false, lt-ltb, le-ltb, leb-true, leb-false, le-leb}
 use Rattle.sets.specs.Sets.{bit}
+use Rattle.sets.specs.Bits.{bit-past}
+use Rattle.sets.specs.Operations.{full, bit-and, bit-full}
 use Rattle.grammar.specs.Limits.{MAX-RULES}
 use Rattle.grammar.specs.Data.Symbol.{Symbol}
 use Rattle.grammar.specs.Automaton.States.{Action}
-use Rattle.grammar.specs.Automaton.TestLaws.{by-test, true-false}
+use Rattle.grammar.specs.Automaton.TestLaws.{by-test, true-false, both-true}
 use Rattle.grammar.specs.Automaton.Actions.{Cell, act, conflict, meld, completed, meldItem}
 use Rattle.items.specs.Arrays.{cellCode}
 use Rattle.automaton.specs.Cells.{Possible, completing, Clear, acting, clear-conflict, completed-code, meld-fits, meld-clash}
@@ -193,43 +197,109 @@ module _ (cells : ℕ → Cell) (P M : ℕ) where
       found : meldItem (c .at) P M [] (cells (c .at)) ≡ conflict
       found = by-order (c .at) k here (λ q. past (omega arith)) (λ l. past (omega arith))
 
-module _ (k : ℕ) (cells : ℕ → Cell) (P M : ℕ) {T S : ℕ} {old : List ℕ} (row : Row T S (completedBelow k cells P M) old) where
-  pub complete-skip : bit M k ≡ false → Melded T S (completedBelow (k + 1) cells P M) old old true
+-- a byte that is given an action, or is not
+unfoldable pub actedCode : ℕ → Bool → ℕ → ℕ
+actedCode old true word = word
+actedCode old false word = old
+
+module _ (k : ℕ) (cells : ℕ → Cell) (P M : ℕ) {T S : ℕ} {old : List ℕ} (row : Row T S (completedBelow k cells P M) old) (few : T < 32)
+    (room : 32 * S + 32 ≤ length old) (p : P < MAX-RULES) where
+  complete-skip : bit M k ≡ false → Melded T S (completedBelow (k + 1) cells P M) old old true
   complete-skip e = melded-same (λ a l. below-skip cells P M k e a) (melded-none row)
 
-  pub complete-give : bit M k ≡ true → T < 32 → k ≤ T → 32 * S + 32 ≤ length old → P < MAX-RULES → {new : List ℕ} {r : Bool}
+  complete-give : bit M k ≡ true → k ≤ T → {new : List ℕ} {r : Bool}
       → Given old (32 * S + k) (2 + P) new r → Melded T S (completedBelow (k + 1) cells P M) old new r
-  complete-give e few l room p g =
+  complete-give e l g =
       melded-same (λ a h. below-next cells P M k e a) (melded-at row few room (completing P p refl) l (sym (completed-code P)) g)
 
--- the terminals below a are done
-pub record Completing (T S P M : ℕ) (old now : List ℕ) (a : ℕ) : Type 0 where
-  pub within : a ≤ T + 1
-  pub long : length now ≡ length old
-  pub so-far : (cells : ℕ → Cell) → Row T S cells old → Melded T S (completedBelow a cells P M) old now true
+  given-any : (v : ℕ) → getD old (32 * S + k) 0 ≡ v → Given old (32 * S + k) (2 + P) (set old (32 * S + k) (2 + P)) (eqb v 0 || eqb v (2 + P))
+  given-any v e = go (eqb v 0) refl (eqb v (2 + P)) refl
+    where
+      go : (s : Bool) → eqb v 0 ≡ s → (t : Bool) → eqb v (2 + P) ≡ t
+          → Given old (32 * S + k) (2 + P) (set old (32 * S + k) (2 + P)) (s || t)
+      go true f t g = record { fits = λ q. inl (e ∙ eqb-true v 0 f); stored = λ q. refl; other = λ q. true-false refl q }
+      go false f true g = record { fits = λ q. inr (e ∙ eqb-true v (2 + P) g); stored = λ q. refl; other = λ q. true-false refl q }
+      go false f false g =
+          record { fits = λ q. true-false q refl; stored = λ q. refl; other = λ q. (λ z. eqb-false v 0 f (sym e ∙ z), λ z. eqb-false v (2 + P) g (sym e ∙ z)) }
 
-pub completing-none : (T S P M : ℕ) (old : List ℕ) → Completing T S P M old old 0
+  -- by whether terminal k is a lookahead
+  pub complete-turn : (given : Bool) → given ≡ bit M k → (bit M k ≡ true → k ≤ T)
+      → Melded T S (completedBelow (k + 1) cells P M) old (set old (32 * S + k) (actedCode (getD old (32 * S + k) 0) given (2 + P)))
+      ((not given || eqb (getD old (32 * S + k) 0) 0) || eqb (getD old (32 * S + k) 0) (2 + P))
+  unfolding actedCode
+  complete-turn true e l = complete-give (sym e) (l (sym e)) (given-any _ refl)
+  complete-turn false e l = rw (set-getD old (32 * S + k) 0) (complete-skip (sym e))
+
+-- the members of a set up to T
+pub record Among (M T r : ℕ) : Type 0 where
+  pub members : (a : ℕ) → a < 32 → bit r a ≡ (bit M a && leb a T)
+
+pub among-is : (M T : ℕ) → T < 32 → Among M T (bitAnd M (full / 2 ^ (31 - T)))
+among-is M T few = record { members = λ a h. bit-and M (full / 2 ^ (31 - T)) a ∙ ap (λ (t : Bool). bit M a && t) (up-to a h) }
+  where
+    shifted : (a : ℕ) → bit (full / 2 ^ (31 - T)) a ≡ bit full (31 - T + a)
+    shifted a = unfold bit in ap (λ (x : ℕ). eqb (x % 2) 1) (shr-shr full (31 - T) a)
+
+    up-to : (a : ℕ) → a < 32 → bit (full / 2 ^ (31 - T)) a ≡ leb a T
+    up-to a h = shifted a ∙ go (leb a T) refl
+      where
+        go : (t : Bool) → leb a T ≡ t → bit full (31 - T + a) ≡ t
+        go true e = bit-full (31 - T + a) (omega (arith, leb-true a T e))
+        go false e =
+            let far : 32 ≤ 31 - T + a = omega (arith, leb-false a T e) in
+            let past : 2 ^ 32 ≤ 2 ^ (31 - T + a) = pow-mono far in
+            bit-past full (31 - T + a) (omega arith)
+
+module _ {M T r : ℕ} (A : Among M T r) where
+  -- such a member is a terminal
+  pub among-low : (a : ℕ) → a < 32 → bit r a ≡ true → a ≤ T
+  among-low a h e = leb-true a T (both-true (bit M a) (leb a T) (sym (A .members a h) ∙ e) .1)
+
+  among-same : T < 32 → (P : ℕ) (cells : ℕ → Cell) (a : ℕ) → a ≤ T → meldItem a P r [] (cells a) ≡ meldItem a P M [] (cells a)
+  unfolding meldItem
+  among-same few P cells a l =
+      let e : bit r a ≡ bit M a = A .members a (omega arith) ∙ ap (λ (t : Bool). bit M a && t) (le-leb a T l) ∙ and-true (bit M a) in
+      ap (λ (t : Bool). elim t [ true ↦ meld (cells a) (completed P) | false ↦ cells a ]) e
+
+-- the terminals below a are done, or an action met another
+pub record Completing (T S P M : ℕ) (old now : List ℕ) (clear : Bool) (a : ℕ) : Type 0 where
+  pub long : length now ≡ length old
+  pub so-far : clear ≡ true → (cells : ℕ → Cell) → Row T S cells old → Melded T S (completedBelow a cells P M) old now true
+  pub clash : clear ≡ false → (cells : ℕ → Cell) → Row T S cells old → Clash T (λ a. meldItem a P M [] (cells a))
+
+pub completing-none : (T S P M : ℕ) (old : List ℕ) → Completing T S P M old old true 0
 completing-none T S P M old = record {
-  within = omega arith;
   long = refl;
-  so-far = λ cells row. melded-same (λ a l. below-none cells P M a) (melded-none row);
+  so-far = λ q cells row. melded-same (λ a l. below-none cells P M a) (melded-none row);
+  clash = λ q. true-false refl q;
 }
 
-module _ {T S P M : ℕ} {old now : List ℕ} {a : ℕ} (k : Completing T S P M old now a) where
-  pub completing-all : T < a → (cells : ℕ → Cell) → Row T S cells old → Melded T S (λ a. meldItem a P M [] (cells a)) old now true
-  completing-all l cells row = melded-same (below-all cells P M T a l) (k .so-far cells row)
+module _ {T S P M : ℕ} {old now : List ℕ} {clear : Bool} {a : ℕ} (k : Completing T S P M old now clear a) (few : T < 32) where
+  pub completing-more : {new : List ℕ} {r : Bool} → (bit M a ≡ true → a ≤ T)
+      → ((T : ℕ) (cells : ℕ → Cell) → T < 32 → (bit M a ≡ true → a ≤ T) → Row T S (completedBelow a cells P M) now
+      → Melded T S (completedBelow (a + 1) cells P M) now new r)
+      → length new ≡ length now → Completing T S P M old new (clear && r) (a + 1)
+  completing-more {new} {r} low f e = record {
+    long = e ∙ k .long;
+    so-far = λ q cells row. let (first, now-too) = both-true clear r q in rw now-too at (next first cells row);
+    clash = λ q. both clear refl r refl q;
+  }
+    where
+      next : clear ≡ true → (cells : ℕ → Cell) → Row T S cells old → Melded T S (completedBelow (a + 1) cells P M) old new r
+      next q cells row = let m : Melded T S (completedBelow a cells P M) old now true = k .so-far q cells row in melded-then m (f T cells few low (m .row refl))
 
-  module _ (few : T < 32) (l : a ≤ T) {new : List ℕ} {r : Bool}
-      (f : (T : ℕ) (cells : ℕ → Cell) → T < 32 → a ≤ T → Row T S (completedBelow a cells P M) now
-      → Melded T S (completedBelow (a + 1) cells P M) now new r) where
-    next : (cells : ℕ → Cell) → Row T S cells old → Melded T S (completedBelow (a + 1) cells P M) old new r
-    next cells row = let m : Melded T S (completedBelow a cells P M) old now true = k .so-far cells row in melded-then m (f T cells few l (m .row refl))
+      both : (s : Bool) → clear ≡ s → (t : Bool) → r ≡ t → (s && t) ≡ false → (cells : ℕ → Cell) → Row T S cells old
+          → Clash T (λ a. meldItem a P M [] (cells a))
+      both true u t v q cells row = below-clash cells P M T (a + 1) (row .clear) (next u cells row .clash (v ∙ q))
+      both false u t v q cells row = k .clash u cells row
 
-    pub completing-more : r ≡ true → length new ≡ length now → Completing T S P M old new (a + 1)
-    completing-more q e = record { within = omega arith; long = e ∙ k .long; so-far = λ cells row. rw q at (next cells row) }
-
-    pub completing-fail : r ≡ false → (cells : ℕ → Cell) → Row T S cells old → Melded T S (λ a. meldItem a P M [] (cells a)) old new false
-    completing-fail q cells row = melded-clash (below-clash cells P M T (a + 1) (row .clear) (next cells row .clash q))
+  pub completing-all : T < a → {set : ℕ} → Among set T M → (cells : ℕ → Cell) → Row T S cells old
+      → Melded T S (λ a. meldItem a P set [] (cells a)) old now clear
+  completing-all l {set} A cells row = go clear refl
+    where
+      go : (s : Bool) → clear ≡ s → Melded T S (λ a. meldItem a P set [] (cells a)) old now s
+      go true q = melded-same (λ a h. below-all cells P M T _ l a h ∙ among-same A few P cells a h) (k .so-far q cells row)
+      go false q = melded-clash (clash-same (λ a h. among-same A few P cells a h) (k .clash q cells row))
 
 -- ---- an item
 

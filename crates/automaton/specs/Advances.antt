@@ -3,12 +3,15 @@
 use Prim.Native.Nat.{ℕ, zero, suc, _+_, _*_, _-_, _<_, _≤_, zero-le}
 use native.Mathlib.Omega.{arith}
 use native.Mathlib.Numerals.{add-one}
+use native.Mathlib.Nat.{eq-or-lt-of-le, le-of-suc-le-suc}
 use mathlib.Core.Path.{_≡_, refl, sym, ap, _∙_}
+use mathlib.Core.Logic.{⊎-elim}
 use mathlib.Core.Bool.{Bool, true, false}
 use mathlib.Core.Option.{Option, none, some}
 use mathlib.Core.List.{List, [], _∷_, _++_}
 use lib.ListN.{length, getD}
 use lib.Seq.{slice, slice-empty}
+use Rattle.sets.specs.Sets.{bit}
 use Rattle.grammar.specs.Limits.{MAX-STATES}
 use Rattle.grammar.specs.Data.Symbol.{Symbol, leftOf, after}
 use Rattle.grammar.specs.Data.Book.{Book, Kernel}
@@ -25,6 +28,7 @@ use Rattle.items.specs.NoItems.{Nothing, no-items}
 use Rattle.items.specs.Arrays.{targetCode}
 use Rattle.items.specs.GrammarIn.{Next, after-none, after-some, right-go, set-word}
 use Rattle.automaton.specs.StatesIn.{StatesIn, MovesIn, ItemsIn, AutomatonIn, Stands, Range, state-range, kernel-there, lines-next}
+use Rattle.automaton.specs.Lefts.{Lefts, Gathered, Least, Rest, rest-first, rest-none, rest-there, rest-idle, rest-more, idle-rules}
 
 -- ---- one item
 
@@ -229,51 +233,82 @@ module _ {b : Book} {F : Sets} {rules kernels starts closures : List ℕ} (h : I
       go zero n = absurd (n refl)
       go (suc M) n = unfold entered in sym (one-item b S P (suc M))
 
--- the rules from `rule` on advance
-pub record RulesAdvance (rules kernels starts closures table : List ℕ) (S count rule : ℕ) : Type 0 where
-  pub within : rule ≤ count
-  pub same : (b : Book) (F : Sets) → AutomatonIn b F rules kernels starts closures table → S < b .states → count ≡ length (b .rules)
-      → allAdvance b S (ofRules (b .rules) (closureSets b F S) rule) ≡ allAdvance b S (ofRules (b .rules) (closureSets b F S) count)
+-- a rule that does not advance is one of all
+rules-false : (b : Book) (S : ℕ) (looks : List ℕ) (n p : ℕ) → p ≤ n → allAdvance b S (ofRules (b .rules) looks p) ≡ false
+    → allAdvance b S (ofRules (b .rules) looks n) ≡ false
+rules-false b S looks zero p l e = let z : p ≡ 0 = omega arith in rw z at e
+rules-false b S looks (suc n) p l e =
+    ⊎-elim (λ z. rw z at e) (λ h. later (rules-false b S looks n p (le-of-suc-le-suc h) e)) (eq-or-lt-of-le l)
+  where
+    stays : (t : Bool) → {x : Bool} → x ≡ false → elim t [ true ↦ x | false ↦ false ] ≡ false
+    stays true e = e
+    stays false e = refl
 
-pub rules-none : (rules kernels starts closures table : List ℕ) (S count : ℕ) → RulesAdvance rules kernels starts closures table S count count
-rules-none rules kernels starts closures table S count = record { within = omega arith; same = λ b F h s c. refl }
+    later : allAdvance b S (ofRules (b .rules) looks n) ≡ false → allAdvance b S (ofRules (b .rules) looks (suc n)) ≡ false
+    later q =
+        let M : ℕ = setAt looks (leftOf (b .rules) n) in
+        let t : Bool = allAdvance b S (entered n M []) in
+        unfold ofRules in entered-item b S n M (ofRules (b .rules) looks n) t refl ∙ stays t q
+
+-- the rules below `rule` advance, and the others that the closure has are among the bits of `rest`
+pub record RulesAdvance (rules kernels starts closures table lefts : List ℕ) (S rest rule : ℕ) : Type 0 where
+  pub walk : (count : ℕ) → Lefts rules count lefts → Rest rules closures S count rest rule
+  pub so-far : (b : Book) (F : Sets) → AutomatonIn b F rules kernels starts closures table → S < b .states → Lefts rules (length (b .rules)) lefts
+      → allAdvance b S (ofRules (b .rules) (closureSets b F S) rule) ≡ true
+
+pub rules-none : (rules kernels starts closures table : List ℕ) {lefts : List ℕ} {S mask : ℕ} → Gathered closures (32 * S) lefts 32 mask
+    → RulesAdvance rules kernels starts closures table lefts S mask 0
+unfolding allAdvance ofRules
+rules-none rules kernels starts closures table G = record { walk = λ count L. rest-first L G; so-far = λ b F h s L. refl }
 
 -- a closure without items has none to advance
-pub rules-nothing : {b : Book} {F : Sets} {rules kernels starts closures table : List ℕ} → AutomatonIn b F rules kernels starts closures table → {S count : ℕ}
-    → S < b .states → count ≡ length (b .rules) → Nothing closures (32 * S) 32 → true ≡ allAdvance b S (ofRules (b .rules) (closureSets b F S) count)
+pub rules-nothing : {b : Book} {F : Sets} {rules kernels starts closures table : List ℕ} → AutomatonIn b F rules kernels starts closures table → {S : ℕ}
+    → S < b .states → Nothing closures (32 * S) 32 → true ≡ allAdvance b S (ofRules (b .rules) (closureSets b F S) (length (b .rules)))
 unfolding allAdvance
-rules-nothing {b} h {S} s c idle = sym (ap (allAdvance b S) (no-items (h .states-in .grammar-in) (h .closures-in) s c idle))
+rules-nothing {b} h {S} s idle = sym (ap (allAdvance b S) (no-items (h .states-in .grammar-in) (h .closures-in) s refl idle))
 
-module _ {rules kernels starts closures table : List ℕ} {S count rule : ℕ} (k : RulesAdvance rules kernels starts closures table S count rule) where
-  pub rules-all : rule ≤ 0 → (b : Book) (F : Sets) → AutomatonIn b F rules kernels starts closures table → S < b .states → count ≡ length (b .rules)
-      → true ≡ allAdvance b S (ofRules (b .rules) (closureSets b F S) count)
-  unfolding allAdvance ofRules
-  rules-all z b F h s c = let e : rule ≡ 0 = omega arith in sym (rw e) ∙ k .same b F h s c
+module _ {rules kernels starts closures table lefts : List ℕ} {S rest rule : ℕ} (k : RulesAdvance rules kernels starts closures table lefts S rest rule) where
+  pub rules-all : rest ≡ 0 → (b : Book) (F : Sets) → AutomatonIn b F rules kernels starts closures table → S < b .states
+      → Lefts rules (length (b .rules)) lefts → true ≡ allAdvance b S (ofRules (b .rules) (closureSets b F S) (length (b .rules)))
+  rules-all z b F h s L =
+      let R : Rest rules closures S (length (b .rules)) rest rule = k .walk (length (b .rules)) L in
+      let left-out = idle-rules (h .states-in .grammar-in) (h .closures-in) s rule (length (b .rules)) (R .within) (omega arith) (rest-none R z) in
+      sym (ap (allAdvance b S) left-out ∙ k .so-far b F h s L)
 
-  module _ (pos : 0 < rule) where
-    pub rule-stands : (b : Book) → S < b .states → count ≡ length (b .rules) → Stands b S (rule - 1) 0
-    rule-stands b s c = record { state-there = s; rule-there = omega (arith, k .within); dot-there = zero-le }
+  -- the next rule
+  module _ {gap : ℕ} (least : Least rest gap) where
+    pub rule-stands : (b : Book) → S < b .states → Lefts rules (length (b .rules)) lefts → Stands b S (rule + gap) 0
+    rule-stands b s L = record { state-there = s; rule-there = rest-there (k .walk (length (b .rules)) L) least; dot-there = zero-le }
 
-    next-rule : (b : Book) (F : Sets) (t : Bool) → ruleAdvances b F S (rule - 1) ≡ t
-        → allAdvance b S (ofRules (b .rules) (closureSets b F S) rule)
-        ≡ elim t [ true ↦ allAdvance b S (ofRules (b .rules) (closureSets b F S) (rule - 1)) | false ↦ false ]
+    next-rule : (b : Book) (F : Sets) → AutomatonIn b F rules kernels starts closures table → S < b .states → Lefts rules (length (b .rules)) lefts
+        → (t : Bool) → ruleAdvances b F S (rule + gap) ≡ t → allAdvance b S (ofRules (b .rules) (closureSets b F S) (rule + gap + 1)) ≡ t
     unfolding ofRules ruleAdvances
-    next-rule b F t q =
-        let e : rule ≡ suc (rule - 1) = omega arith in
-        ap (λ (n : ℕ). allAdvance b S (ofRules (b .rules) (closureSets b F S) n)) e ∙ entered-item b S (rule - 1) _ _ t q
+    next-rule b F h s L t q =
+        let R : Rest rules closures S (length (b .rules)) rest rule = k .walk (length (b .rules)) L in
+        let left-out = idle-rules (h .states-in .grammar-in) (h .closures-in) s rule (rule + gap) (omega arith) (omega (arith, rest-there R least))
+        (rest-idle R least) in
+        rw (add-one (rule + gap)) (entered-item b S (rule + gap) _ _ t q ∙ own t (ap (allAdvance b S) left-out ∙ k .so-far b F h s L))
+      where
+        own : (t : Bool) {x : Bool} → x ≡ true → elim t [ true ↦ x | false ↦ false ] ≡ t
+        own true e = e
+        own false e = refl
 
-    pub rules-more : ((b : Book) (F : Sets) → AutomatonIn b F rules kernels starts closures table → Stands b S (rule - 1) 0
-        → true ≡ ruleAdvances b F S (rule - 1)) → RulesAdvance rules kernels starts closures table S count (rule - 1)
-    rules-more e = record {
-      within = omega (arith, k .within);
-      same = λ b F h s c. sym (next-rule b F true (sym (e b F h (rule-stands b s c)))) ∙ k .same b F h s c;
+    pub rules-more : ((b : Book) (F : Sets) → AutomatonIn b F rules kernels starts closures table → Stands b S (rule + gap) 0
+        → true ≡ ruleAdvances b F S (rule + gap)) → {next : ℕ} → ((i : ℕ) → bit next i ≡ bit rest (gap + 1 + i))
+        → RulesAdvance rules kernels starts closures table lefts S next (rule + gap + 1)
+    rules-more e next-is = record {
+      walk = λ count L. rest-more (k .walk count L) least next-is;
+      so-far = λ b F h s L. next-rule b F h s L true (sym (e b F h (rule-stands b s L)));
     }
 
-    pub rules-fail : ((b : Book) (F : Sets) → AutomatonIn b F rules kernels starts closures table → Stands b S (rule - 1) 0
-        → false ≡ ruleAdvances b F S (rule - 1))
-        → (b : Book) (F : Sets) → AutomatonIn b F rules kernels starts closures table → S < b .states → count ≡ length (b .rules)
-        → false ≡ allAdvance b S (ofRules (b .rules) (closureSets b F S) count)
-    rules-fail e b F h s c = sym (next-rule b F false (sym (e b F h (rule-stands b s c)))) ∙ k .same b F h s c
+    pub rules-fail : ((b : Book) (F : Sets) → AutomatonIn b F rules kernels starts closures table → Stands b S (rule + gap) 0
+        → false ≡ ruleAdvances b F S (rule + gap))
+        → (b : Book) (F : Sets) → AutomatonIn b F rules kernels starts closures table → S < b .states → Lefts rules (length (b .rules)) lefts
+        → false ≡ allAdvance b S (ofRules (b .rules) (closureSets b F S) (length (b .rules)))
+    rules-fail e b F h s L =
+        let there : rule + gap < length (b .rules) = rest-there (k .walk (length (b .rules)) L) least in
+        sym (rules-false b S (closureSets b F S) (length (b .rules)) (rule + gap + 1) (omega arith)
+        (next-rule b F h s L false (sym (e b F h (rule-stands b s L)))))
 
 -- ---- all items of a state
 
@@ -297,26 +332,27 @@ module _ (b : Book) (F : Sets) (S : ℕ) where
   unfolding coreItems
   state-fail e = sym (append-items b S _ _ false (sym e))
 
-  pub state-rest : {r : Bool} {count : ℕ} → true ≡ allAdvance b S (ofKernels (kernelsIn (b .kernels) S)) → count ≡ length (b .rules)
-      → r ≡ allAdvance b S (ofRules (b .rules) (closureSets b F S) count) → r ≡ allAdvance b S (coreItems b F S)
+  pub state-rest : {r : Bool} → true ≡ allAdvance b S (ofKernels (kernelsIn (b .kernels) S))
+      → r ≡ allAdvance b S (ofRules (b .rules) (closureSets b F S) (length (b .rules))) → r ≡ allAdvance b S (coreItems b F S)
   unfolding coreItems
-  state-rest e c q = rw c at q ∙ sym (append-items b S _ _ true (sym e))
+  state-rest e q = q ∙ sym (append-items b S _ _ true (sym e))
 
 -- ---- all states
 
 -- the states from `state` on advance
-pub record StatesAdvance (rules kernels starts closures table : List ℕ) (states count state : ℕ) : Type 0 where
+pub record StatesAdvance (rules kernels starts closures table lefts : List ℕ) (states state : ℕ) : Type 0 where
   pub within : state ≤ states
-  pub same : (b : Book) (F : Sets) → AutomatonIn b F rules kernels starts closures table → states ≡ b .states → count ≡ length (b .rules)
+  pub same : (b : Book) (F : Sets) → AutomatonIn b F rules kernels starts closures table → states ≡ b .states → Lefts rules (length (b .rules)) lefts
       → statesAdvance b (coreItems b F) state ≡ statesAdvance b (coreItems b F) states
 
-pub states-none : (rules kernels starts closures table : List ℕ) (states count : ℕ) → StatesAdvance rules kernels starts closures table states count states
-states-none rules kernels starts closures table states count = record { within = omega arith; same = λ b F h s c. refl }
+pub states-none : (rules kernels starts closures table lefts : List ℕ) (states : ℕ)
+    → StatesAdvance rules kernels starts closures table lefts states states
+states-none rules kernels starts closures table lefts states = record { within = omega arith; same = λ b F h s c. refl }
 
-module _ {rules kernels starts closures table : List ℕ} {states count state : ℕ}
-    (k : StatesAdvance rules kernels starts closures table states count state) where
-  pub states-all : state ≤ 0 → (b : Book) (F : Sets) → AutomatonIn b F rules kernels starts closures table → states ≡ b .states → count ≡ length (b .rules)
-      → true ≡ statesAdvance b (coreItems b F) states
+module _ {rules kernels starts closures table lefts : List ℕ} {states state : ℕ}
+    (k : StatesAdvance rules kernels starts closures table lefts states state) where
+  pub states-all : state ≤ 0 → (b : Book) (F : Sets) → AutomatonIn b F rules kernels starts closures table → states ≡ b .states
+      → Lefts rules (length (b .rules)) lefts → true ≡ statesAdvance b (coreItems b F) states
   unfolding statesAdvance
   states-all z b F h s c = let e : state ≡ 0 = omega arith in sym (rw e) ∙ k .same b F h s c
 
@@ -328,16 +364,17 @@ module _ {rules kernels starts closures table : List ℕ} {states count state : 
         let e : state ≡ suc (state - 1) = omega arith in
         ap (statesAdvance b (coreItems b F)) e ∙ ap (λ (x : Bool). elim x [ true ↦ statesAdvance b (coreItems b F) (state - 1) | false ↦ false ]) q
 
-    pub states-more : ((b : Book) (F : Sets) → AutomatonIn b F rules kernels starts closures table → state - 1 < b .states → count ≡ length (b .rules)
-        → true ≡ allAdvance b (state - 1) (coreItems b F (state - 1))) → StatesAdvance rules kernels starts closures table states count (state - 1)
+    pub states-more : ((b : Book) (F : Sets) → AutomatonIn b F rules kernels starts closures table → state - 1 < b .states
+        → Lefts rules (length (b .rules)) lefts → true ≡ allAdvance b (state - 1) (coreItems b F (state - 1)))
+        → StatesAdvance rules kernels starts closures table lefts states (state - 1)
     states-more e = record {
       within = omega (arith, k .within);
       same = λ b F h s c. sym (next-state b F true (sym (e b F h (omega (arith, k .within)) c))) ∙ k .same b F h s c;
     }
 
-    pub states-fail : ((b : Book) (F : Sets) → AutomatonIn b F rules kernels starts closures table → state - 1 < b .states → count ≡ length (b .rules)
-        → false ≡ allAdvance b (state - 1) (coreItems b F (state - 1)))
-        → (b : Book) (F : Sets) → AutomatonIn b F rules kernels starts closures table → states ≡ b .states → count ≡ length (b .rules)
+    pub states-fail : ((b : Book) (F : Sets) → AutomatonIn b F rules kernels starts closures table → state - 1 < b .states
+        → Lefts rules (length (b .rules)) lefts → false ≡ allAdvance b (state - 1) (coreItems b F (state - 1)))
+        → (b : Book) (F : Sets) → AutomatonIn b F rules kernels starts closures table → states ≡ b .states → Lefts rules (length (b .rules)) lefts
         → false ≡ statesAdvance b (coreItems b F) states
     states-fail e b F h s c = sym (next-state b F false (sym (e b F h (omega (arith, k .within)) c))) ∙ k .same b F h s c
 

@@ -3,10 +3,11 @@
 use Prim.Native.Nat.{ℕ, zero, suc, _+_, _*_, _-_, _<_, _≤_}
 use native.Mathlib.Omega.{arith}
 use native.Mathlib.Numerals.{add-one}
+use native.Mathlib.Decide.{ℕ-discrete}
 use native.Mathlib.Nat.{eq-or-lt-of-le, le-of-suc-le-suc}
 use mathlib.Core.Path.{_≡_, refl, sym, ap, _∙_}
 use mathlib.Core.Logic.{⊎-elim}
-use mathlib.Core.Bool.{Bool, true, false, not, _&&_, _||_}
+use mathlib.Core.Bool.{Bool, true, false, not, _&&_, _||_, or-true, or-false}
 use mathlib.Core.List.{List, [], _∷_, _++_}
 use lib.Dec.{eqb, leb}
 use lib.ListN.{length, getD, drop, drop-of-length-le}
@@ -112,6 +113,12 @@ module _ {b : Book} {F : Sets} {rules kernels starts closures : List ℕ} (h : I
       ∙ ap (λ (x : Bool). x || someItem P D (ofRules (b .rules) (closureSets b F S) (length (b .rules))))
       (some-kernels P D (kernelsIn (b .kernels) S) ∙ e)
 
+  closure-item : D ≡ 0 → {left : ℕ} → left ≡ getD rules (10 * P) 0
+      → someItem P D (ofRules (b .rules) (closureSets b F S) (length (b .rules))) ≡ not (eqb (getD closures (32 * S + left) 0) 0)
+  closure-item z left-is =
+      rw (set-word (h .states-in .grammar-in) (h .closures-in) (s .state-there) (s .rule-there) left-is, z)
+      (some-rule (b .rules) (closureSets b F S) P (length (b .rules)) (s .rule-there))
+
   -- a search among the state's kernel lines
   pub searched : {first last none : ℕ} → first ≡ getD starts S 0 → last ≡ getD starts (S + 1) 0 → none ≡ empty → {r : Bool}
       → ((ks : List Kernel) → KernelsIn ks kernels → last ≤ length ks → r ≡ holdsItem P D none (slice first last ks))
@@ -121,18 +128,22 @@ module _ {b : Book} {F : Sets} {rules kernels starts closures : List ℕ} (h : I
       let range : Range b S (getD starts S 0) (getD starts (S + 1) 0) = state-range (h .states-in) S (s .state-there) in
       f (b .kernels) (h .states-in .kernels-in) (rw last-is (range .within)) ∙ rw (none-is, first-is, last-is, range .lines-are)
 
-  pub has-kernel : true ≡ holdsItem P D 0 (kernelsIn (b .kernels) S) → true ≡ someItem P D (coreItems b F S)
-  has-kernel e = sym (some-core true (sym e))
+  -- the closure has it
+  pub has-rule : D ≡ 0 → {left : ℕ} → left ≡ getD rules (10 * P) 0 → (getD closures (32 * S + left) 0 ≡ 0 → ⊥) → true ≡ someItem P D (coreItems b F S)
+  has-rule z {left} left-is n =
+      let there : someItem P D (ofRules (b .rules) (closureSets b F S) (length (b .rules))) ≡ true =
+      closure-item z left-is ∙ ap not (ne-eqb (getD closures (32 * S + left) 0) 0 n) in
+      let held : Bool = holdsItem P D 0 (kernelsIn (b .kernels) S) in
+      sym (some-core held refl ∙ ap (λ (t : Bool). held || t) there ∙ or-true held)
 
-  module _ (none : false ≡ holdsItem P D 0 (kernelsIn (b .kernels) S)) where
-    pub has-none : (D ≡ 0 → ⊥) → false ≡ someItem P D (coreItems b F S)
-    has-none n = sym (some-core false (sym none) ∙ some-moved (b .rules) (closureSets b F S) P (length (b .rules)) D n)
-
-    pub has-rule : D ≡ 0 → {left : ℕ} → left ≡ getD rules (10 * P) 0 → {r : Bool} → r ≡ not (eqb (getD closures (32 * S + left) 0) 0)
-        → r ≡ someItem P D (coreItems b F S)
-    has-rule z left-is q =
-        rw (set-word (h .states-in .grammar-in) (h .closures-in) (s .state-there) (s .rule-there) left-is) at q
-        ∙ sym (some-core false (sym none) ∙ rw z (some-rule (b .rules) (closureSets b F S) P (length (b .rules)) (s .rule-there)))
+  -- it has not, and the kernel lines are searched
+  pub has-kernel : (D ≡ 0 → getD closures (32 * S + getD rules (10 * P) 0) 0 ≡ 0) → {r : Bool}
+      → r ≡ holdsItem P D 0 (kernelsIn (b .kernels) S) → r ≡ someItem P D (coreItems b F S)
+  has-kernel idle {r} e = sym (some-core r (sym e) ∙ ap (λ (t : Bool). r || t) (none (ℕ-discrete D 0)) ∙ or-false r)
+    where
+      none : Dec (D ≡ 0) → someItem P D (ofRules (b .rules) (closureSets b F S) (length (b .rules))) ≡ false
+      none (yes z) = closure-item z refl ∙ ap not (eq-eqb (getD closures (32 * S + getD rules (10 * P) 0) 0) 0 (idle z))
+      none (no n) = some-moved (b .rules) (closureSets b F S) P (length (b .rules)) D n
 
 -- ---- a kernel line of a target
 

@@ -10,4 +10,5 @@ pub mod GoTable
 pub mod HoldsItem
 pub mod KernelRules
 pub mod KernelWords
+pub mod Lefts
 pub mod StatesIn

@@ -1,9 +1,11 @@
 // The actions by state and terminal, one byte each, and whether two different ones meet (9). No action is 0, shift is 1, accept is 2, reducing rule P
 // is 2 + P.
 ghost use mathlib.Core.Path.{_≡_};
+ghost use mathlib.Core.Bool.{true};
 ghost use mathlib.Core.List.{List, [], _++_};
 ghost use Prim.Native.Nat.{ℕ, _+_, _*_, _<_, _≤_};
 ghost use lib.ListN.{length};
+ghost use Rattle.sets.specs.Sets.{bit};
 ghost use Rattle.grammar.specs.Data.Symbol.{leftOf, after};
 ghost use Rattle.grammar.specs.Data.Book.{Book};
 ghost use Rattle.grammar.specs.Automaton.Fixpoint.{setAt};
@@ -14,8 +16,13 @@ ghost use Rattle.grammar.specs.Automaton.Actions.{Cell, cellFrom};
 ghost use Rattle.items.specs.Arrays.{ClosuresIn};
 ghost use Rattle.items.specs.GrammarIn.{GrammarIn};
 ghost use Rattle.automaton.specs.StatesIn.{StatesIn, ItemsIn, Stands};
-ghost use Rattle.automaton.specs.ActionRows.{Given, Row, Melded, completedBelow, itemCells};
+ghost use Rattle.automaton.specs.ActionRows.{Given, Row, Melded, completedBelow, itemCells, actedCode, Among};
 ghost use Rattle.automaton.specs.ActionTable.{Acted};
+ghost use Rattle.automaton.specs.Lefts.{Lefts};
+use super::lefts::behind;
+use super::lefts::entered;
+use super::lefts::fill_lefts;
+use super::lefts::least;
 use items::words::fill;
 use items::words::nothing;
 use items::words::word;
@@ -33,33 +40,54 @@ fn give(actions: &mut [u8], place: usize, action: u8) -> bool
     old == action
 }
 
-// Gives a complete rule's action at terminal a, if that is among the lookaheads; whether it met no other.
+// A byte that is given an action, or is not.
+fn acted(old: u8, given: bool, action: u8) -> u8
+    ensures { λ r. ⌜ r ≡ actedCode old given action ⌝ }
+{
+    if given {
+        return action;
+    }
+    old
+}
+
+// Gives a complete rule's action at terminal a, if that is among the lookaheads; whether it met no other. There is one way through.
 fn complete_at(actions: &mut [u8], state: usize, rule: usize, set: u32, a: usize) -> bool
     requires { ⌜ (length (now actions) ≡ 4096) × (state < 128) × (rule < 64) × (a < 32) ⌝ }
-    ensures { λ r. ⌜ ((terminals : ℕ) (cells : ℕ → Cell) → terminals < 32 → a ≤ terminals
+    ensures { λ r. ⌜ ((terminals : ℕ) (cells : ℕ → Cell) → terminals < 32 → (bit set a ≡ true → a ≤ terminals)
         → Row terminals state (completedBelow a cells rule set) (now (actions .entry))
         → Melded terminals state (completedBelow (a + 1) cells rule set) (now (actions .entry)) (now (actions .exit)) r) ⌝ }
 {
-    if !sets::has(set, a as u32) {
-        return true;
-    }
-    give(actions, 32 * state + a, (2 + rule) as u8)
+    let place = 32 * state + a;
+    let action = (2 + rule) as u8;
+    let given = sets::has(set, a as u32);
+    let old = actions[place];
+    actions[place] = acted(old, given, action);
+    !given | (old == 0) | (old == action)
 }
 
-// At all its lookaheads.
+// The lookaheads that are terminals of the book.
+fn among(set: u32, terminals: usize) -> u32
+    requires { ⌜ terminals < 32 ⌝ }
+    ensures { λ r. ⌜ Among set terminals r ⌝ }
+{
+    set & (sets::ALL >> (31 - terminals))
+}
+
+// At all its lookaheads, with no way out of the loop.
 fn complete(actions: &mut [u8], state: usize, rule: usize, set: u32, terminals: usize) -> bool
     requires { ⌜ (length (now actions) ≡ 4096) × (state < 128) × (rule < 64) × (terminals < 32) ⌝ }
     ensures { λ r. ⌜ ((cells : ℕ → Cell) → Row terminals state cells (now (actions .entry))
         → Melded terminals state (itemCells rule set [] cells) (now (actions .entry)) (now (actions .exit)) r) ⌝ }
 {
+    let lookaheads = among(set, terminals);
+    let mut clear = true;
     let mut a = 0;
-    while a <= terminals {
-        if !complete_at(actions, state, rule, set, a) {
-            return false;
-        }
+    while a < 32 {
+        let fits = complete_at(actions, state, rule, lookaheads, a);
+        clear = clear & fits;
         a += 1;
     }
-    true
+    clear
 }
 
 // Gives the actions of an item of a state; whether they met no other.
@@ -111,30 +139,36 @@ fn rule_acts(
     give_item(rules, actions, terminals, state, rule, 0, set)
 }
 
-// Those of all rules, into a state without actions.
+// Those of all rules, into a state without actions. A pass goes from one that the closure has to the next.
 fn rules_act(
     rules: &[u32],
     closures: &[u32],
+    lefts: &[u64],
     actions: &mut [u8],
     terminals: usize,
     state: usize,
-    count: usize,
 ) -> bool
     requires { ⌜ (length (now actions) ≡ 4096)
         × ((b : Book) × (F : Sets) × GrammarIn b (now rules) × ClosuresIn b F (now closures) × (state < b .states)
-        × (terminals ≡ b .terminals) × (count ≡ length (b .rules))) ⌝ }
+        × (terminals ≡ b .terminals) × Lefts (now rules) (length (b .rules)) (now lefts)) ⌝ }
     ensures { λ r. ⌜ ((b : Book) (F : Sets) → GrammarIn b (now (rules .entry)) → ClosuresIn b F (now (closures .entry))
-        → state < b .states → terminals ≡ b .terminals → count ≡ length (b .rules) → Row terminals state (cellFrom (b .rules) []) (now (actions .entry))
-        → Melded terminals state (cellFrom (b .rules) (ofRules (b .rules) (closureSets b F state) count)) (now (actions .entry)) (now (actions .exit)) r) ⌝ }
+        → state < b .states → terminals ≡ b .terminals → Lefts (now (rules .entry)) (length (b .rules)) (now (lefts .entry))
+        → Row terminals state (cellFrom (b .rules) []) (now (actions .entry))
+        → Melded terminals state (cellFrom (b .rules) (ofRules (b .rules) (closureSets b F state) (length (b .rules))))
+        (now (actions .entry)) (now (actions .exit)) r) ⌝ }
 {
     if nothing(closures, 32 * state) {
         return true;
     }
+    let mut rest = entered(closures, 32 * state, lefts);
     let mut rule = 0;
-    while rule < count {
+    while rest != 0 {
+        let gap = least(rest);
+        rule += gap as usize;
         if !rule_acts(rules, closures, actions, terminals, state, rule) {
             return false;
         }
+        rest = behind(rest, gap);
         rule += 1;
     }
     true
@@ -182,19 +216,20 @@ fn state_acts(
     kernels: &[u32],
     starts: &[u32],
     closures: &[u32],
+    lefts: &[u64],
     actions: &mut [u8],
     terminals: usize,
     state: usize,
-    count: usize,
 ) -> bool
     requires { ⌜ (length (now actions) ≡ 4096)
         × ((b : Book) × (F : Sets) × ItemsIn b F (now rules) (now kernels) (now starts) (now closures)
-        × (state < b .states) × (terminals ≡ b .terminals) × (count ≡ length (b .rules))) ⌝ }
+        × (state < b .states) × (terminals ≡ b .terminals) × Lefts (now rules) (length (b .rules)) (now lefts)) ⌝ }
     ensures { λ r. ⌜ ((b : Book) (F : Sets) → ItemsIn b F (now (rules .entry)) (now (kernels .entry)) (now (starts .entry)) (now (closures .entry))
-        → state < b .states → terminals ≡ b .terminals → count ≡ length (b .rules) → Row terminals state (cellFrom (b .rules) []) (now (actions .entry))
+        → state < b .states → terminals ≡ b .terminals → Lefts (now (rules .entry)) (length (b .rules)) (now (lefts .entry))
+        → Row terminals state (cellFrom (b .rules) []) (now (actions .entry))
         → Melded terminals state (cellFrom (b .rules) (coreItems b F state)) (now (actions .entry)) (now (actions .exit)) r) ⌝ }
 {
-    if !rules_act(rules, closures, actions, terminals, state, count) {
+    if !rules_act(rules, closures, lefts, actions, terminals, state) {
         return false;
     }
     kernels_act(rules, kernels, starts, actions, terminals, state)
@@ -217,6 +252,8 @@ pub fn actions(
     ensures { λ r. ⌜ ((b : Book) (F : Sets) → ItemsIn b F (now (rules .entry)) (now (kernels .entry)) (now (starts .entry)) (now (closures .entry))
         → terminals ≡ b .terminals → states ≡ b .states → count ≡ length (b .rules) → Acted b F (now (actions .exit)) r) ⌝ }
 {
+    let mut lefts = [0u64; 32];
+    fill_lefts(rules, count as usize, &mut lefts);
     let n = states as usize;
     fill(actions, 32 * n, 0);
     let mut state = 0;
@@ -226,10 +263,10 @@ pub fn actions(
             kernels,
             starts,
             closures,
+            &lefts,
             actions,
             terminals as usize,
             state,
-            count as usize,
         ) {
             return false;
         }

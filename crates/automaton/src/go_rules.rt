@@ -18,6 +18,11 @@ ghost use Rattle.automaton.specs.StatesIn.{MovesIn, ItemsIn, AutomatonIn
 ghost use Rattle.automaton.specs.HoldsItem.{isItem};
 ghost use Rattle.automaton.specs.Advances.{kernelAdvances, ruleAdvances};
 ghost use Rattle.automaton.specs.Comes.{someItem, lineComes, goComes};
+ghost use Rattle.automaton.specs.Lefts.{Lefts};
+use super::lefts::behind;
+use super::lefts::entered;
+use super::lefts::fill_lefts;
+use super::lefts::least;
 use items::words::nothing;
 use items::words::word;
 
@@ -152,30 +157,35 @@ fn rule_advances(
     advances(rules, kernels, starts, table, state, rule, 0, set)
 }
 
-// Whether all rules do.
+// Whether all rules do. A pass goes from one that the closure has to the next.
 fn rules_advance(
     rules: &[u32],
     kernels: &[u32],
     starts: &[u32],
     closures: &[u32],
     table: &[u8],
+    lefts: &[u64],
     state: usize,
-    count: usize,
 ) -> bool
     requires { ⌜ ((b : Book) × (F : Sets) × AutomatonIn b F (now rules) (now kernels) (now starts) (now closures) (now table)
-        × (state < b .states) × (count ≡ length (b .rules))) ⌝ }
+        × (state < b .states) × Lefts (now rules) (length (b .rules)) (now lefts)) ⌝ }
     ensures { λ r. ⌜ ((b : Book) (F : Sets) → AutomatonIn b F (now (rules .entry)) (now (kernels .entry)) (now (starts .entry)) (now (closures .entry))
-        (now (table .entry)) → state < b .states → count ≡ length (b .rules) → r ≡ allAdvance b state (ofRules (b .rules) (closureSets b F state) count)) ⌝ }
+        (now (table .entry)) → state < b .states → Lefts (now (rules .entry)) (length (b .rules)) (now (lefts .entry))
+        → r ≡ allAdvance b state (ofRules (b .rules) (closureSets b F state) (length (b .rules)))) ⌝ }
 {
     if nothing(closures, 32 * state) {
         return true;
     }
-    let mut rule = count;
-    while rule > 0 {
-        rule -= 1;
+    let mut rest = entered(closures, 32 * state, lefts);
+    let mut rule = 0;
+    while rest != 0 {
+        let gap = least(rest);
+        rule += gap as usize;
         if !rule_advances(rules, kernels, starts, closures, table, state, rule) {
             return false;
         }
+        rest = behind(rest, gap);
+        rule += 1;
     }
     true
 }
@@ -187,18 +197,19 @@ fn state_advances(
     starts: &[u32],
     closures: &[u32],
     table: &[u8],
+    lefts: &[u64],
     state: usize,
-    count: usize,
 ) -> bool
     requires { ⌜ ((b : Book) × (F : Sets) × AutomatonIn b F (now rules) (now kernels) (now starts) (now closures) (now table)
-        × (state < b .states) × (count ≡ length (b .rules))) ⌝ }
+        × (state < b .states) × Lefts (now rules) (length (b .rules)) (now lefts)) ⌝ }
     ensures { λ r. ⌜ ((b : Book) (F : Sets) → AutomatonIn b F (now (rules .entry)) (now (kernels .entry)) (now (starts .entry)) (now (closures .entry))
-        (now (table .entry)) → state < b .states → count ≡ length (b .rules) → r ≡ allAdvance b state (coreItems b F state)) ⌝ }
+        (now (table .entry)) → state < b .states → Lefts (now (rules .entry)) (length (b .rules)) (now (lefts .entry))
+        → r ≡ allAdvance b state (coreItems b F state)) ⌝ }
 {
     if !kernels_advance(rules, kernels, starts, table, state) {
         return false;
     }
-    rules_advance(rules, kernels, starts, closures, table, state, count)
+    rules_advance(rules, kernels, starts, closures, table, lefts, state)
 }
 
 // Whether all items of all states do.
@@ -208,25 +219,26 @@ fn states_advance(
     starts: &[u32],
     closures: &[u32],
     table: &[u8],
+    lefts: &[u64],
     states: usize,
-    count: usize,
 ) -> bool
     requires { ⌜ ((b : Book) × (F : Sets) × AutomatonIn b F (now rules) (now kernels) (now starts) (now closures) (now table)
-        × (states ≡ b .states) × (count ≡ length (b .rules))) ⌝ }
+        × (states ≡ b .states) × Lefts (now rules) (length (b .rules)) (now lefts)) ⌝ }
     ensures { λ r. ⌜ ((b : Book) (F : Sets) → AutomatonIn b F (now (rules .entry)) (now (kernels .entry)) (now (starts .entry)) (now (closures .entry))
-        (now (table .entry)) → states ≡ b .states → count ≡ length (b .rules) → r ≡ statesAdvance b (coreItems b F) states) ⌝ }
+        (now (table .entry)) → states ≡ b .states → Lefts (now (rules .entry)) (length (b .rules)) (now (lefts .entry))
+        → r ≡ statesAdvance b (coreItems b F) states) ⌝ }
 {
     let mut state = states;
     while state > 0 {
         state -= 1;
-        if !state_advances(rules, kernels, starts, closures, table, state, count) {
+        if !state_advances(rules, kernels, starts, closures, table, lefts, state) {
             return false;
         }
     }
     true
 }
 
-// Whether the item (rule, dot) stands in a state: in a kernel line, or with the dot in front in the closure.
+// Whether the item (rule, dot) stands in a state: with the dot in front in the closure, or in a kernel line.
 fn has_item(
     rules: &[u32],
     kernels: &[u32],
@@ -240,15 +252,14 @@ fn has_item(
     ensures { λ r. ⌜ ((b : Book) (F : Sets) → ItemsIn b F (now (rules .entry)) (now (kernels .entry)) (now (starts .entry)) (now (closures .entry))
         → Stands b state rule dot → r ≡ someItem rule dot (coreItems b F state)) ⌝ }
 {
+    if dot == 0 {
+        if closures[32 * state + word(rules, 10 * rule)] != 0 {
+            return true;
+        }
+    }
     let first = word(starts, state);
     let last = word(starts, state + 1);
-    if holds_item(kernels, first, last, rule, dot, sets::empty()) {
-        return true;
-    }
-    if dot != 0 {
-        return false;
-    }
-    closures[32 * state + word(rules, 10 * rule)] != 0
+    holds_item(kernels, first, last, rule, dot, sets::empty())
 }
 
 // Whether a kernel line (rule, dot) is an item of a state advanced over the symbol of a word.
@@ -390,14 +401,16 @@ pub fn go_rules(
         (now (table .entry)) → GoesIn (b .goes) (now (goes .entry)) → count ≡ length (b .rules) → lines ≡ length (b .goes) → states ≡ b .states
         → r ≡ goRules b (itemsAt b (itemsTable b F))) ⌝ }
 {
+    let mut lefts = [0u64; 32];
+    fill_lefts(rules, count as usize, &mut lefts);
     if !states_advance(
         rules,
         kernels,
         starts,
         closures,
         table,
+        &lefts,
         states as usize,
-        count as usize,
     ) {
         return false;
     }

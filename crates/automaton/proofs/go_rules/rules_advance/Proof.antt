@@ -1,60 +1,88 @@
--- `go_rules::rules_advance` meets its contract: the rules from `rule` on advance. Assumes nothing.
-use borrow.Author.Tests.{not-true, not-false}
-use native.Mathlib.Omega.{arith}
+-- `go_rules::rules_advance` meets its contract: the rules below `rule` advance. Assumes nothing.
+use Prim.Native.Nat.{_+_, _-_, _<_}
 use mathlib.Core.Path.{sym, _∙_}
+use native.Mathlib.Omega.{arith}
+use lib.ListN.{length}
+use borrow.Author.Tests.{not-true, not-false}
+use Rattle.automaton.specs.Lefts.{rest-there}
 use Rattle.automaton.specs.Advances.{RulesAdvance, rules-none, rules-more, rules-fail, rules-all, rules-nothing, rule-stands}
-use borrow.Author.Needs.{needs}
 use Rattle.automaton.proofs.go_rules.rules_advance.Statement.{statement}
 use Rattle.automaton.proofs.go_rules.rules_advance.Tie as tie
 
 abbrev Inv-loop : tie.InvT-loop
-Inv-loop rules kernels starts closures table state count rule₀ rule = RulesAdvance rules kernels starts closures table state count rule
+Inv-loop rules kernels starts closures table lefts state rest₀ rule₀ rest rule = RulesAdvance rules kernels starts closures table lefts state rest rule
 
 abbrev μ-loop : tie.MeasureT-loop
-μ-loop rules kernels starts closures table state count rule₀ rule = rule
+μ-loop rules kernels starts closures table lefts state rest₀ rule₀ rest rule = 64 - rule
+
+-- the next rule is one of the book
+there : (c : tie.After-least Inv-loop μ-loop) → c .before .before .loop .rule + c .least .result < 64
+there c =
+    let head = c .before .before in
+    let p = head .before .before .before .before .before .before .before .before .before .before .pre in
+    omega (arith, rest-there (head .loop .inv .walk (length (p .0 .rules)) (p .4)) (c .least .ensures), p .2 .states-in .grammar-in .rules-in .fits)
 
 mul-nothing : tie.Need-mul-nothing Inv-loop μ-loop
-mul-nothing c = let p = c .before .before .before .before .before .pre in omega (arith, p .3, p .2 .states-in .grammar-in .limits .states-limit .high)
+mul-nothing c = let p = c .before .before .before .before .before .before .pre in omega (arith, p .3, p .2 .states-in .grammar-in .limits .states-limit .high)
 
 nothing-requires : tie.Need-nothing-requires Inv-loop μ-loop
 nothing-requires c κs =
-    let p = c .before .before .before .before .before .pre in
+    let p = c .before .before .before .before .before .before .pre in
     omega (arith, p .3, p .2 .states-in .grammar-in .limits .states-limit .high, p .2 .closures-in .long)
 
 returns : tie.Need-returns Inv-loop μ-loop
-returns c = λ b F h s e. rules-nothing h s e (c .before .nothing .ensures (c .if1 .taken))
+returns c = λ b F h s L. rules-nothing h s (c .before .nothing .ensures (c .if1 .taken))
+
+mul-entered : tie.Need-mul-entered Inv-loop μ-loop
+mul-entered c =
+    let p = c .before .before .before .before .before .before .before .before .pre in
+    omega (arith, p .3, p .2 .states-in .grammar-in .limits .states-limit .high)
+
+entered-requires : tie.Need-entered-requires Inv-loop μ-loop
+entered-requires c κs =
+    let p = c .before .before .before .before .before .before .before .before .pre in
+    (omega (arith, p .3, p .2 .states-in .grammar-in .limits .states-limit .high, p .2 .closures-in .long), p .4 .long)
 
 loop-holds : tie.Need-loop-holds Inv-loop μ-loop
 loop-holds c =
-    let start = c .before .before .before .before .before .before .before in
-    let a = start .args in rules-none (a .rules .now) (a .kernels .now) (a .starts .now) (a .closures .now) (a .table .now) (a .state) (a .count)
+    let a = c .before .before .before .before .before .before .before .before .before .args in
+    rules-none (a .rules .now) (a .kernels .now) (a .starts .now) (a .closures .now) (a .table .now) (c .entered .ensures)
 
-sub-rule : tie.Need-sub-rule Inv-loop μ-loop
-sub-rule c = search needs
+least-requires : tie.Need-least-requires Inv-loop μ-loop
+least-requires c κs = c .loop-test .taken
+
+cast-rule : tie.Need-cast-rule Inv-loop μ-loop
+cast-rule c = omega (arith, c .least .ensures .below)
+
+add-rule : tie.Need-add-rule Inv-loop μ-loop
+add-rule c = omega (arith, there c)
 
 rule-advances-requires : tie.Need-rule-advances-requires Inv-loop μ-loop
 rule-advances-requires c κs =
-    let s = c .before .before .before .before .before .before .before .before .before in (
-      s .pre .0,
-      s .pre .1,
-      s .pre .2,
-      rule-stands (c .before .loop .inv) (c .loop-test .taken) (s .pre .0) (s .pre .3) (s .pre .4),
-    )
+    let head = c .before .before in
+    let s = head .before .before .before .before .before .before .before .before .before .before in
+    (s .pre .0, s .pre .1, s .pre .2, rule-stands (head .loop .inv) (c .least .ensures) (s .pre .0) (s .pre .3) (s .pre .4))
 
 returns-2 : tie.Need-returns-2 Inv-loop μ-loop
 returns-2 c =
-    let head = c .before .before .before in
-    rules-fail (head .loop .inv) (c .before .before .loop-test .taken)
-    (λ b F h s. sym (not-true (c .before .rule-advances .result) (c .if2 .taken)) ∙ c .before .rule-advances .ensures b F h s)
+    let called = c .before in
+    rules-fail (called .before .before .before .loop .inv) (called .before .least .ensures)
+    (λ b F h s. sym (not-true (called .rule-advances .result) (c .if2 .taken)) ∙ called .rule-advances .ensures b F h s)
+
+behind-requires : tie.Need-behind-requires Inv-loop μ-loop
+behind-requires c κs = c .before .before .least .ensures .below
+
+add-rule-2 : tie.Need-add-rule-2 Inv-loop μ-loop
+add-rule-2 c = omega (arith, there (c .before .before .before))
 
 loop-less : tie.Need-loop-less Inv-loop μ-loop
-loop-less c = search needs
+loop-less c = omega (arith, there (c .before .before .before))
 
 loop-again : tie.Need-loop-again Inv-loop μ-loop
 loop-again c =
-    let head = c .before .before .before in
-    rules-more (head .loop .inv) (c .before .before .loop-test .taken)
-    (λ b F h s. sym (not-false (c .before .rule-advances .result) (c .if2 .left)) ∙ c .before .rule-advances .ensures b F h s)
+    let called = c .before .before in
+    rules-more (called .before .before .before .loop .inv) (called .before .least .ensures)
+    (λ b F h s. sym (not-false (called .rule-advances .result) (c .before .if2 .left)) ∙ called .rule-advances .ensures b F h s) (c .behind .ensures)
 
 returns-3 : tie.Need-returns-3 Inv-loop μ-loop
 returns-3 c = rules-all (c .before .loop .inv) (c .loop-test .left)
@@ -68,10 +96,16 @@ rules-advance-spec =
     mul-nothing
     nothing-requires
     returns
+    mul-entered
+    entered-requires
     loop-holds
-    sub-rule
+    least-requires
+    cast-rule
+    add-rule
     rule-advances-requires
     returns-2
+    behind-requires
+    add-rule-2
     loop-less
     loop-again
     returns-3)

@@ -7,24 +7,24 @@ use Rattle.automaton.proofs.go_rules.state_advances.Statement.{statemen
 use Rattle.automaton.proofs.go_rules.state_advances.Tie as tie
 
 kernels-advance-requires : tie.Need-kernels-advance-requires
-kernels-advance-requires c κs = let s = c .before .before .before .before .before in (s .pre .0, moves (s .pre .2), s .pre .3)
+kernels-advance-requires c κs = let s = c .before .before .before .before .before .before in (s .pre .0, moves (s .pre .2), s .pre .3)
 
 returns : tie.Need-returns
 returns c =
-    let start = c .before .before .before .before .before .before .before in
-    λ b F h s n. state-fail b F (start .args .state)
+    let start = c .before .before .before .before .before .before .before .before in
+    λ b F h s L. state-fail b F (start .args .state)
     (sym (not-true (c .before .kernels-advance .result) (c .if1 .taken)) ∙ c .before .kernels-advance .ensures b (moves h) s)
 
 rules-advance-requires : tie.Need-rules-advance-requires
-rules-advance-requires c κs = c .before .before .before .before .before .before .before .pre
+rules-advance-requires c κs = c .before .before .before .before .before .before .before .before .pre
 
 returns-2 : tie.Need-returns-2
 returns-2 c =
-    let start = c .before .before .before .before .before .before .before .before in
-    λ b F h s n.
+    let start = c .before .before .before .before .before .before .before .before .before in
+    λ b F h s L.
     state-rest b F (start .args .state)
     (sym (not-false (c .before .before .kernels-advance .result) (c .before .if1 .left)) ∙ c .before .before .kernels-advance .ensures b (moves h) s)
-    n (c .rules-advance .ensures b F h s n)
+    (c .rules-advance .ensures b F h s L)
 
 pub state-advances-spec : {M : Type 1} → statement M
 state-advances-spec =

@@ -6,12 +6,12 @@ use mathlib.Core.Bool.{Bool, true, false, _||_}
 use mathlib.Core.List.{List, [], _∷_}
 use native.Mathlib.Omega.{arith}
 use lib.Dec.{eqb, ltb}
-use lib.ListN.{length}
+use lib.ListN.{length, getD}
 use borrow.Author.Tests.{ne-eqb}
 use Rattle.text.specs.Class.{space}
 use Rattle.text.specs.Rest.{Rest, rest, must, mark, size}
 use Rattle.text.specs.RestLaws.{rest-out, must-true, must-false}
-use Rattle.text.specs.Numeral.{decimal, wordOf}
+use Rattle.text.specs.Numeral.{decimal, value, past, wordOf}
 use Rattle.text.specs.Reading.{Reads}
 use Rattle.sets.specs.Sets.{bit, with}
 use Rattle.sets.specs.SetsLaws.{bit-with, with-lt, same-set}
@@ -23,7 +23,7 @@ use Rattle.grammar.specs.Format.ReaderLaws.{shrinking, opening-less, naming-les
 use Rattle.grammar.specs.Format.LineLaws.{most-lookaheads}
 use Rattle.grammar.specs.Format.Parse.{isBefore, lookahead, lookaheads, kernelLine, kernelLines}
 use Rattle.book.specs.Layout.{putLine, lastOf, kernelWords}
-use Rattle.book.specs.Lookahead.{Names, name-out}
+use Rattle.book.specs.Lookahead.{Names, name-out, name-ends}
 use Rattle.book.specs.Order.{lastKey, next-last}
 use Rattle.book.specs.Sections.{Gives, Shrinks, size-section, Reading, reading-start, reading-less, reading-turn, reading-done, Gathers, keepFrom}
 use Rattle.book.specs.Sections.{PutsKeyed}
@@ -139,12 +139,19 @@ pub looking-start : (text : List ℕ) (at : ℕ) {set : ℕ} → set ≡ 0 → L
 unfolding lookaheads lastKey
 looking-start text at e = rw e (reading-start _ _ _ _ lookaheads-shrink _ _ _ _)
 
+-- there is no other
+pub looking-done : {start : Parsed (List ℕ)} {text : List ℕ} {count last set p from : ℕ} → Looking start text count last set p
+    → rest text from ≡ naming (wordOf "t") (rest text p) → length text < from → Looks start text count last set p
+looking-done L e h = looks-of (reading-done _ _ _ _ lookaheads-shrink _ L e h)
+
+pub looking-closed : {start : Parsed (List ℕ)} {text : List ℕ} {count last set p : ℕ} → Looking start text count last set p
+    → p < length text → getD text p 0 ≡ 41 → Looks start text count last set p
+looking-closed {text = text} L h e =
+    let out : length text < length text + 1 = omega arith in
+    looking-done L (name-ends text _ h e out) out
+
 module _ {start : Parsed (List ℕ)} {text : List ℕ} {count last set p from a next : ℕ} (L : Looking start text count last set p)
     (N : Names text p from a next) where
-  -- there is no other
-  pub looking-done : length text < from → Looks start text count last set p
-  looking-done h = looks-of (reading-done _ _ _ _ lookaheads-shrink _ L (N .name-is) h)
-
   -- there is one more, which is fine or not
   module _ {fine : Bool} {set′ : ℕ} (h : from ≤ length text) (before : fine ≡ isBefore (lastKey count (last ∷ [])) (a ∷ [])) (more : set′ ≡ with set a) where
     read-to : {q : ℕ} → rest text q ≡ must fine (rest text next) → Gives (lookahead (lastKey count (last ∷ [])) (rest text from)) text a q
@@ -164,19 +171,30 @@ module _ {start : Parsed (List ℕ)} {text : List ℕ} {count last set p from a 
 
     pub looking-out : {q : ℕ} → fine ≡ false → length text < q → Looks start text (count + 1) a set′ q
     looking-out {q} f o =
-        looks-of (reading-done _ _ _ _ lookaheads-shrink _ (turn-to (rest-out text q o ∙ sym (must-false fine (rest text next) f))) (name-out text q o) o)
+        looking-done (turn-to (rest-out text q o ∙ sym (must-false fine (rest text next) f))) (name-out text q o) o
 
--- The steps of a line: state, rule and dot, the lookaheads, that there are some, the end, the order, the store
+-- The state, the rule and the dot of a line, with a space between, and the position after them
 
-module _ {text out out′ : List ℕ} {ascending : Bool} {k at S p₁ p₂ P p₃ p₄ D p₅ m a set p₆ p₉ : ℕ} (last : List ℕ) (p₇ p₈ : ℕ) where
-  pub kernel-steps : Reads decimal text at S p₁ → rest text p₂ ≡ mark space (rest text p₁) → Reads decimal text p₂ P p₃
-      → rest text p₄ ≡ mark space (rest text p₃) → Reads decimal text p₄ D p₅ → Looks (lookaheads (rest text p₅)) text m a set p₆
+pub record Item (text : List ℕ) (at S P D next : ℕ) : Type 0 where
+  pub state-is : S ≡ value decimal (rest text at)
+  pub rule-is : P ≡ value decimal (mark space (past decimal (rest text at)))
+  pub dot-is : D ≡ value decimal (mark space (past decimal (mark space (past decimal (rest text at)))))
+  pub rest-is : rest text next ≡ past decimal (mark space (past decimal (mark space (past decimal (rest text at)))))
+
+pub item-of : {text : List ℕ} {at S p₁ p₂ P p₃ p₄ D p₅ : ℕ} → Reads decimal text at S p₁ → rest text p₂ ≡ mark space (rest text p₁)
+    → Reads decimal text p₂ P p₃ → rest text p₄ ≡ mark space (rest text p₃) → Reads decimal text p₄ D p₅ → Item text at S P D p₅
+item-of state e₁ rule e₂ dot = record { state-is = cc; rule-is = cc; dot-is = cc; rest-is = cc }
+
+-- The steps of a line: its item, the lookaheads, that there are some, the end, the order, the store
+
+module _ {text out out′ : List ℕ} {ascending : Bool} {k at S P D p₅ m a set p₆ p₉ : ℕ} (last : List ℕ) (p₇ p₈ : ℕ) where
+  pub kernel-steps : Item text at S P D p₅ → Looks (lookaheads (rest text p₅)) text m a set p₆
       → rest text p₇ ≡ must (ltb 0 m) (rest text p₆) → rest text p₈ ≡ closing (rest text p₇)
       → ascending ≡ isBefore last (S ∷ P ∷ D ∷ []) → rest text p₉ ≡ must ascending (rest text p₈)
       → out′ ≡ putLine MAX-KERNELS k (S ∷ P ∷ D ∷ a ∷ set ∷ []) out
       → PutsKeyed kernelKey kernelWords MAX-KERNELS k (kernelLine last (rest text at)) text out (S ∷ P ∷ D ∷ []) p₉ out′
   unfolding kernelLine kernelKey kernelWords result remaining
-  kernel-steps state e₁ rule e₂ dot terminals some end before due stored =
+  kernel-steps item terminals some end before due stored =
       record { key-is = cc; puts = record { remaining-is = cc; array-is = cc } }
 
 -- opens every definition of this module

@@ -20,5 +20,6 @@ pub mod Lookahead
 pub mod Order
 pub mod Parts
 pub mod Sections
+pub mod Short
 pub mod Spelling
 pub mod SpellingLaws

@@ -1,5 +1,6 @@
 // The section `(kernel S P D t..)`.
-ghost use Prim.Native.Nat.{_*_, _≤_};
+ghost use mathlib.Core.Path.{_≡_};
+ghost use Prim.Native.Nat.{_*_, _≤_, _<_};
 ghost use lib.ListN.{length};
 ghost use Rattle.text.specs.Rest.{rest};
 ghost use Rattle.text.specs.Reading.{Lent};
@@ -9,7 +10,7 @@ ghost use Rattle.grammar.specs.Format.Parse.{kernelLine, kernelLines};
 ghost use Rattle.book.specs.Layout.{kernelWords};
 ghost use Rattle.book.specs.Order.{keyOf, lastKey};
 ghost use Rattle.book.specs.Sections.{Fills, PutsKeyed};
-ghost use Rattle.book.specs.KernelLines.{KERNEL-WORDS};
+ghost use Rattle.book.specs.KernelLines.{KERNEL-WORDS, Item};
 ghost use Rattle.book.specs.KnownLookaheads.{KnownIn};
 use super::Book;
 use super::Section;
@@ -18,6 +19,7 @@ use super::known::known_after;
 use super::known::next_lookaheads;
 use super::order::Key;
 use super::order::ascends;
+use super::short::short;
 use super::spelling::KERNEL;
 use super::spelling::closing;
 use super::store::put_line;
@@ -28,6 +30,94 @@ struct KernelRead {
     key: Key,
     known: Known,
     at: usize,
+}
+
+// The state, the rule and the dot of a line, and where the text goes on.
+struct ItemRead {
+    state: u32,
+    rule: u32,
+    dot: u32,
+    at: usize,
+}
+
+impl ItemRead {
+    // What is not read: position 0.
+    fn none() -> Self
+        ensures { λ r. ⌜ r .at ≡ 0 ⌝ }
+    {
+        ItemRead {
+            state: 0,
+            rule: 0,
+            dot: 0,
+            at: 0,
+        }
+    }
+}
+
+// `S P D` by their parts.
+fn any_item(t: &[u8; 256], text: &[u8], at: usize) -> ItemRead
+    requires { ⌜ Lent (now t) (now text) ⌝ }
+    ensures { λ r. ⌜ Item (now (text .entry)) at (r .state) (r .rule) (r .dot) (r .at) ⌝ }
+{
+    let state = text::number(t, text, at);
+    let a = text::mark(t, text, state.at, text::SPACE);
+    let rule = text::number(t, text, a);
+    let b = text::mark(t, text, rule.at, text::SPACE);
+    let dot = text::number(t, text, b);
+    ItemRead {
+        state: state.value,
+        rule: rule.value,
+        dot: dot.value,
+        at: dot.at,
+    }
+}
+
+// Short numbers by their bytes, where the text is long enough for any three; for anything else, position 0.
+fn short_item(t: &[u8; 256], text: &[u8], at: usize) -> ItemRead
+    requires { ⌜ Lent (now t) (now text) ⌝ }
+    ensures { λ r. ⌜ (0 < r .at → Item (now (text .entry)) at (r .state) (r .rule) (r .dot) (r .at)) ⌝ }
+{
+    let n = text.len();
+    if n < 12 {
+        return ItemRead::none();
+    }
+    if n - 12 < at {
+        return ItemRead::none();
+    }
+    let state = short(t, text, at);
+    let a = state.at;
+    if a == 0 {
+        return ItemRead::none();
+    }
+    if text[a] != b' ' {
+        return ItemRead::none();
+    }
+    let rule = short(t, text, a + 1);
+    let b = rule.at;
+    if b == 0 {
+        return ItemRead::none();
+    }
+    if text[b] != b' ' {
+        return ItemRead::none();
+    }
+    let dot = short(t, text, b + 1);
+    ItemRead {
+        state: state.value,
+        rule: rule.value,
+        dot: dot.value,
+        at: dot.at,
+    }
+}
+
+fn item(t: &[u8; 256], text: &[u8], at: usize) -> ItemRead
+    requires { ⌜ Lent (now t) (now text) ⌝ }
+    ensures { λ r. ⌜ Item (now (text .entry)) at (r .state) (r .rule) (r .dot) (r .at) ⌝ }
+{
+    let read = short_item(t, text, at);
+    if read.at == 0 {
+        return any_item(t, text, at);
+    }
+    read
 }
 
 // Line k, after its head: it goes to its place, and its key must stand after the last key.
@@ -44,31 +134,27 @@ fn kernel_line(
     ensures { λ r. ⌜ PutsKeyed kernelKey kernelWords MAX-KERNELS k (kernelLine (lastKey k (keyOf last)) (rest (now (text .entry)) at))
         (now (text .entry)) (now (out .entry)) (keyOf (r .key)) (r .at) (now (out .exit)) × KnownIn (now (text .entry)) (r .known) ⌝ }
 {
-    let state = text::number(t, text, at);
-    let a = text::mark(t, text, state.at, text::SPACE);
-    let rule = text::number(t, text, a);
-    let b = text::mark(t, text, rule.at, text::SPACE);
-    let dot = text::number(t, text, b);
-    let terminals = next_lookaheads(t, text, dot.at, known);
+    let read = item(t, text, at);
+    let terminals = next_lookaheads(t, text, read.at, known);
     let c = text::require(text, terminals.at, 0 < terminals.count);
     let d = closing(t, text, c);
     let key = Key {
-        first: state.value,
-        second: rule.value,
-        third: dot.value,
+        first: read.state,
+        second: read.rule,
+        third: read.dot,
     };
     let e = text::require(text, d, ascends(k, last, key));
     let line = [
-        state.value,
-        rule.value,
-        dot.value,
+        read.state,
+        read.rule,
+        read.dot,
         terminals.last,
         terminals.set,
     ];
     put_line(out, Book::MAX_KERNELS as usize, k, &line);
     KernelRead {
         key,
-        known: known_after(text, dot.at, terminals, e, known),
+        known: known_after(text, read.at, terminals, e, known),
         at: e,
     }
 }

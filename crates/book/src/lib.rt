@@ -11,6 +11,7 @@ pub mod order;
 pub mod owners;
 pub mod reading;
 pub mod rules;
+pub mod short;
 pub mod spelling;
 pub mod store;
 pub mod symbol;

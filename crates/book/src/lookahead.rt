@@ -1,8 +1,10 @@
 // One lookahead of a kernel line: a space, `t` and a number.
 ghost use Rattle.text.specs.Reading.{Lent};
-ghost use Rattle.book.specs.Lookahead.{Names};
+ghost use Rattle.book.specs.Lookahead.{Names, Nearby};
+use super::short::short;
 use super::spelling::T;
 use super::spelling::naming;
+use text::Cursor;
 
 // Where the number begins, past the end if no lookahead stands there; the number, and where the text goes on.
 pub struct LookaheadRead {
@@ -12,7 +14,7 @@ pub struct LookaheadRead {
 }
 
 // By its parts.
-fn any_lookahead(t: &[u8; 256], text: &[u8], at: usize) -> LookaheadRead
+pub fn lookahead(t: &[u8; 256], text: &[u8], at: usize) -> LookaheadRead
     requires { ⌜ Lent (now t) (now text) ⌝ }
     ensures { λ r. ⌜ Names (now (text .entry)) at (r .from) (r .number) (r .at) ⌝ }
 {
@@ -25,36 +27,20 @@ fn any_lookahead(t: &[u8; 256], text: &[u8], at: usize) -> LookaheadRead
     }
 }
 
-// One whose number has one digit or two, as nearly all have, is read by its bytes.
-pub fn lookahead(t: &[u8; 256], text: &[u8], at: usize) -> LookaheadRead
+// By its bytes, where its number is short and a byte stands behind it: the number and where the text goes on. For anything else, position 0.
+pub fn short_lookahead(t: &[u8; 256], text: &[u8], at: usize) -> Cursor
     requires { ⌜ Lent (now t) (now text) ⌝ }
-    ensures { λ r. ⌜ Names (now (text .entry)) at (r .from) (r .number) (r .at) ⌝ }
+    ensures { λ r. ⌜ Nearby (now (text .entry)) at (r .value) (r .at) ⌝ }
 {
     let n = text.len();
-    if n < 5 {
-        return any_lookahead(t, text, at);
+    if n < 6 {
+        return Cursor { value: 0, at: 0 };
     }
-    if n - 5 < at {
-        return any_lookahead(t, text, at);
+    if n - 6 < at {
+        return Cursor { value: 0, at: 0 };
     }
-    let x = text[at + 2];
-    if (text[at] == b' ') & (text[at + 1] == b't') & (text::class(t, x) == text::DIGIT) {
-        let first = (x - b'0') as u32;
-        let y = text[at + 3];
-        if text::class(t, y) != text::DIGIT {
-            return LookaheadRead {
-                from: at + 2,
-                number: first,
-                at: at + 3,
-            };
-        }
-        if (x != b'0') & (text::class(t, text[at + 4]) != text::DIGIT) {
-            return LookaheadRead {
-                from: at + 2,
-                number: first * 10 + (y - b'0') as u32,
-                at: at + 4,
-            };
-        }
+    if (text[at] == b' ') & (text[at + 1] == b't') {
+        return short(t, text, at + 2);
     }
-    any_lookahead(t, text, at)
+    Cursor { value: 0, at: 0 }
 }

@@ -6,8 +6,9 @@ ghost use Rattle.text.specs.Reading.{Lent};
 ghost use Rattle.sets.specs.Sets.{with};
 ghost use Rattle.grammar.specs.Format.Parse.{isBefore, lookaheads};
 ghost use Rattle.book.specs.Order.{lastKey};
-ghost use Rattle.book.specs.KernelLines.{Looks};
+ghost use Rattle.book.specs.KernelLines.{Looks, Looking};
 use super::lookahead::lookahead;
+use super::lookahead::short_lookahead;
 
 // The lookaheads of a line: how many there are, the largest, the set of those below 32, and where the text goes on.
 pub struct LookaheadsRead {
@@ -37,16 +38,25 @@ fn with_lookahead(set: u32, terminal: u32) -> u32
     set
 }
 
-// The lookaheads of a line. One that does not follow the others is the last that is read, and the text is misspelt.
-pub fn lookaheads(t: &[u8; 256], text: &[u8], at: usize) -> LookaheadsRead
-    requires { ⌜ Lent (now t) (now text) ⌝ }
-    ensures { λ r. ⌜ Looks (lookaheads (rest (now (text .entry)) at)) (now (text .entry)) (r .count) (r .last) (r .set) (r .at) ⌝ }
+// The lookaheads of a line that begin at `from`, from the k-th on, which stands at `at`; the last before it and the set of those before it are given.
+// One that does not follow the others is the last that is read, and the text is misspelt.
+fn more_lookaheads(
+    t: &[u8; 256],
+    text: &[u8],
+    from: usize,
+    at: usize,
+    k: u32,
+    largest: u32,
+    before: u32,
+) -> LookaheadsRead
+    requires { ⌜ Lent (now t) (now text) × Looking (lookaheads (rest (now text) from)) (now text) k largest before at ⌝ }
+    ensures { λ r. ⌜ Looks (lookaheads (rest (now (text .entry)) from)) (now (text .entry)) (r .count) (r .last) (r .set) (r .at) ⌝ }
 {
     let n = text.len();
     let mut p = at;
-    let mut count: u32 = 0;
-    let mut last: u32 = 0;
-    let mut set = sets::empty();
+    let mut count = k;
+    let mut last = largest;
+    let mut set = before;
     loop {
         let terminal = lookahead(t, text, p);
         if n < terminal.from {
@@ -70,5 +80,37 @@ pub fn lookaheads(t: &[u8; 256], text: &[u8], at: usize) -> LookaheadsRead
             };
         }
         p = terminal.at;
+    }
+}
+
+// The lookaheads of a line: by their bytes up to the bracket, and from the first on that is not read so, by their parts.
+pub fn lookaheads(t: &[u8; 256], text: &[u8], at: usize) -> LookaheadsRead
+    requires { ⌜ Lent (now t) (now text) ⌝ }
+    ensures { λ r. ⌜ Looks (lookaheads (rest (now (text .entry)) at)) (now (text .entry)) (r .count) (r .last) (r .set) (r .at) ⌝ }
+{
+    let mut p = at;
+    let mut count: u32 = 0;
+    let mut last: u32 = 0;
+    let mut set = sets::empty();
+    loop {
+        let terminal = short_lookahead(t, text, p);
+        if terminal.at == 0 {
+            return more_lookaheads(t, text, at, p, count, last, set);
+        }
+        if !follows(count, last, terminal.value) {
+            return more_lookaheads(t, text, at, p, count, last, set);
+        }
+        set = with_lookahead(set, terminal.value);
+        last = terminal.value;
+        count += 1;
+        p = terminal.at;
+        if text[p] == b')' {
+            return LookaheadsRead {
+                count,
+                last,
+                set,
+                at: p,
+            };
+        }
     }
 }

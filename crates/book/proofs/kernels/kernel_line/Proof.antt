@@ -4,35 +4,23 @@ use borrow.Author.Needs.{needs}
 use Rattle.book.proofs.kernels.kernel_line.Statement.{statement}
 use Rattle.book.proofs.kernels.kernel_line.Tie as tie
 
-number-requires : tie.Need-number-requires
-number-requires c κs = search needs
-
-mark-requires : tie.Need-mark-requires
-mark-requires c κs = search needs
-
-number-requires-2 : tie.Need-number-requires-2
-number-requires-2 c κs = search needs
-
-mark-requires-2 : tie.Need-mark-requires-2
-mark-requires-2 c κs = search needs
-
-number-requires-3 : tie.Need-number-requires-3
-number-requires-3 c κs = search needs
+item-requires : tie.Need-item-requires
+item-requires c κs = search needs
 
 next-lookaheads-requires : tie.Need-next-lookaheads-requires
 next-lookaheads-requires c κs = search needs
 
 require-requires : tie.Need-require-requires
-require-requires c κs = c .before .before .before .before .before .before .before .before .before .pre .0 .short
+require-requires c κs = c .before .before .before .before .before .pre .0 .short
 
 closing-requires : tie.Need-closing-requires
-closing-requires c κs = c .before .before .before .before .before .before .before .before .before .before .pre .0
+closing-requires c κs = c .before .before .before .before .before .before .pre .0
 
 ascends-requires : tie.Need-ascends-requires
 ascends-requires c κs = search needs
 
 require-requires-2 : tie.Need-require-requires-2
-require-requires-2 c κs = c .before .before .before .before .before .before .before .before .before .before .before .before .pre .0 .short
+require-requires-2 c κs = c .before .before .before .before .before .before .before .before .pre .0 .short
 
 cast-put-line : tie.Need-cast-put-line
 cast-put-line c = search needs
@@ -41,7 +29,7 @@ slice-aggregate-put-line : tie.Need-slice-aggregate-put-line
 slice-aggregate-put-line c = search needs
 
 put-line-requires : tie.Need-put-line-requires
-put-line-requires c κs = c .before .before .before .before .before .before .before .before .before .before .before .before .before .before .before .pre .1
+put-line-requires c κs = c .before .before .before .before .before .before .before .before .before .before .before .pre .1
 
 known-after-requires : tie.Need-known-after-requires
 known-after-requires c κs =
@@ -50,7 +38,7 @@ known-after-requires c κs =
     let looked = some .before .before in (
       closed-by _ _ _ _ (looked .next-lookaheads .ensures) (some .require .ensures) (ascending .before .before .closing .ensures)
           (ascending .require2 .ensures),
-      looked .before .before .before .before .before .before .before .before .pre .2,
+      looked .before .before .before .before .pre .2,
     )
 
 same-length : tie.Need-same-length
@@ -61,13 +49,9 @@ returns c =
     let stored = c .before .before .before in
     let ascending = stored .before .before .before in
     let some = ascending .before .before .before in
-    let looked = some .before .before in
-    let dot = looked .before in
-    let rule = dot .before .before in
-    let state = rule .before .before in (
-      kernel-steps _ _ _ (state .number .ensures) (rule .before .mark .ensures) (rule .number2 .ensures) (dot .before .mark2 .ensures)
-          (dot .number3 .ensures) (looked .next-lookaheads .ensures) (some .require .ensures) (ascending .before .before .closing .ensures)
-          (ascending .before .ascends .ensures) (ascending .require2 .ensures) (stored .put-line .ensures),
+    let looked = some .before .before in (
+      kernel-steps _ _ _ (looked .before .item .ensures) (looked .next-lookaheads .ensures) (some .require .ensures)
+          (ascending .before .before .closing .ensures) (ascending .before .ascends .ensures) (ascending .require2 .ensures) (stored .put-line .ensures),
       c .known-after .ensures,
     )
 
@@ -75,11 +59,7 @@ pub kernel-line-spec : {M : Type 1} → statement M
 kernel-line-spec =
     tie.close
     (tie.spec
-    number-requires
-    mark-requires
-    number-requires-2
-    mark-requires-2
-    number-requires-3
+    item-requires
     next-lookaheads-requires
     require-requires
     closing-requires

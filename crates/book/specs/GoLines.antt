@@ -6,7 +6,7 @@ use mathlib.Core.Bool.{Bool, true, false}
 use mathlib.Core.List.{List, [], _∷_}
 use Rattle.text.specs.Class.{space}
 use Rattle.text.specs.Rest.{Rest, rest, must, mark, size}
-use Rattle.text.specs.Numeral.{decimal, wordOf}
+use Rattle.text.specs.Numeral.{decimal, value, past, wordOf}
 use Rattle.text.specs.Reading.{Reads}
 use Rattle.grammar.specs.Limits.{MAX-GOES}
 use Rattle.grammar.specs.Format.Ordered.{symbolKey, goKey}
@@ -38,14 +38,24 @@ pub goes-size : (o : Rest) → size (remaining (goLines o)) ≤ size o
 unfolding goLines
 goes-size o = size-section (opening (wordOf "go")) goLine (λ last. goKey) (go-shrinks (wordOf "go")) [] o
 
--- The steps of a line: state, symbol and target, the end, the key, the order, the store
+-- What a line says, and the position after it
 
-module _ {text out out′ key : List ℕ} {ascending : Bool} {k at S p₁ code p₃ p₄ M p₅ p₇ : ℕ} (last : List ℕ) (t : Bool) (K p₂ p₆ : ℕ) where
-  pub go-steps : Reads decimal text at S p₁ → rest text p₂ ≡ mark space (rest text p₁) → Gives (symbol (rest text p₂)) text (symbolOf t K) p₃
-      → rest text p₄ ≡ mark space (rest text p₃) → Reads decimal text p₄ M p₅ → rest text p₆ ≡ closing (rest text p₅)
-      → key ≡ S ∷ symbolKey (symbolOf t K) → ascending ≡ isBefore last key → rest text p₇ ≡ must ascending (rest text p₆)
-      → code ≡ symbolCode (symbolOf t K) → out′ ≡ putLine MAX-GOES k (S ∷ code ∷ M ∷ []) out
+pub record Goes (text : List ℕ) (at S : ℕ) (t : Bool) (K M next : ℕ) : Type 0 where
+  pub state-is : S ≡ value decimal (rest text at)
+  pub symbol-is : symbolOf t K ≡ result (symbol (mark space (past decimal (rest text at))))
+  pub target-is : M ≡ value decimal (mark space (remaining (symbol (mark space (past decimal (rest text at))))))
+  pub rest-is : rest text next ≡ closing (past decimal (mark space (remaining (symbol (mark space (past decimal (rest text at)))))))
+
+pub goes-of : {text : List ℕ} {at S p₁ p₃ p₄ M p₅ p₆ : ℕ} (t : Bool) (K p₂ : ℕ) → Reads decimal text at S p₁ → rest text p₂ ≡ mark space (rest text p₁)
+    → Gives (symbol (rest text p₂)) text (symbolOf t K) p₃ → rest text p₄ ≡ mark space (rest text p₃) → Reads decimal text p₄ M p₅
+    → rest text p₆ ≡ closing (rest text p₅) → Goes text at S t K M p₆
+goes-of t K p₂ state e₁ on e₂ target end = record { state-is = cc; symbol-is = cc; target-is = cc; rest-is = cc }
+
+-- The steps of a line: what it says, the key, the order, the store
+
+module _ {text out out′ key : List ℕ} {ascending : Bool} {k at S code M p₆ p₇ : ℕ} (last : List ℕ) (t : Bool) (K : ℕ) where
+  pub go-steps : Goes text at S t K M p₆ → key ≡ S ∷ symbolKey (symbolOf t K) → ascending ≡ isBefore last key
+      → rest text p₇ ≡ must ascending (rest text p₆) → code ≡ symbolCode (symbolOf t K) → out′ ≡ putLine MAX-GOES k (S ∷ code ∷ M ∷ []) out
       → PutsKeyed goKey goWords MAX-GOES k (goLine last (rest text at)) text out key p₇ out′
   unfolding goLine goKey goWords result remaining
-  go-steps state e₁ on e₂ target end keyed before due coded stored =
-      record { key-is = cc; puts = record { remaining-is = cc; array-is = cc } }
+  go-steps says keyed before due coded stored = record { key-is = cc; puts = record { remaining-is = cc; array-is = cc } }

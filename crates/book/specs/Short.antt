@@ -1,20 +1,26 @@
--- Numbers of one to three digits, told by their bytes: what is answered of one, and the laws by the number of digits.
+-- Numbers of one to three digits and the symbols that have such numbers, told by their bytes: what is answered of one, and the laws by its bytes.
 -- Assumes nothing.
 use Prim.Native.Nat.{ℕ, _+_, _*_, _-_, _<_, _≤_}
 use native.Mathlib.Omega.{arith}
-use mathlib.Core.Path.{_≡_, sym, ap, _∙_}
-use mathlib.Core.Bool.{true}
+use mathlib.Core.Path.{_≡_, refl, sym, ap, _∙_}
+use mathlib.Core.Bool.{Bool, true, false, _&&_, _||_}
 use mathlib.Core.List.{List, _∷_}
+use lib.Dec.{eqb}
 use lib.ListN.{length, getD, drop}
-use Rattle.text.specs.Class.{classOf, digit, space}
-use Rattle.text.specs.ClassLaws.{digit-range}
-use Rattle.text.specs.Rest.{rest, left, mark}
-use Rattle.text.specs.RestLaws.{rest-in, rest-at, drop-more}
-use Rattle.text.specs.Numeral.{decimal, write, value, past}
+use borrow.Author.Tests.{eqb-true}
+use Rattle.text.specs.Class.{classOf, digit, letter, space}
+use Rattle.text.specs.ClassLaws.{digit-range, letter-range}
+use Rattle.text.specs.Rest.{rest, left, must, mark}
+use Rattle.text.specs.RestLaws.{rest-in, rest-at, drop-more, must-true}
+use Rattle.text.specs.Numeral.{decimal, letters, got, digitOf, numeral, write, numberOf, restOf, read, value, past, spelled, wordOf}
 use Rattle.text.specs.NumeralLaws.{value-number, past-number, no-digit-other}
-use Rattle.text.specs.Positional.{decimal-positional, no-digit, write-small, write-more}
+use Rattle.text.specs.Positional.{decimal-positional, digit-is, no-digit, numeral-first, write-small, write-more}
 use Rattle.text.specs.Reading.{Reads}
-use Rattle.grammar.specs.Format.ReaderLaws.{reading}
+use Rattle.grammar.specs.Format.Reader.{result, remaining, closing}
+use Rattle.grammar.specs.Format.ReaderLaws.{reading, word-ends}
+use Rattle.grammar.specs.Format.Parse.{symbolOf, symbol}
+use Rattle.grammar.specs.Automaton.TestLaws.{both-true}
+use Rattle.book.specs.Sections.{Gives}
 
 -- what is answered of a number at a position: the number and the position after it, or position 0
 pub record Brief (text : List ℕ) (at number next : ℕ) : Type 0 where
@@ -91,7 +97,66 @@ module _ (text : List ℕ) (at : ℕ) (long : at + 4 ≤ length text) where
           ∙ sym (more-written (getD text at 0 * 10 + getD text (at + 1) 0 - 528) _ _ (drop (at + 3) text) (omega arith) third (omega arith)))
           m
 
+-- What stands before a short number or behind it
+
 -- a space by its byte
 pub space-at : (text : List ℕ) (at : ℕ) → at < length text → getD text at 0 ≡ 32 → rest text (at + 1) ≡ mark space (rest text at)
 unfolding reading
 space-at text at h e = rw (rest-at text at h, e) (rest-in text (at + 1) (omega arith))
+
+-- a bracket and the line feed
+pub end-at : (text : List ℕ) (at : ℕ) → at + 1 < length text → eqb (getD text at 0) 41 && eqb (getD text (at + 1) 0) 10 ≡ true
+    → rest text (at + 2) ≡ closing (rest text at)
+unfolding reading
+end-at text at h e =
+    let (bracket, feed) = both-true _ _ e in
+    let first : getD text at 0 ≡ 41 = eqb-true _ _ bracket in
+    let second : getD text (at + 1) 0 ≡ 10 = eqb-true _ _ feed in
+    let same : at + 1 + 1 ≡ at + 2 = omega arith in
+    rest-in text (at + 2) (omega arith) ∙ rw (rest-at text at (omega arith), first, drop-more text (at + 1) h, second, same)
+
+-- a letter is a word of its own
+letter-ends : (b n : ℕ) (r : List ℕ) → classOf b ≡ letter → numeral letters (b ∷ write decimal n r) ≡ got (b - 96) (write decimal n r)
+letter-ends b n r c =
+    let (low, high) = letter-range b c in
+    let e : digitOf letters b ≡ b - 96 = digit-is letters b c in
+    numeral-first letters b _ (λ q. absurd (omega arith)) (λ q. absurd (omega arith)) (omega arith) ∙ rw e (word-ends (b - 96) n r)
+
+pub letter-reads : (text : List ℕ) (at : ℕ) {number next : ℕ} → at < length text → classOf (getD text at 0) ≡ letter → Brief text (at + 1) number next
+    → 0 < next → Reads letters text at (getD text at 0 - 96) (at + 1)
+unfolding value past read numberOf restOf
+letter-reads text at {number} {next} h c brief some =
+    let e : rest text at ≡ left (getD text at 0 ∷ write decimal number (drop next text)) = rest-at text at h ∙ rw (brief .written some) in
+    let f : rest text (at + 1) ≡ left (write decimal number (drop next text)) = rest-in text (at + 1) (omega arith) ∙ ap left (brief .written some) in
+    record { value-is = rw (e, letter-ends _ number (drop next text) c); rest-is = f ∙ rw (e, letter-ends _ number (drop next text) c) }
+
+-- Symbols: what is answered of one, by its letter
+
+pub record BriefSymbol (text : List ℕ) (at : ℕ) (t : Bool) (K next : ℕ) : Type 0 where
+  pub near : next ≤ at + 4
+  pub gives : 0 < next → Gives (symbol (rest text at)) text (symbolOf t K) next
+
+pub symbol-none : (text : List ℕ) (at : ℕ) (t : Bool) (K : ℕ) → BriefSymbol text at t K 0
+symbol-none text at t K = record { near = omega arith; gives = λ h. absurd (omega arith) }
+
+module _ (text : List ℕ) (at : ℕ) {K next : ℕ} (h : at < length text) (brief : Brief text (at + 1) K next) where
+  symbol-by : (t : Bool) (w : ℕ) → classOf (getD text at 0) ≡ letter → w ≡ getD text at 0 - 96 → (eqb w (wordOf "t") || eqb w (wordOf "n")) ≡ true
+      → t ≡ eqb w (wordOf "t") → BriefSymbol text at t K next
+  unfolding symbol result remaining
+  symbol-by t w c e some kind =
+      record {
+        near = omega (arith, brief .near);
+        gives = λ found.
+            let word : Reads letters text at (getD text at 0 - 96) (at + 1) = letter-reads text at h c brief found in
+            let number : Reads decimal text (at + 1) K next = brief .reads found in
+            let due : must (eqb w (wordOf "t") || eqb w (wordOf "n")) (rest text (at + 1)) ≡ rest text (at + 1) = must-true _ _ some in
+            record { result-is = cc; remaining-is = cc };
+      }
+
+  pub terminal-by : getD text at 0 ≡ 116 → BriefSymbol text at true K next
+  unfolding classOf spelled
+  terminal-by e = symbol-by true 20 (rw e) (omega arith) refl refl
+
+  pub nonterminal-by : getD text at 0 ≡ 110 → BriefSymbol text at false K next
+  unfolding classOf spelled
+  nonterminal-by e = symbol-by false 14 (rw e) (omega arith) refl refl

@@ -1,13 +1,17 @@
 // Symbols: `tK` and `nK`.
 ghost use mathlib.Core.Path.{_≡_};
 ghost use mathlib.Core.Bool.{_||_};
+ghost use Prim.Native.Nat.{_+_, _≤_};
 ghost use lib.Dec.{eqb};
+ghost use lib.ListN.{length};
 ghost use Rattle.text.specs.Rest.{rest};
 ghost use Rattle.text.specs.Numeral.{wordOf};
 ghost use Rattle.text.specs.Reading.{Lent};
 ghost use Rattle.grammar.specs.Format.Parse.{symbol, symbolOf};
 ghost use Rattle.book.specs.Layout.{symbolCode};
 ghost use Rattle.book.specs.Sections.{Gives};
+ghost use Rattle.book.specs.Short.{BriefSymbol};
+use super::short::short;
 use super::spelling::N;
 use super::spelling::T;
 
@@ -27,7 +31,8 @@ fn is_letter(word: u32) -> bool
     word == N
 }
 
-pub fn symbol(t: &[u8; 256], text: &[u8], at: usize) -> SymbolRead
+// By its parts.
+fn any_symbol(t: &[u8; 256], text: &[u8], at: usize) -> SymbolRead
     requires { ⌜ Lent (now t) (now text) ⌝ }
     ensures { λ r. ⌜ Gives (symbol (rest (now (text .entry)) at)) (now (text .entry)) (symbolOf (r .terminal) (r .number)) (r .at) ⌝ }
 {
@@ -39,6 +44,52 @@ pub fn symbol(t: &[u8; 256], text: &[u8], at: usize) -> SymbolRead
         number: k.value,
         at: k.at,
     }
+}
+
+// By its bytes, where its number is short; for anything else, position 0.
+pub fn short_symbol(t: &[u8; 256], text: &[u8], at: usize) -> SymbolRead
+    requires { ⌜ Lent (now t) (now text) × (at + 5 ≤ length (now text)) ⌝ }
+    ensures { λ r. ⌜ BriefSymbol (now (text .entry)) at (r .terminal) (r .number) (r .at) ⌝ }
+{
+    let letter = text[at];
+    let k = short(t, text, at + 1);
+    if letter == b't' {
+        return SymbolRead {
+            terminal: true,
+            number: k.value,
+            at: k.at,
+        };
+    }
+    if letter == b'n' {
+        return SymbolRead {
+            terminal: false,
+            number: k.value,
+            at: k.at,
+        };
+    }
+    SymbolRead {
+        terminal: false,
+        number: 0,
+        at: 0,
+    }
+}
+
+pub fn symbol(t: &[u8; 256], text: &[u8], at: usize) -> SymbolRead
+    requires { ⌜ Lent (now t) (now text) ⌝ }
+    ensures { λ r. ⌜ Gives (symbol (rest (now (text .entry)) at)) (now (text .entry)) (symbolOf (r .terminal) (r .number)) (r .at) ⌝ }
+{
+    let n = text.len();
+    if n < 5 {
+        return any_symbol(t, text, at);
+    }
+    if n - 5 < at {
+        return any_symbol(t, text, at);
+    }
+    let read = short_symbol(t, text, at);
+    if read.at == 0 {
+        return any_symbol(t, text, at);
+    }
+    read
 }
 
 // A symbol in one word: tK is K, nK is 32 + K; 64 is a symbol that no book declares.

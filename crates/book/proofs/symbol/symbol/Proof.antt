@@ -1,26 +1,41 @@
-use Rattle.text.specs.Numeral.{spelled}
-use Rattle.grammar.specs.Format.Reader.{result, remaining}
-use Rattle.grammar.specs.Format.Parse.{symbol}
+use native.Mathlib.Omega.{arith}
 use borrow.Author.Needs.{needs}
 use Rattle.book.proofs.symbol.symbol.Statement.{statement}
 use Rattle.book.proofs.symbol.symbol.Tie as tie
 
-word-requires : tie.Need-word-requires
-word-requires c κs = search needs
-
-is-letter-requires : tie.Need-is-letter-requires
-is-letter-requires c κs = search needs
-
-require-requires : tie.Need-require-requires
-require-requires c κs = search needs
-
-number-requires : tie.Need-number-requires
-number-requires c κs = search needs
+any-symbol-requires : tie.Need-any-symbol-requires
+any-symbol-requires c κs = search needs
 
 returns : tie.Need-returns
-unfolding symbol result remaining spelled
-returns c = record { result-is = cc; remaining-is = cc }
+returns c = search needs
+
+any-symbol-requires-2 : tie.Need-any-symbol-requires-2
+any-symbol-requires-2 c κs = search needs
+
+returns-2 : tie.Need-returns-2
+returns-2 c = search needs
+
+short-symbol-requires : tie.Need-short-symbol-requires
+short-symbol-requires c κs = search needs
+
+any-symbol-requires-3 : tie.Need-any-symbol-requires-3
+any-symbol-requires-3 c κs = search needs
+
+returns-3 : tie.Need-returns-3
+returns-3 c = search needs
+
+returns-4 : tie.Need-returns-4
+returns-4 c = c .before .before .short-symbol .ensures .gives (omega (arith, c .if3 .left))
 
 pub symbol-spec : {M : Type 1} → statement M
 symbol-spec =
-    tie.close (tie.spec word-requires is-letter-requires require-requires number-requires returns)
+    tie.close
+    (tie.spec
+    any-symbol-requires
+    returns
+    any-symbol-requires-2
+    returns-2
+    short-symbol-requires
+    any-symbol-requires-3
+    returns-3
+    returns-4)

@@ -6,14 +6,15 @@ use lib.ListN.{length}
 use Rattle.grammar.specs.Data.Book.{Book}
 use Rattle.grammar.specs.Evaluator.Tree.{Token}
 use Rattle.grammar.specs.Evaluator.Rows.{page}
-use Rattle.grammar.specs.Evaluator.Machine.{Config, refused, accepted, more, stop, step}
+use Rattle.grammar.specs.Evaluator.Machine.{Config, refused, accepted, stop, step}
 use Rattle.grammar.specs.Engine.{tablesOf}
-use Rattle.plans.specs.Plans.{PlansIn, PlansHeld}
+use Rattle.plans.specs.Plans.{PlansHeld}
 use Rattle.machine.specs.declared.moves.Moved.{Moved}
-use Rattle.machine.specs.declared.moves.Moved.the-variants.{On, Accepted, Refused}
+use Rattle.machine.specs.declared.moves.Moved.the-variants.{On, Stopped}
+use Rattle.machine.specs.declared.run.Outcome.{Outcome}
 use Rattle.stack.specs.declared.top.Top.{Top}
 use Rattle.stack.specs.Pushes.{Stacks}
-use Rattle.stack.specs.Standing.{BookIn, Message, ConfigIn, rowsOf}
+use Rattle.stack.specs.Standing.{BookIn, Message, ConfigIn, CellIn, rowsOf, GoesOn}
 
 -- the arrays that moves change, as they are lent
 pub record Rooms (states inherited synthesized starts rows sets : List ℕ) : Type 0 where
@@ -27,17 +28,11 @@ pub record Driven (b : Book) (rules : List ℕ) (count : ℕ) (definitions : Lis
   pub book-in : BookIn b rules definitions table
   pub plans-held : PlansHeld b rules count definitions lines owned kernels heads closures nulls reaches
 
--- a configuration over a message, in the arrays that moves change, with the plans that are worked out
-pub record Here (b : Book) (ks : List Token) (c : Config) (states inherited synthesized starts rows counts lists : List ℕ) (top : Top) : Type 0 where
+-- a configuration over a message, in the arrays that moves change, with its top cell set
+pub record Poised (b : Book) (ks : List Token) (c : Config) (states inherited synthesized starts rows : List ℕ) (top : Top) : Type 0 where
   pub config-in : ConfigIn b ks states inherited synthesized starts rows top c
-  pub plans-in : PlansIn b counts lists
+  pub cell-in : CellIn b inherited c
   pub message : Message b ks
-
--- a move that goes on
-pub record MovedOn (b : Book) (ks : List Token) (c : Config) (states inherited synthesized starts rows counts lists : List ℕ) (top : Top) : Type 0 where
-  pub then : Config
-  pub moves : step b (tablesOf b) c ≡ more then
-  pub here : Here b ks then states inherited synthesized starts rows counts lists top
 
 -- the machine accepts, and its rows stand in the lent words
 pub record Accepts (b : Book) (c : Config) (rows : List ℕ) : Type 0 where
@@ -45,8 +40,8 @@ pub record Accepts (b : Book) (c : Config) (rows : List ℕ) : Type 0 where
   pub rows-are : rows ≡ page (rowsOf c)
 
 -- what a move tells
-module _ (b : Book) (ks : List Token) (c : Config) (states inherited synthesized starts rows counts lists : List ℕ) where
+module _ (b : Book) (ks : List Token) (c : Config) (states inherited synthesized starts rows : List ℕ) where
   pub data Told : Moved → Type 0 where
-    told-on : {top : Top} → MovedOn b ks c states inherited synthesized starts rows counts lists top → Told (On top)
-    told-accepted : Accepts b c rows → Told Accepted
-    told-refused : {n : ℕ} → step b (tablesOf b) c ≡ stop (refused n) → Told (Refused n)
+    told-on : {top : Top} → GoesOn b ks c states inherited synthesized starts rows top → Told (On top)
+    told-accepted : {r : Outcome} → Accepts b c rows → r .number ≡ 0 → r .count ≡ length (rowsOf c) → Told (Stopped r)
+    told-refused : {r : Outcome} → step b (tablesOf b) c ≡ stop (refused (r .number)) → r .count ≡ 0 → Told (Stopped r)

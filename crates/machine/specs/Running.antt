@@ -4,11 +4,11 @@ use mathlib.Core.Path.{_≡_, refl, sym, ap, _∙_}
 use mathlib.Core.Option.{Option, none, some}
 use mathlib.Core.List.{List, [], _∷_}
 use native.Mathlib.Omega.{arith}
-use lib.ListN.{getD, drop}
+use lib.ListN.{length, getD, drop}
 use lib.Seq.{drop-nil}
 use Rattle.grammar.specs.Data.Book.{Book}
 use Rattle.grammar.specs.Automaton.FirstSets.{setsOf}
-use Rattle.grammar.specs.Evaluator.Tree.{Token, next}
+use Rattle.grammar.specs.Evaluator.Tree.{Token, next, TokensOf, no-tokens, and-tokens}
 use Rattle.grammar.specs.Evaluator.Rows.{page}
 use Rattle.grammar.specs.Evaluator.Machine.{Config, refused, stop, step}
 use Rattle.grammar.specs.Engine.{tokensOf, tablesOf}
@@ -18,9 +18,9 @@ use Rattle.stack.specs.declared.action.Action.{Action}
 use Rattle.stack.specs.declared.action.Action.the-variants.{Due, None}
 use Rattle.stack.specs.declared.top.Top.{Top}
 use Rattle.stack.specs.Action.{actionAt, meant, action-means}
-use Rattle.machine.specs.Moving.{Driven, Here, Accepts}
+use Rattle.machine.specs.Moving.{Driven, Poised, Accepts}
 use Rattle.machine.specs.MovingLaws.{none-refused, accept-stops}
-use Rattle.machine.specs.ReduceMove.{Reduces, next-declared}
+use Rattle.machine.specs.ReduceMove.{Reduces}
 use Rattle.machine.specs.ShiftMove.{Shifts}
 use Rattle.stack.specs.Standing.{BookIn, state-low, LeftIn, Message, ConfigIn, stands, stateOf, kindOf, firstValue, valueOf, rowsOf, actionOf}
 
@@ -31,6 +31,12 @@ pub record RunIn (b : Book) (ks : List Token) (rules : List ℕ) (count : ℕ) (
   pub left-in : LeftIn b definitions firsts down up
   pub actions-in : ActionsIn b (setsOf (b .rules)) actions
   pub tokens-in : tokensOf tokens ≡ some ks
+
+-- the same, in the arrays that its moves read where the top cell is set
+pub record MovesIn (b : Book) (rules definitions firsts down up table actions : List ℕ) : Type 0 where
+  pub book-in : BookIn b rules definitions table
+  pub left-in : LeftIn b definitions firsts down up
+  pub actions-in : ActionsIn b (setsOf (b .rules)) actions
 
 -- ---- the next token
 
@@ -66,8 +72,15 @@ next-in (k ∷ v ∷ ns) ks e p = by (tokensOf ns) refl e (next-in ns)
 
 -- ---- where a move begins
 
+-- the next token is of the book, or the end mark
+next-declared : {b : Book} {ks : List Token} → TokensOf b ks → (p : ℕ) → next (drop p ks) ≤ b .terminals
+next-declared {ks = []} no-tokens zero = omega arith
+next-declared {ks = []} no-tokens (suc p) = omega arith
+next-declared (and-tokens o os) zero = o .declared
+next-declared (and-tokens o os) (suc p) = next-declared os p
+
 -- the state and the next token, in numbers that are small
-pub record Facing (b : Book) (c : Config) (top : Top) (state kind value : ℕ) : Type 0 where
+pub record Facing (b : Book) (c : Config) (state kind value : ℕ) : Type 0 where
   pub state-is : state ≡ stateOf c
   pub kind-is : kind ≡ kindOf c
   pub value-is : value ≡ valueOf c
@@ -76,10 +89,10 @@ pub record Facing (b : Book) (c : Config) (top : Top) (state kind value : ℕ) :
   pub state-low : state < 128
   pub kind-low : kind < 32
 
-facing-of : {b : Book} {ks : List Token} {c : Config} {rules definitions table states inherited synthesized starts rows : List ℕ} {top : Top}
+pub facing-of : {b : Book} {ks : List Token} {c : Config} {rules definitions table states inherited synthesized starts rows : List ℕ} {top : Top}
     (tokens : List ℕ) → BookIn b rules definitions table → tokensOf tokens ≡ some ks → Message b ks
     → ConfigIn b ks states inherited synthesized starts rows top c
-    → Facing b c top (getD states (top .depth) 0) (getD tokens (2 * top .position) 0) (getD tokens (2 * top .position + 1) 0)
+    → Facing b c (getD states (top .depth) 0) (getD tokens (2 * top .position) 0) (getD tokens (2 * top .position + 1) 0)
 facing-of {b} {ks} {states = states} {top = top} tokens B t M (stands {S = S} {p = p} {z = z} C) =
     let s : getD states (top .depth) 0 ≡ S = ap (λ n. getD states n 0) (C .depth-is) ∙ C .state-is in
     let n : NextIn ks tokens p = next-in tokens ks t p in
@@ -104,60 +117,49 @@ pub record TopLow (top : Top) : Type 0 where
   pub depth-low : top .depth ≤ 128
   pub position-low : top .position ≤ 255
 
-low-of : {b : Book} {ks : List Token} {c : Config} {states inherited synthesized starts rows : List ℕ} {top : Top}
+pub top-low : {b : Book} {ks : List Token} {c : Config} {states inherited synthesized starts rows : List ℕ} {top : Top}
     → Message b ks → ConfigIn b ks states inherited synthesized starts rows top c → TopLow top
-low-of M (stands C) = record {
+top-low M (stands C) = record {
   depth-low = omega (arith, C .depth-is, C .depth-low);
   position-low = omega (arith, C .position-is, C .position-low, M .few);
 }
+
+pub rows-count : {b : Book} {ks : List Token} {c : Config} {states inherited synthesized starts rows : List ℕ} {top : Top}
+    → ConfigIn b ks states inherited synthesized starts rows top c → (top .rows ≡ length (rowsOf c)) × (length (rowsOf c) ≤ 512)
+rows-count (stands C) = (C .count-is, C .count-low)
 
 rows-in : {b : Book} {ks : List Token} {c : Config} {states inherited synthesized starts rows : List ℕ} {top : Top}
     → ConfigIn b ks states inherited synthesized starts rows top c → rows ≡ page (rowsOf c)
 rows-in (stands C) = C .rows-are
 
-module _ {b : Book} {ks : List Token} {c : Config} {rules : List ℕ} {count : ℕ} {definitions : List ℕ} {lines : ℕ}
-    {owned kernels heads closures nulls reaches firsts down up table actions tokens : List ℕ}
-    {states inherited synthesized starts rows counts lists : List ℕ} {top : Top}
-    (R : RunIn b ks rules count definitions lines owned kernels heads closures nulls reaches firsts down up table actions tokens)
-    (H : Here b ks c states inherited synthesized starts rows counts lists top) where
-  pub top-low : TopLow top
-  top-low = low-of (H .message) (H .config-in)
+-- the action, by the byte of the state and the kind
+module _ {b : Book} {ks : List Token} {c : Config} {rules definitions firsts down up table actions : List ℕ}
+    {states inherited synthesized starts rows : List ℕ} {top : Top} {state kind value : ℕ}
+    (R : MovesIn b rules definitions firsts down up table actions) (H : Poised b ks c states inherited synthesized starts rows top)
+    (F : Facing b c state kind value) {x : Action} (action-is : x ≡ actionAt (getD actions (32 * state + kind) 0)) where
+  means : meant x ≡ actionOf b c
+  means =
+      let B = R .book-in in
+      ap meant action-is ∙ action-means (B .spelled) (B .sound) (R .actions-in) state kind (F .state-there) (F .kind-there)
+      ∙ ap (λ s. tablesOf b .act s kind) (F .state-is) ∙ ap (tablesOf b .act (stateOf c)) (F .kind-is)
 
-  pub facing : Facing b c top (getD states (top .depth) 0) (getD tokens (2 * top .position) 0) (getD tokens (2 * top .position + 1) 0)
-  facing = facing-of tokens (R .driven .book-in) (R .tokens-in) (H .message) (H .config-in)
+  pub due-none : x ≡ None → step b (tablesOf b) c ≡ stop (refused 15)
+  unfolding meant
+  due-none e = none-refused b c (sym means ∙ ap meant e)
 
-  -- the action, by the byte of the state and the kind
-  module _ {state kind : ℕ} (state-is : state ≡ getD states (top .depth) 0) (kind-is : kind ≡ getD tokens (2 * top .position) 0) {x : Action}
-      (action-is : x ≡ actionAt (getD actions (32 * state + kind) 0)) where
-    means : meant x ≡ actionOf b c
-    means =
-        let B = R .driven .book-in in
-        let F = facing in
-        ap meant action-is
-        ∙ action-means (B .spelled) (B .sound) (R .actions-in) state kind (omega (arith, F .state-there)) (omega (arith, F .kind-there))
-        ∙ ap (λ s. tablesOf b .act s kind) (state-is ∙ F .state-is) ∙ ap (tablesOf b .act (stateOf c)) (kind-is ∙ F .kind-is)
+  pub due-accept : x ≡ Due Accept → Accepts b c rows
+  unfolding meant
+  due-accept e = record { stops = accept-stops b c (sym means ∙ ap meant e); rows-are = rows-in (H .config-in) }
 
-    pub due-none : x ≡ None → step b (tablesOf b) c ≡ stop (refused 15)
-    unfolding meant
-    due-none e = none-refused b c (sym means ∙ ap meant e)
+  pub due-shift : x ≡ Due Shift → Shifts b c state kind value
+  unfolding meant
+  due-shift e = record {
+    action-is = sym means ∙ ap meant e;
+    state-is = F .state-is;
+    kind-is = F .kind-is;
+    value-is = F .value-is;
+  }
 
-    pub due-accept : x ≡ Due Accept → Accepts b c rows
-    unfolding meant
-    due-accept e = record { stops = accept-stops b c (sym means ∙ ap meant e); rows-are = rows-in (H .config-in) }
-
-    pub due-shift : x ≡ Due Shift → {value : ℕ} → value ≡ getD tokens (2 * top .position + 1) 0 → Shifts b c state kind value
-    unfolding meant
-    due-shift e v = record {
-      action-is = sym means ∙ ap meant e;
-      state-is = state-is ∙ facing .state-is;
-      kind-is = kind-is ∙ facing .kind-is;
-      value-is = v ∙ facing .value-is;
-    }
-
-    pub due-reduce : {P : ℕ} → x ≡ Due (Reduce P) → Reduces b c P state kind
-    unfolding meant
-    due-reduce e = record {
-      action-is = sym means ∙ ap meant e;
-      state-is = state-is ∙ facing .state-is;
-      kind-is = kind-is ∙ facing .kind-is;
-    }
+  pub due-reduce : {P : ℕ} → x ≡ Due (Reduce P) → Reduces b c P
+  unfolding meant
+  due-reduce e = record { action-is = sym means ∙ ap meant e }

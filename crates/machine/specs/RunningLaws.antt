@@ -1,26 +1,28 @@
 -- The moves of a run come to the machine's answer: from the start, move by move, to the move that stops. Assumes that the book is taken.
-use Prim.Native.Nat.{ℕ, _+_, _≤_}
+use Prim.Native.Nat.{ℕ, _+_, _*_, _-_, _<_}
 use mathlib.Core.Path.{_≡_, refl, _∙_}
 use mathlib.Core.List.{List, []}
 use native.Mathlib.Omega.{arith}
-use lib.ListN.{length, set, replicate}
+use lib.ListN.{length, getD, set, replicate}
 use lib.Seq.{getD-set-same}
 use Rattle.grammar.specs.Data.Book.{Book}
 use Rattle.grammar.specs.Evaluator.Tree.{Token}
 use Rattle.grammar.specs.Evaluator.Rows.{filled, page}
-use Rattle.grammar.specs.Evaluator.Machine.{Tables, Config, Answer, refused, accepted, more, stop, start, step, evaluate}
+use Rattle.grammar.specs.Evaluator.Machine.{Tables, Frame, Config, Answer, refused, accepted, more, stop, start, step, evaluate}
 use Rattle.grammar.specs.Evaluator.Runs.{Ends, halts, moves}
 use Rattle.grammar.specs.Evaluator.RunLaws.{rowCount, step-rows, evaluate-ends}
 use Rattle.grammar.specs.Engine.{tablesOf}
-use Rattle.plans.specs.Plans.{PlansIn}
+use Rattle.plans.specs.Plans.{PlansIn, PlansHeld}
 use Rattle.cells.specs.Frames.{no-frames}
 use Rattle.machine.specs.declared.moves.Moved.{Moved}
-use Rattle.machine.specs.declared.moves.Moved.the-variants.{On, Accepted, Refused}
+use Rattle.machine.specs.declared.moves.Moved.the-variants.{On, Stopped}
 use Rattle.machine.specs.declared.run.Outcome.{Outcome}
 use Rattle.stack.specs.declared.top.Top.{Top}
-use Rattle.machine.specs.Moving.{Rooms, Here, MovedOn, Accepts, Told, told-on, told-accepted, told-refused}
+use Rattle.machine.specs.Moving.{Rooms, Poised, Accepts, Told, told-on, told-accepted, told-refused}
+use Rattle.machine.specs.Running.{RunIn, MovesIn, Facing, facing-of, TopLow, top-low, rows-count}
+use Rattle.machine.specs.Setting.{TopAsked, TopSet, config-asked, config-set, config-cell}
 use Rattle.stack.specs.Path.{bottom}
-use Rattle.stack.specs.Standing.{Message, ConfigIn, stands, rowsOf}
+use Rattle.stack.specs.Standing.{Message, ConfigIn, stands, framesOf, rowsOf, GoesOn}
 
 -- what a run answers: the refusal and no row, or 0, the rows' count and the rows
 abbrev pub Answered : Answer → Outcome → List ℕ → Type 0
@@ -40,99 +42,139 @@ module _ (b : Book) (T : Tables) where
 
 -- ---- the run
 
--- a configuration that comes to the machine's answer, in the arrays
+-- a configuration that comes to the machine's answer, in the arrays, with the plans that are worked out
 pub record Underway (b : Book) (ks : List Token) (states inherited synthesized starts rows counts lists : List ℕ) (top : Top) : Type 0 where
   pub at : Config
-  pub here : Here b ks at states inherited synthesized starts rows counts lists top
+  pub config-in : ConfigIn b ks states inherited synthesized starts rows top at
+  pub plans-in : PlansIn b counts lists
   pub ends : Ends b (tablesOf b) at (evaluate b (tablesOf b) ks)
 
 -- "Start: state 0, no symbols, no rows, first token next"
-pub underway-start : {b : Book} {ks : List Token} {inherited synthesized starts rows counts lists : List ℕ} {top : Top} (states : List ℕ) → Message b ks
+pub underway-start : {b : Book} {ks : List Token} {inherited synthesized starts rows counts lists : List ℕ} {top : Top} (states : List ℕ)
     → PlansIn b counts lists → length states ≡ 129 → rows ≡ replicate 5120 0 → top .depth ≡ 0 → top .rows ≡ 0 → top .position ≡ 0
     → Underway b ks (set states 0 0) inherited synthesized starts rows counts lists top
 unfolding page filled
-underway-start {b} {ks} states M P l r d n p = record {
+underway-start {b} {ks} states P l r d n p = record {
   at = start ks;
-  here = record {
-    config-in = stands {rs = []} (record {
-      frames-in = no-frames;
-      state-is = getD-set-same states 0 0 0 (omega arith);
-      rows-are = r;
-      left-is = refl;
-      depth-is = d;
-      count-is = n;
-      position-is = p;
-      depth-low = omega arith;
-      count-low = omega arith;
-      position-low = omega arith;
-      path = bottom;
-    });
-    plans-in = P;
-    message = M;
-  };
+  config-in = stands {rs = []} (record {
+    frames-in = no-frames;
+    state-is = getD-set-same states 0 0 0 (omega arith);
+    rows-are = r;
+    left-is = refl;
+    depth-is = d;
+    count-is = n;
+    position-is = p;
+    depth-low = omega arith;
+    count-low = omega arith;
+    position-low = omega arith;
+    path = bottom;
+  });
+  plans-in = P;
   ends = evaluate-ends b (tablesOf b) ks;
 }
 
 -- how many rows stand
 rows-of : {b : Book} {ks : List Token} {c : Config} {states inherited synthesized starts rows : List ℕ} {top : Top}
-    → ConfigIn b ks states inherited synthesized starts rows top c → (top .rows ≡ rowCount c) × (rowCount c ≤ 512)
-rows-of (stands C) = (C .count-is, C .count-low)
-
-counted : {b : Book} {ks : List Token} {c : Config} {states inherited synthesized starts rows : List ℕ} {top : Top}
-    → ConfigIn b ks states inherited synthesized starts rows top c → top .rows ≡ length (rowsOf c)
-counted (stands C) = C .count-is
+    → ConfigIn b ks states inherited synthesized starts rows top c → top .rows ≡ rowCount c
+rows-of (stands C) = C .count-is
 
 module _ {b : Book} {ks : List Token} {states inherited synthesized starts rows counts lists : List ℕ} {top : Top}
     (U : Underway b ks states inherited synthesized starts rows counts lists top) where
-  pub rows-low : top .rows ≤ 512
-  rows-low = let (n, l) = rows-of (U .here .config-in) in omega arith
-
   -- a move more
-  module _ {states′ inherited′ synthesized′ starts′ rows′ counts′ lists′ : List ℕ} {next : Top}
-      (on : MovedOn b ks (U .at) states′ inherited′ synthesized′ starts′ rows′ counts′ lists′ next) where
-    pub underway-more : Underway b ks states′ inherited′ synthesized′ starts′ rows′ counts′ lists′ next
-    underway-more = record { at = on .then; here = on .here; ends = ends-more b (tablesOf b) (U .ends) (on .moves) }
+  module _ {states′ inherited′ synthesized′ starts′ rows′ : List ℕ} {next : Top}
+      (on : GoesOn b ks (U .at) states′ inherited′ synthesized′ starts′ rows′ next) where
+    underway-more : {counts′ lists′ : List ℕ} → PlansIn b counts′ lists′ → Underway b ks states′ inherited′ synthesized′ starts′ rows′ counts′ lists′ next
+    underway-more P = record { at = on .then; config-in = on .holds; plans-in = P; ends = ends-more b (tablesOf b) (U .ends) (on .moves) }
 
     -- and a row more
-    pub underway-less : next .rows ≡ top .rows + 1
+    underway-less : 512 - next .rows < 512 - top .rows
     underway-less =
-        let (n, l) = rows-of (U .here .config-in) in
-        let (m, k) = rows-of (on .here .config-in) in
+        let n = rows-of (U .config-in) in
+        let m = rows-of (on .holds) in
+        let (e, l) = rows-count (on .holds) in
         let s = step-rows b (tablesOf b) (U .at) (on .moves) in
         omega arith
 
-  -- a move that stops
-  pub underway-refused : {n : ℕ} (r : Outcome) (new : List ℕ) → step b (tablesOf b) (U .at) ≡ stop (refused n) → r .number ≡ n → r .count ≡ 0
-      → Answered (evaluate b (tablesOf b) ks) r new
-  underway-refused r new e n z = rw (ends-stop b (tablesOf b) (U .ends) e) (n, z)
+-- ---- what a step tells
 
-  pub underway-accepted : (r : Outcome) {new : List ℕ} → Accepts b (U .at) new → r .number ≡ 0 → r .count ≡ top .rows
-      → Answered (evaluate b (tablesOf b) ks) r new
-  underway-accepted r A z n =
-      let e : evaluate b (tablesOf b) ks ≡ accepted (rowsOf (U .at)) = ends-stop b (tablesOf b) (U .ends) (A .stops) in
-      rw e (z, n ∙ counted (U .here .config-in), A .rows-are)
+module _ (b : Book) (ks : List Token) (top : Top) (states inherited synthesized starts rows counts lists : List ℕ) where
+  pub data Stepped : Moved → Type 0 where
+    goes-on : {next : Top} → Underway b ks states inherited synthesized starts rows counts lists next → 512 - next .rows < 512 - top .rows → Stepped (On next)
+    answers : {r : Outcome} → Answered (evaluate b (tablesOf b) ks) r rows → Stepped (Stopped r)
 
--- ---- what a move told, by its answer
+-- by its answer
+module _ {b : Book} {ks : List Token} {top : Top} {states inherited synthesized starts rows counts lists : List ℕ} where
+  pub step-more : {m : Moved} {next : Top} → Stepped b ks top states inherited synthesized starts rows counts lists m → m ≡ On next
+      → Underway b ks states inherited synthesized starts rows counts lists next
+  step-more {next = next} (goes-on {next = n} u l) e = let same : n ≡ next = cc in rw same at u
+  step-more (answers a) e = absurd (let z : _≡_ {A = ℕ} 0 1 = cc in omega arith)
 
-module _ {b : Book} {ks : List Token} {c : Config} {states inherited synthesized starts rows counts lists : List ℕ} where
-  pub on-told : {m : Moved} {top : Top} → Told b ks c states inherited synthesized starts rows counts lists m → m ≡ On top
-      → MovedOn b ks c states inherited synthesized starts rows counts lists top
-  on-told {top = top} (told-on {top = next} on) e = let same : next ≡ top = cc in rw same at on
-  on-told (told-accepted a) e = absurd (let z : _≡_ {A = ℕ} 0 1 = cc in omega arith)
-  on-told (told-refused r) e = absurd (let z : _≡_ {A = ℕ} 0 1 = cc in omega arith)
+  pub step-less : {m : Moved} {next : Top} → Stepped b ks top states inherited synthesized starts rows counts lists m → m ≡ On next
+      → 512 - next .rows < 512 - top .rows
+  step-less {next = next} (goes-on {next = n} u l) e = let same : n ≡ next = cc in rw same at l
+  step-less (answers a) e = absurd (let z : _≡_ {A = ℕ} 0 1 = cc in omega arith)
 
-  pub accepted-told : {m : Moved} → Told b ks c states inherited synthesized starts rows counts lists m → m ≡ Accepted → Accepts b c rows
-  accepted-told (told-on on) e = absurd (let z : _≡_ {A = ℕ} 0 1 = cc in omega arith)
-  accepted-told (told-accepted a) e = a
-  accepted-told (told-refused r) e = absurd (let z : _≡_ {A = ℕ} 0 1 = cc in omega arith)
+  pub step-answers : {m : Moved} {r : Outcome} → Stepped b ks top states inherited synthesized starts rows counts lists m → m ≡ Stopped r
+      → Answered (evaluate b (tablesOf b) ks) r rows
+  step-answers (goes-on u l) e = absurd (let z : _≡_ {A = ℕ} 0 1 = cc in omega arith)
+  step-answers {r = r} (answers {r = s} a) e = let same : s ≡ r = cc in rw same at a
 
-  pub refused-told : {m : Moved} {n : ℕ} → Told b ks c states inherited synthesized starts rows counts lists m → m ≡ Refused n
-      → step b (tablesOf b) c ≡ stop (refused n)
-  refused-told (told-on on) e = absurd (let z : _≡_ {A = ℕ} 0 1 = cc in omega arith)
-  refused-told (told-accepted a) e = absurd (let z : _≡_ {A = ℕ} 0 1 = cc in omega arith)
-  refused-told (told-refused r) e = cc
+-- what a move told is what the step tells
+stepped : {b : Book} {ks : List Token} {states inherited synthesized starts rows counts lists : List ℕ} {top : Top}
+    (U : Underway b ks states inherited synthesized starts rows counts lists top)
+    {states′ inherited′ synthesized′ starts′ rows′ counts′ lists′ : List ℕ} {m : Moved} → PlansIn b counts′ lists′
+    → Told b ks (U .at) states′ inherited′ synthesized′ starts′ rows′ m → Stepped b ks top states′ inherited′ synthesized′ starts′ rows′ counts′ lists′ m
+stepped U P (told-on on) = goes-on (underway-more U on P) (underway-less U on)
+stepped {b} U P (told-accepted {r = r} a z n) = answers {r = r} (rw (ends-stop b (tablesOf b) (U .ends) (a .stops)) (z, n, a .rows-are))
+stepped {b} U P (told-refused {r = r} e z) = answers {r = r} (rw (ends-stop b (tablesOf b) (U .ends) e) (refl, z))
 
--- the arrays as they are lent, after a move
+-- ---- a step
+
+module _ {b : Book} {ks : List Token} {rules : List ℕ} {count : ℕ} {definitions : List ℕ} {lines : ℕ}
+    {owned kernels heads closures nulls reaches firsts down up table actions tokens : List ℕ}
+    {states inherited synthesized starts rows counts lists : List ℕ} {top : Top}
+    (R : RunIn b ks rules count definitions lines owned kernels heads closures nulls reaches firsts down up table actions tokens) (M : Message b ks)
+    (U : Underway b ks states inherited synthesized starts rows counts lists top) where
+  pub run-low : TopLow top
+  run-low = top-low M (U .config-in)
+
+  pub run-moves : MovesIn b rules definitions firsts down up table actions
+  run-moves = record { book-in = R .driven .book-in; left-in = R .left-in; actions-in = R .actions-in }
+
+  module _ {state kind : ℕ} (state-is : state ≡ getD states (top .depth) 0) (kind-is : kind ≡ getD tokens (2 * top .position) 0) where
+    pub run-facing : {value : ℕ} → value ≡ getD tokens (2 * top .position + 1) 0 → Facing b (U .at) state kind value
+    run-facing value-is = rw (state-is, kind-is, value-is) (facing-of tokens (R .driven .book-in) (R .tokens-in) M (U .config-in))
+
+    pub run-asked : TopAsked b definitions inherited synthesized state (top .depth) states starts (framesOf (U .at))
+    run-asked = config-asked (R .driven .book-in) (U .config-in) (run-facing refl .state-is) refl
+
+    -- where what `set_top` ensures is known: the law takes it whole, so that its long terms are written once
+    module _ {counts′ lists′ inherited′ : List ℕ}
+        (sets : (b : Book) (states starts : List ℕ) (st : List Frame)
+        → TopAsked b definitions inherited synthesized state (top .depth) states starts st → state < b .states
+        → PlansHeld b rules count definitions lines owned kernels heads closures nulls reaches → PlansIn b counts lists
+        → TopSet b counts′ lists′ inherited inherited′ synthesized state kind states starts st) where
+      cell-set : TopSet b counts′ lists′ inherited inherited′ synthesized state kind states starts (framesOf (U .at))
+      cell-set = sets b states starts (framesOf (U .at)) run-asked (run-facing refl .state-there) (R .driven .plans-held) (U .plans-in)
+
+      pub run-poised : Poised b ks (U .at) states inherited′ synthesized starts rows top
+      run-poised =
+          let F = run-facing refl in
+          record {
+            config-in = config-set (R .driven .book-in) (U .config-in) (F .state-is) (F .kind-is) cell-set;
+            cell-in = config-cell (R .driven .book-in) (U .config-in) (F .state-is) (F .kind-is) cell-set;
+            message = M;
+          }
+
+      -- and what `advance` ensures
+      module _ {value : ℕ} (value-is : value ≡ getD tokens (2 * top .position + 1) 0) {m : Moved} {states′ synthesized′ starts′ rows′ : List ℕ}
+          (moved : (b : Book) (ks : List Token) (c : Config) → MovesIn b rules definitions firsts down up table actions
+          → Poised b ks c states inherited′ synthesized starts rows top → Facing b c state kind value
+          → Told b ks c states′ inherited′ synthesized′ starts′ rows′ m) where
+        pub run-stepped : Stepped b ks top states′ inherited′ synthesized′ starts′ rows′ counts′ lists′ m
+        run-stepped = stepped U (cell-set .plans-in) (moved b ks (U .at) run-moves run-poised (run-facing value-is))
+
+-- the arrays as they are lent, after a step
 pub record RoomsLeft (states inherited synthesized starts rows sets counts lists : List ℕ) : Type 0 where
   pub rooms : Rooms states inherited synthesized starts rows sets
   pub counts-long : length counts ≡ 4096

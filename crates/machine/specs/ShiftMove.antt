@@ -1,6 +1,6 @@
 -- A shift over the arrays: what it asks of them, and that what it does is what the machine does. Assumes that the book is taken.
 use Prim.Native.Nat.{ℕ, _+_, _*_, _≤_, _<_}
-use mathlib.Core.Path.{_≡_, refl, ap}
+use mathlib.Core.Path.{_≡_, ap}
 use mathlib.Core.Logic.{_≢_}
 use mathlib.Core.Option.{some}
 use mathlib.Core.List.{List, [], _∷_}
@@ -13,12 +13,11 @@ use Rattle.grammar.specs.Evaluator.Tree.{Token}
 use Rattle.grammar.specs.Evaluator.Machine.{Config}
 use Rattle.stack.specs.declared.top.Top.{Top}
 use Rattle.stack.specs.Goes.{shift-goes}
-use Rattle.machine.specs.Moving.{Rooms, Driven, Here, MovedOn}
+use Rattle.machine.specs.Moving.{Poised}
 use Rattle.machine.specs.MovingLaws.{room-left}
-use Rattle.stack.specs.Pushes.{TokenPushed}
-use Rattle.machine.specs.Setting.{TopAsked, TopSet, config-asked, config-set, config-cell}
+use Rattle.stack.specs.Pushes.{Stacks, TokenPushed}
 use Rattle.machine.specs.Shifting.{shift-on}
-use Rattle.stack.specs.Standing.{BookIn, state-low, ConfigIn, stands, framesOf, stateOf, kindOf, valueOf, actionOf}
+use Rattle.stack.specs.Standing.{BookIn, state-low, ConfigIn, stands, stateOf, kindOf, valueOf, actionOf, GoesOn}
 
 -- a shift is due, of a token
 pub record Shifts (b : Book) (c : Config) (state kind value : ℕ) : Type 0 where
@@ -28,8 +27,7 @@ pub record Shifts (b : Book) (c : Config) (state kind value : ℕ) : Type 0 wher
   pub value-is : value ≡ valueOf c
 
 -- the numbers of a shift are small
-pub record ShiftLow (b : Book) (top : Top) (state kind : ℕ) : Type 0 where
-  pub state-there : state < b .states
+pub record ShiftLow (top : Top) (state kind : ℕ) : Type 0 where
   pub state-low : state < 128
   pub kind-low : kind < 32
   pub position-low : top .position < 255
@@ -37,43 +35,27 @@ pub record ShiftLow (b : Book) (top : Top) (state kind : ℕ) : Type 0 where
 
 low-of : {b : Book} {ks : List Token} {c : Config} {rules definitions table states inherited synthesized starts rows : List ℕ} {top : Top} {state kind : ℕ}
     → BookIn b rules definitions table → length ks ≤ MAX-TOKENS → ConfigIn b ks states inherited synthesized starts rows top c → actionOf b c ≡ some shift
-    → state ≡ stateOf c → kind ≡ kindOf c → ShiftLow b top state kind
+    → state ≡ stateOf c → kind ≡ kindOf c → ShiftLow top state kind
 low-of B few (stands {S = S} {z = []} C) e s k = let g = shift-goes (B .spelled) (B .sound) S 0 e in absurd (omega (arith, g .low))
 low-of {b} {ks} B few (stands {S = S} {p = p} {z = x ∷ z} C) e s k =
     let g = shift-goes (B .spelled) (B .sound) S (x .kind) e in
     let there : S < b .states = state-low B (C .path) in
     record {
-      state-there = omega arith;
       state-low = omega (arith, B .sound .limits .states-limit .high);
       kind-low = omega (arith, g .high, B .sound .limits .terminals-limit .high);
       position-low = omega (arith, C .position-is, ap length (C .left-is), length-drop p ks);
       depth-low = omega (arith, C .depth-is, C .depth-low);
     }
 
-module _ {b : Book} {ks : List Token} {c : Config} {rules : List ℕ} {count : ℕ} {definitions : List ℕ} {lines : ℕ}
-    {owned kernels heads closures nulls reaches table : List ℕ} {states inherited synthesized starts rows counts lists : List ℕ} {top : Top}
-    {state kind value : ℕ} (D : Driven b rules count definitions lines owned kernels heads closures nulls reaches table)
-    (H : Here b ks c states inherited synthesized starts rows counts lists top) (X : Shifts b c state kind value) where
-  pub shift-low : ShiftLow b top state kind
-  shift-low = low-of (D .book-in) (H .message .few) (H .config-in) (X .action-is) (X .state-is) (X .kind-is)
+module _ {b : Book} {ks : List Token} {c : Config} {rules definitions table states inherited synthesized starts rows : List ℕ} {top : Top}
+    {state kind value : ℕ} (B : BookIn b rules definitions table) (H : Poised b ks c states inherited synthesized starts rows top)
+    (X : Shifts b c state kind value) where
+  pub shift-low : ShiftLow top state kind
+  shift-low = low-of B (H .message .few) (H .config-in) (X .action-is) (X .state-is) (X .kind-is)
 
-  pub shift-asked : TopAsked b definitions inherited synthesized state (top .depth) states starts (framesOf c)
-  shift-asked = config-asked (D .book-in) (H .config-in) (X .state-is) refl
-
-  pub shift-told : {sets states′ inherited′ synthesized′ starts′ rows′ counts′ lists′ : List ℕ} {target : ℕ} {next : Top}
-      → Rooms states inherited synthesized starts rows sets → top .rows ≢ 512 → top .depth ≢ 128
-      → TopSet b counts′ lists′ inherited inherited′ synthesized state kind states starts (framesOf c)
-      → TokenPushed top target kind value states synthesized starts rows states′ synthesized′ starts′ rows′ next
-      → target ≡ getD table (64 * state + kind) 0
-      → MovedOn b ks c states′ inherited′ synthesized′ starts′ rows′ counts′ lists′ next
-  shift-told R n m T push t =
-      let B = D .book-in in
-      let C = config-set B (H .config-in) (X .state-is) (X .kind-is) T in
-      let s = config-cell B (H .config-in) (X .state-is) (X .kind-is) T in
-      let on = shift-on B (R .stacks) push C s (X .action-is) (X .state-is) (X .kind-is) (X .value-is) (omega (arith, shift-low .depth-low))
-      (room-left B (H .config-in) n) t in
-      record {
-        then = on .then;
-        moves = on .moves;
-        here = record { config-in = on .holds; plans-in = T .plans-in; message = H .message };
-      }
+  pub shift-told : {states′ synthesized′ starts′ rows′ : List ℕ} {target : ℕ} {next : Top} → Stacks states synthesized starts rows → top .rows ≢ 512
+      → top .depth ≢ 128 → TokenPushed top target kind value states synthesized starts rows states′ synthesized′ starts′ rows′ next
+      → target ≡ getD table (64 * state + kind) 0 → GoesOn b ks c states′ inherited synthesized′ starts′ rows′ next
+  shift-told L n m push t =
+      shift-on B L push (H .config-in) (H .cell-in) (X .action-is) (X .state-is) (X .kind-is) (X .value-is) (omega (arith, shift-low .depth-low))
+      (room-left B (H .config-in) n) t

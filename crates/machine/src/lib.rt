@@ -3,3 +3,4 @@ pub mod moves;
 pub mod reduce;
 pub mod run;
 pub mod setting;
+pub mod step;

@@ -1,13 +1,16 @@
 // The reduce. The contract asks that the arrays hold some book and a configuration of its machine, and says its statement of all that they hold.
+ghost use mathlib.Core.Path.{_≡_};
 ghost use mathlib.Core.List.{List};
+ghost use lib.ListN.{length};
 ghost use Rattle.grammar.specs.Data.Book.{Book};
 ghost use Rattle.grammar.specs.Evaluator.Tree.{Token};
 ghost use Rattle.grammar.specs.Evaluator.Machine.{Config};
-ghost use Rattle.machine.specs.Moving.{Rooms, Driven, Here, Told};
+ghost use Rattle.stack.specs.Pushes.{Stacks};
+ghost use Rattle.stack.specs.Standing.{BookIn, LeftIn};
+ghost use Rattle.machine.specs.Moving.{Poised, Told};
 ghost use Rattle.machine.specs.ReduceMove.{Reduces};
-ghost use Rattle.stack.specs.Standing.{LeftIn};
 use super::moves::Moved;
-use super::setting::set_top;
+use super::run::Outcome;
 use items::words::word;
 use stack::left::put_left;
 use stack::top::Top;
@@ -16,75 +19,41 @@ use stack::top::Top;
 pub fn reduce(
     top: Top,
     rule: u32,
-    state: usize,
-    kind: u32,
     rules: &[u32],
-    count: u32,
     definitions: &[u32],
-    lines: u32,
-    owned: &[u32],
-    kernels: &[u32],
-    heads: &[u32],
-    closures: &[u32],
-    nulls: &[u32],
-    reaches: &[u32],
     firsts: &[u32],
     down: &[u32],
     up: &[u32],
     table: &[u8],
-    sets: &mut [u32],
-    counts: &mut [u8],
-    lists: &mut [u8],
     states: &mut [u32],
-    inherited: &mut [u32],
+    inherited: &[u32],
     synthesized: &mut [u32],
     starts: &mut [u32],
     rows: &mut [u32],
 ) -> Moved
-    requires { ⌜ Rooms (now states) (now inherited) (now synthesized) (now starts) (now rows) (now sets) ⌝ }
-    requires { ⌜ ((b : Book) × (ks : List Token) × (c : Config)
-        × Driven b (now rules) count (now definitions) lines (now owned) (now kernels) (now heads) (now closures) (now nulls) (now reaches) (now table)
+    requires { ⌜ Stacks (now states) (now synthesized) (now starts) (now rows) × (length (now inherited) ≡ 2064) ⌝ }
+    requires { ⌜ ((b : Book) × (ks : List Token) × (c : Config) × BookIn b (now rules) (now definitions) (now table)
         × LeftIn b (now definitions) (now firsts) (now down) (now up)
-        × Here b ks c (now states) (now inherited) (now synthesized) (now starts) (now rows) (now counts) (now lists) top
-        × Reduces b c rule state kind) ⌝ }
-    ensures { λ r. ⌜ ((b : Book) (ks : List Token) (c : Config)
-        → Driven b (now (rules .entry)) count (now (definitions .entry)) lines (now (owned .entry)) (now (kernels .entry)) (now (heads .entry))
-        (now (closures .entry)) (now (nulls .entry)) (now (reaches .entry)) (now (table .entry))
+        × Poised b ks c (now states) (now inherited) (now synthesized) (now starts) (now rows) top × Reduces b c rule) ⌝ }
+    ensures { λ r. ⌜ ((b : Book) (ks : List Token) (c : Config) → BookIn b (now (rules .entry)) (now (definitions .entry)) (now (table .entry))
         → LeftIn b (now (definitions .entry)) (now (firsts .entry)) (now (down .entry)) (now (up .entry))
-        → Here b ks c (now (states .entry)) (now (inherited .entry)) (now (synthesized .entry)) (now (starts .entry)) (now (rows .entry))
-        (now (counts .entry)) (now (lists .entry)) top
-        → Reduces b c rule state kind
-        → Told b ks c (now (states .exit)) (now (inherited .exit)) (now (synthesized .exit)) (now (starts .exit)) (now (rows .exit)) (now (counts .exit))
-        (now (lists .exit)) r) ⌝ }
+        → Poised b ks c (now (states .entry)) (now (inherited .entry)) (now (synthesized .entry)) (now (starts .entry)) (now (rows .entry)) top
+        → Reduces b c rule
+        → Told b ks c (now (states .exit)) (now (inherited .entry)) (now (synthesized .exit)) (now (starts .exit)) (now (rows .exit)) r) ⌝ }
 {
     if top.rows == Top::MAX_ROWS {
-        return Moved::Refused(16);
+        return Moved::Stopped(Outcome {
+            number: 16,
+            count: 0,
+        });
     }
-    let depth = top.depth;
-    let below = depth - word(rules, 10 * rule as usize + 1);
+    let below = top.depth - word(rules, 10 * rule as usize + 1);
     if below == Top::MAX_SYMBOLS {
-        return Moved::Refused(17);
+        return Moved::Stopped(Outcome {
+            number: 17,
+            count: 0,
+        });
     }
-    set_top(
-        rules,
-        count,
-        definitions,
-        lines,
-        owned,
-        kernels,
-        heads,
-        closures,
-        nulls,
-        reaches,
-        state,
-        kind,
-        depth,
-        sets,
-        counts,
-        lists,
-        inherited,
-        synthesized,
-    );
     Moved::On(put_left(
         top,
         rule,

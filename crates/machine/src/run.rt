@@ -2,147 +2,24 @@
 // A contract asks that the arrays hold some book and a list of its tokens, and says its statement of all that they hold.
 ghost use mathlib.Core.Path.{_≡_};
 ghost use mathlib.Core.List.{List};
-ghost use lib.ListN.{getD, replicate};
+ghost use lib.ListN.{replicate};
 ghost use Rattle.grammar.specs.Data.Book.{Book};
 ghost use Rattle.grammar.specs.Evaluator.Tree.{Token};
-ghost use Rattle.grammar.specs.Evaluator.Machine.{Config, evaluate};
+ghost use Rattle.grammar.specs.Evaluator.Machine.{evaluate};
 ghost use Rattle.grammar.specs.Engine.{tablesOf};
 ghost use Rattle.plans.specs.Plans.{PlansIn};
-ghost use Rattle.machine.specs.Moving.{Rooms, Here, Told};
+ghost use Rattle.machine.specs.Moving.{Rooms};
 ghost use Rattle.machine.specs.Running.{RunIn};
 ghost use Rattle.machine.specs.RunningLaws.{Answered};
 ghost use Rattle.stack.specs.Standing.{Message};
 use super::moves::Moved;
-use super::moves::shift;
-use super::reduce::reduce;
-use items::words::word;
-use stack::action::Action;
-use stack::action::Move;
-use stack::action::action_of;
+use super::step::step;
 use stack::top::Top;
 
 // The answer: 0 or the refusal, and the number of rows.
 pub struct Outcome {
     pub number: u32,
     pub count: u32,
-}
-
-// A number of the tokens; after the last, 0.
-fn number(tokens: &[u32], i: usize) -> u32
-    ensures { λ r. ⌜ r ≡ getD (now (tokens .entry)) i 0 ⌝ }
-{
-    if i < tokens.len() {
-        return tokens[i];
-    }
-    0
-}
-
-// One move: "find the action. None: 15. Accept: done."
-pub fn advance(
-    top: Top,
-    rules: &[u32],
-    count: u32,
-    definitions: &[u32],
-    lines: u32,
-    owned: &[u32],
-    kernels: &[u32],
-    heads: &[u32],
-    closures: &[u32],
-    nulls: &[u32],
-    reaches: &[u32],
-    firsts: &[u32],
-    down: &[u32],
-    up: &[u32],
-    table: &[u8],
-    actions: &[u8],
-    tokens: &[u32],
-    sets: &mut [u32],
-    counts: &mut [u8],
-    lists: &mut [u8],
-    states: &mut [u32],
-    inherited: &mut [u32],
-    synthesized: &mut [u32],
-    starts: &mut [u32],
-    rows: &mut [u32],
-) -> Moved
-    requires { ⌜ Rooms (now states) (now inherited) (now synthesized) (now starts) (now rows) (now sets) ⌝ }
-    requires { ⌜ ((b : Book) × (ks : List Token) × (c : Config)
-        × RunIn b ks (now rules) count (now definitions) lines (now owned) (now kernels) (now heads) (now closures) (now nulls) (now reaches) (now firsts)
-        (now down) (now up) (now table) (now actions) (now tokens)
-        × Here b ks c (now states) (now inherited) (now synthesized) (now starts) (now rows) (now counts) (now lists) top) ⌝ }
-    ensures { λ r. ⌜ ((b : Book) (ks : List Token) (c : Config)
-        → RunIn b ks (now (rules .entry)) count (now (definitions .entry)) lines (now (owned .entry)) (now (kernels .entry)) (now (heads .entry))
-        (now (closures .entry)) (now (nulls .entry)) (now (reaches .entry)) (now (firsts .entry)) (now (down .entry)) (now (up .entry)) (now (table .entry))
-        (now (actions .entry)) (now (tokens .entry))
-        → Here b ks c (now (states .entry)) (now (inherited .entry)) (now (synthesized .entry)) (now (starts .entry)) (now (rows .entry))
-        (now (counts .entry)) (now (lists .entry)) top
-        → Told b ks c (now (states .exit)) (now (inherited .exit)) (now (synthesized .exit)) (now (starts .exit)) (now (rows .exit)) (now (counts .exit))
-        (now (lists .exit)) r) ⌝ }
-{
-    let depth = top.depth;
-    let at = 2 * top.position;
-    let state = word(states, depth);
-    let kind = number(tokens, at);
-    let action = action_of(actions[32 * state + kind as usize]);
-    let Action::Due(due) = action else {
-        return Moved::Refused(15);
-    };
-    match due {
-        Move::Shift => shift(
-            top,
-            state,
-            kind,
-            number(tokens, at + 1),
-            rules,
-            count,
-            definitions,
-            lines,
-            owned,
-            kernels,
-            heads,
-            closures,
-            nulls,
-            reaches,
-            table,
-            sets,
-            counts,
-            lists,
-            states,
-            inherited,
-            synthesized,
-            starts,
-            rows,
-        ),
-        Move::Reduce(rule) => reduce(
-            top,
-            rule,
-            state,
-            kind,
-            rules,
-            count,
-            definitions,
-            lines,
-            owned,
-            kernels,
-            heads,
-            closures,
-            nulls,
-            reaches,
-            firsts,
-            down,
-            up,
-            table,
-            sets,
-            counts,
-            lists,
-            states,
-            inherited,
-            synthesized,
-            starts,
-            rows,
-        ),
-        Move::Accept => Moved::Accepted,
-    }
 }
 
 // The run from the start: the moves until one stops. On a refusal the rows are left as they are, for the caller to clear.
@@ -186,7 +63,7 @@ pub fn run(
     states[0] = 0;
     let mut top = Top::empty();
     loop {
-        let moved = advance(
+        let moved = step(
             top,
             rules,
             count,
@@ -217,14 +94,8 @@ pub fn run(
             Moved::On(next) => {
                 top = next;
             }
-            Moved::Accepted => {
-                return Outcome {
-                    number: 0,
-                    count: top.rows as u32,
-                };
-            }
-            Moved::Refused(number) => {
-                return Outcome { number, count: 0 };
+            Moved::Stopped(outcome) => {
+                return outcome;
             }
         }
     }

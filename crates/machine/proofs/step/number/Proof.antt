@@ -1,9 +1,9 @@
--- `machine::run::number` meets its contract: past the end there is 0. Assumes nothing.
+-- `machine::step::number` meets its contract: past the end there is 0. Assumes nothing.
 use mathlib.Core.Path.{sym}
 use lib.ListN.{List·getD-eq-default}
 use borrow.Author.Needs.{needs}
-use Rattle.machine.proofs.run.number.Statement.{statement}
-use Rattle.machine.proofs.run.number.Tie as tie
+use Rattle.machine.proofs.step.number.Statement.{statement}
+use Rattle.machine.proofs.step.number.Tie as tie
 
 mul-result : tie.Need-mul-result
 mul-result c = search needs

@@ -24,7 +24,6 @@ use Rattle.book.specs.Held.{GoesIn, goAt}
 use Rattle.items.specs.Arrays.{targetCode, GoTableIn}
 use Rattle.items.specs.SymbolCodes.{code-low, code-same}
 
--- an element within a list is a member of it
 -- the go lines of a book that keeps the limits and declares its names
 pub record GoLinesIn (b : Book) (goes : List ℕ) (count states : ℕ) : Type 0 where
   pub limits : WithinLimits b
@@ -43,7 +42,7 @@ pub record LineLow (goes : List ℕ) (i : ℕ) : Type 0 where
 -- the table once the lines from i on are in
 pub record Filled (goes : List ℕ) (count states i : ℕ) (table : List ℕ) : Type 0 where
   pub within : i ≤ count
-  pub long : length table ≡ 64 * MAX-STATES
+  pub long : 64 * states ≤ length table
   pub holds : (b : Book) → GoLinesIn b goes count states → (S : ℕ) (X : Symbol) → S < b .states → GoSymbol b X
       → getD table (64 * S + symbolCode X) 0 ≡ targetCode (goIn (drop i (b .goes)) S X)
 
@@ -67,13 +66,19 @@ module _ {b : Book} {goes : List ℕ} {count states : ℕ} (h : GoLinesIn b goes
         target-low = omega (arith, h .lines-in .target-is i inside, d .target-there, h .limits .states-limit .high);
       }
 
+  -- its state is one of the book's
+  pub line-state : (i : ℕ) → i < count → getD goes (3 * i) 0 < states
+  line-state i l =
+      let inside : i < length (b .goes) = omega (arith, h .count-is) in
+      omega (arith, h .lines-in .state-is i inside, declared-line i l .state-there, h .states-is)
+
 -- ---- the table's stages
 
 -- no line is in
-pub filled-none : (goes table : List ℕ) (count states : ℕ) → length table ≡ 64 * MAX-STATES → 64 * states ≤ length table
+pub filled-none : (goes table : List ℕ) (count states : ℕ) → 64 * states ≤ length table
     → Filled goes count states count (replicate (64 * states) 255 ++ drop (64 * states) table)
 unfolding goIn targetCode
-filled-none goes table count states l f = record {
+filled-none goes table count states f = record {
   within = omega arith;
   long = simp (length-append, length-replicate, length-drop) (omega arith);
   holds = λ b h S X s x. empty b h S X s (code-low X (go-symbol-low (h .limits) X x));
@@ -119,7 +124,7 @@ pub filled-more : {goes table : List ℕ} {count states i : ℕ} → Filled goes
     (set table (64 * getD goes (3 * (i - 1)) 0 + getD goes (3 * (i - 1) + 1) 0) (getD goes (3 * (i - 1) + 2) 0))
 filled-more {goes} {table} {count} {states} {i} f pos = record {
   within = omega (arith, f .within);
-  long = length-set table _ _ ∙ f .long;
+  long = simp length-set (f .long);
   holds = more;
 }
   where
@@ -133,6 +138,7 @@ filled-more {goes} {table} {count} {states} {i} f pos = record {
         let g : Go = goAt (b .goes) line in
         let inside : line < length (b .goes) = omega (arith, f .within, h .count-is) in
         let low : LineLow goes line = line-low h line (omega (arith, f .within)) in
+        let there = line-state h line (omega (arith, f .within)) in
         let next : suc line ≡ i = omega arith in
         let d : DeclaredGo b g = declared-line h line (omega (arith, f .within)) in
         let place-is : 64 * getD goes (3 * line) 0 + getD goes (3 * line + 1) 0 ≡ 64 * g .state + symbolCode (g .symbol) =
@@ -144,4 +150,4 @@ filled-more {goes} {table} {count} {states} {i} f pos = record {
 -- every line is in
 pub filled-all : {goes table : List ℕ} {count states i : ℕ} → Filled goes count states i table → i ≡ 0
     → (b : Book) → GoLinesIn b goes count states → GoTableIn b table
-filled-all {i = i} f z b h = record { long = f .long; go-is = λ S X s x. rw z at (f .holds b h S X s x) }
+filled-all {i = i} f z b h = record { long = omega (arith, f .long, h .states-is); go-is = λ S X s x. rw z at (f .holds b h S X s x) }

@@ -11,7 +11,6 @@ use Rattle.text.specs.Class.{space}
 use Rattle.text.specs.Rest.{Rest, rest, must, mark, size}
 use Rattle.text.specs.Numeral.{decimal, wordOf}
 use Rattle.text.specs.Reading.{Reads}
-use Rattle.grammar.specs.Limits.{MAX-DEFINITIONS}
 use Rattle.grammar.specs.Format.Reader.{Parsed, result, remaining, opening, closing, naming}
 use Rattle.grammar.specs.Format.ReaderLaws.{shrinking, opening-less}
 use Rattle.grammar.specs.Format.Expression.{expressionSteps}
@@ -61,14 +60,14 @@ worded {line = line} {d = d} {n = n} a e x z f =
     }
 
 -- a line read and kept: what it defines, the position after it, and the array
-pub record Keeps (p : Parsed Definition) (place : ℕ) (text out₀ : List ℕ) (d : Defined) (next : ℕ) (out : List ℕ) : Type 0 where
+pub record Keeps (p : Parsed Definition) (room place : ℕ) (text out₀ : List ℕ) (d : Defined) (next : ℕ) (out : List ℕ) : Type 0 where
   pub defined-is : d ≡ result p .defined
-  pub puts : Puts wordsOf MAX-DEFINITIONS place p text out₀ next out
+  pub puts : Puts wordsOf room place p text out₀ next out
 
-pub line-kept : {text line out₀ out : List ℕ} {d : Defined} {p₁ p₂ p₃ place : ℕ} (inherited fine : Bool) (last : List ℕ) (at : ℕ)
+pub line-kept : {text line out₀ out : List ℕ} {d : Defined} {p₁ p₂ p₃ room place : ℕ} (inherited fine : Bool) (last : List ℕ) (at : ℕ)
     → Gives (definedBy inherited (rest text at)) text d p₁
-    → Worded d (rest text p₁) text p₂ line → out ≡ putLine MAX-DEFINITIONS place line out₀ → fine ≡ isBefore last (ascending d)
-    → rest text p₃ ≡ must fine (rest text p₂) → Keeps (definition inherited last (rest text at)) place text out₀ d p₃ out
+    → Worded d (rest text p₁) text p₂ line → out ≡ putLine room place line out₀ → fine ≡ isBefore last (ascending d)
+    → rest text p₃ ≡ must fine (rest text p₂) → Keeps (definition inherited last (rest text at)) room place text out₀ d p₃ out
 unfolding definition wordsOf result remaining
 line-kept inherited fine last at g w e b r =
     record {
@@ -96,70 +95,70 @@ unfolding definitions
 definitions-size inherited o = size-section (opening (wordFor inherited)) (definition inherited) nextKey (definition-shrinks inherited) [] o
 
 -- line k at its place
-unfoldable pub keepFirst : ℕ → ℕ → Definition → List ℕ → List ℕ
-keepFirst first k d out = putLine MAX-DEFINITIONS (first + k) (wordsOf d) out
+unfoldable pub keepFirst : ℕ → ℕ → ℕ → Definition → List ℕ → List ℕ
+keepFirst room first k d out = putLine room (first + k) (wordsOf d) out
 
-kept-first : (first k : ℕ) (ds : List Definition) (out : List ℕ)
-    → keepFrom (keepFirst first) k ds out ≡ storeLines wordsOf MAX-DEFINITIONS (first + k) ds out
+kept-first : (room first k : ℕ) (ds : List Definition) (out : List ℕ)
+    → keepFrom (keepFirst room first) k ds out ≡ storeLines wordsOf room (first + k) ds out
 unfolding keepFrom keepFirst storeLines
-kept-first first k [] out = refl
-kept-first first k (d ∷ ds) out =
+kept-first room first k [] out = refl
+kept-first room first k (d ∷ ds) out =
     let e : suc (first + k) ≡ first + suc k = omega arith in
-    rw e (kept-first first (suc k) ds (putLine MAX-DEFINITIONS (first + k) (wordsOf d) out))
+    rw e (kept-first room first (suc k) ds (putLine room (first + k) (wordsOf d) out))
 
 -- a whole section: the position after it, the number of its lines, and the array that holds them
-pub record Defines (p : Parsed (List Definition)) (first : ℕ) (text out₀ : List ℕ) (count next : ℕ) (out : List ℕ) : Type 0 where
+pub record Defines (p : Parsed (List Definition)) (room first : ℕ) (text out₀ : List ℕ) (count next : ℕ) (out : List ℕ) : Type 0 where
   pub remaining-is : rest text next ≡ remaining p
   pub count-is : count ≡ length (result p)
   pub count-fits : count ≤ length text + 1
-  pub array-is : out ≡ storeLines wordsOf MAX-DEFINITIONS first (result p) out₀
+  pub array-is : out ≡ storeLines wordsOf room first (result p) out₀
 
 -- amid a section: the line before has the key `last`
-pub record Defining (inherited : Bool) (first : ℕ) (text : List ℕ) (start : Parsed (List Definition)) (out₀ last : List ℕ) (k at : ℕ) (out : List ℕ)
+pub record Defining (inherited : Bool) (room first : ℕ) (text : List ℕ) (start : Parsed (List Definition)) (out₀ last : List ℕ) (k at : ℕ) (out : List ℕ)
     : Type 0 where
   pub same-length : length out ≡ length out₀
-  pub reading : Reading (opening (wordFor inherited)) (definition inherited) nextKey (keepFirst first)
+  pub reading : Reading (opening (wordFor inherited)) (definition inherited) nextKey (keepFirst room first)
       text start out₀ (lastKey k last) k at out
 
-module _ (inherited : Bool) (first : ℕ) (text : List ℕ) where
-  pub defining-start : (last : List ℕ) (at : ℕ) (out : List ℕ) → Defining inherited first text (definitions inherited (rest text at)) out last 0 at out
+module _ (inherited : Bool) (room first : ℕ) (text : List ℕ) where
+  pub defining-start : (last : List ℕ) (at : ℕ) (out : List ℕ) → Defining inherited room first text (definitions inherited (rest text at)) out last 0 at out
   unfolding definitions lastKey
   defining-start last at out =
       record {
         same-length = refl;
-        reading = reading-start (opening (wordFor inherited)) (definition inherited) nextKey (keepFirst first) (definition-shrinks inherited) text [] at out;
+        reading = reading-start (opening (wordFor inherited)) (definition inherited) nextKey (keepFirst room first) (definition-shrinks inherited) text [] at out;
       }
 
-  module _ {start : Parsed (List Definition)} {out₀ out last : List ℕ} {k at a : ℕ} (r : Defining inherited first text start out₀ last k at out)
+  module _ {start : Parsed (List Definition)} {out₀ out last : List ℕ} {k at a : ℕ} (r : Defining inherited room first text start out₀ last k at out)
       (e : rest text a ≡ opening (wordFor inherited) (rest text at)) where
-    pub defining-done : length text < a → Defines start first text out₀ k at out
+    pub defining-done : length text < a → Defines start room first text out₀ k at out
     defining-done h =
-        let g = reading-done (opening (wordFor inherited)) (definition inherited) nextKey (keepFirst first) (definition-shrinks inherited) text
+        let g = reading-done (opening (wordFor inherited)) (definition inherited) nextKey (keepFirst room first) (definition-shrinks inherited) text
         (r .reading) e h in
         let z : first + 0 ≡ first = omega arith in
         record {
           remaining-is = g .remaining-is;
           count-is = g .count-is;
           count-fits = omega (arith, r .reading .counted);
-          array-is = g .kept-is ∙ (kept-first first 0 (result start) out₀ ∙ rw z);
+          array-is = g .kept-is ∙ (kept-first room first 0 (result start) out₀ ∙ rw z);
         }
 
     module _ {d : Defined} {at′ : ℕ} {out′ : List ℕ} (h : a ≤ length text)
-        (l : Keeps (definition inherited (lastKey k last) (rest text a)) (first + k) text out d at′ out′) where
+        (l : Keeps (definition inherited (lastKey k last) (rest text a)) room (first + k) text out d at′ out′) where
       pub defining-less : size (rest text at′) < size (rest text at)
       defining-less =
-          reading-less (opening (wordFor inherited)) (definition inherited) nextKey (keepFirst first) (definition-shrinks inherited) text
+          reading-less (opening (wordFor inherited)) (definition inherited) nextKey (keepFirst room first) (definition-shrinks inherited) text
           (r .reading) e h (l .puts .remaining-is)
 
-      pub defining-turn : Defining inherited first text start out₀ (ascending d) (k + 1) at′ out′
+      pub defining-turn : Defining inherited room first text start out₀ (ascending d) (k + 1) at′ out′
       unfolding keepFirst lastKey
       defining-turn =
           record {
             same-length =
                 ap length (l .puts .array-is)
-                ∙ (length-put MAX-DEFINITIONS (first + k) (wordsOf (result (definition inherited (lastKey k last) (rest text a)))) out ∙ r .same-length);
+                ∙ (length-put room (first + k) (wordsOf (result (definition inherited (lastKey k last) (rest text a)))) out ∙ r .same-length);
             reading =
-                reading-turn (opening (wordFor inherited)) (definition inherited) nextKey (keepFirst first) (definition-shrinks inherited) text
+                reading-turn (opening (wordFor inherited)) (definition inherited) nextKey (keepFirst room first) (definition-shrinks inherited) text
                 (r .reading) e h (l .puts .remaining-is) (rw (add-one k) (ap ascending (l .defined-is))) (l .puts .array-is);
           }
 

@@ -1,11 +1,11 @@
 -- An expression in code: its nodes as words of a definition's line, the operators that wait as numbers in an array, and how it begins in numbers.
 -- Assumes nothing.
-use Prim.Native.Nat.{ℕ, zero, suc, _+_, _*_}
+use Prim.Native.Nat.{ℕ, zero, suc, _+_, _*_, _≤_}
 use mathlib.Core.Path.{_≡_}
 use mathlib.Core.Bool.{Bool, true, false}
 use mathlib.Core.List.{List, [], _∷_}
 use lib.Dec.{ltb, eqb}
-use lib.ListN.{getD}
+use lib.ListN.{length, getD}
 use Rattle.text.specs.Rest.{Rest, rest}
 use Rattle.text.specs.Numeral.{wordOf}
 use Rattle.grammar.specs.Limits.{MAX-NODES}
@@ -15,12 +15,13 @@ use Rattle.grammar.specs.Data.Postfix.{Step, operate, select}
 use Rattle.grammar.specs.Format.Expression.{Waiting, waiting, Begun, opened, whole, either}
 use Rattle.book.specs.Layout.{writeAt, nodeWords}
 
--- the words of a definition, and the most operators that wait in a text: each has five bytes or more
+-- the words of a definition
 abbrev pub DEFINITION-WORDS : ℕ
 DEFINITION-WORDS = 49
 
-abbrev pub MAX-WAITING : ℕ
-MAX-WAITING = 13107
+-- room for the operators that wait in a text: each has five bytes or more
+abbrev pub WaitsRoom : List ℕ → List ℕ → Type 0
+WaitsRoom text waits = length text ≤ 5 * length waits + 3
 
 -- node k of a line, in three words after the first four, where there is room for it
 unfoldable pub putNode : ℕ → List ℕ → List ℕ → List ℕ

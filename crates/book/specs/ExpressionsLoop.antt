@@ -10,14 +10,13 @@ use lib.ListN.{length, set, getD, length-append}
 use Rattle.text.specs.Class.{close-bracket, space}
 use Rattle.text.specs.Rest.{Rest, left, rest, found, mark, size}
 use Rattle.text.specs.RestLaws.{rest-in, found-in, found-out, size-rest, less-mark}
-use Rattle.grammar.specs.Limits.{MAX-TEXT}
 use Rattle.grammar.specs.Data.Book.{Place}
 use Rattle.grammar.specs.Data.Postfix.{Step}
 use Rattle.grammar.specs.Format.Reader.{Parsed, result, remaining}
 use Rattle.grammar.specs.Format.Expression.{Waiting, waiting, Begun, opened, whole, begun, Scan, scan, scanMore, scanAll, outcome}
 use Rattle.grammar.specs.Format.ExpressionReads.{sizeBegun, begun-less, scan-stop, turn-opened, turn-whole, turn-space, turn-close}
 use Rattle.book.specs.Layout.{nodeWords}
-use Rattle.book.specs.Expressions.{MAX-WAITING, putNode, storeNodes, kindOf, waitingCode, Waits, none-waits, one-waits, Shown, shown, shownOf, Shows}
+use Rattle.book.specs.Expressions.{WaitsRoom, putNode, storeNodes, kindOf, waitingCode, Waits, none-waits, one-waits, Shown, shown, shownOf, Shows}
 use Rattle.book.specs.ExpressionsLaws.{store-more, three-words, kind-small, waits-push, Costs, costs-opened, costs-whole, begun-costs}
 
 -- what is answered of an expression: the number of its nodes, the position after it, and the line with its nodes
@@ -165,12 +164,15 @@ module _ {text line₀ codes line : List ℕ} {start : Scan} {depth at count : �
         open-less : size (rest text next) + 5 ≤ size (rest text at)
         open-less = opened-less (begun (rest text at)) (size (rest text at)) (rest text next) (begun-costs (rest text at)) (rw e at (b .shown-is))
 
-        pub open-fits : length text ≤ MAX-TEXT → depth < MAX-WAITING
+        pub open-low : depth < length text
+        open-low = omega (arith, open-less, w .deep)
+
+        pub open-fits : WaitsRoom text codes → depth < length codes
         open-fits l = omega (arith, open-less, w .deep)
 
-        pub working-open : MAX-WAITING ≤ length codes → length text ≤ MAX-TEXT → due ≡ true
+        pub working-open : WaitsRoom text codes → due ≡ true
             → Working text line₀ start (set codes depth c) (depth + 1) due next count line
-        working-open k l d =
+        working-open l d =
             record {
               counted = omega (arith, open-less, w .counted);
               deep = omega (arith, open-less, w .deep);
@@ -194,9 +196,9 @@ module _ {text line₀ codes line : List ℕ} {start : Scan} {depth at count : �
     mark-shorter class next f = omega (arith, ap size f, less-mark class (rest text at) (found-in text at h))
 
     module _ {c next : ℕ} (d : due ≡ false) (deeper : 0 < depth) (e : c ≡ getD codes (depth - 1) 0) where
-      pub working-space : MAX-WAITING ≤ length codes → length text ≤ MAX-TEXT → 16 ≤ c → rest text next ≡ mark space (rest text at)
+      pub working-space : WaitsRoom text codes → 16 ≤ c → rest text next ≡ mark space (rest text at)
           → Working text line₀ start (set codes (depth - 1) (c - 16)) depth true next count line
-      working-space k l large f =
+      working-space l large f =
           record {
             counted = omega (arith, mark-shorter space next f, w .counted);
             deep = omega (arith, mark-shorter space next f, w .deep);

@@ -8,7 +8,6 @@ use Rattle.text.specs.Class.{space}
 use Rattle.text.specs.Rest.{Rest, rest, must, mark, size}
 use Rattle.text.specs.Numeral.{decimal, value, past, wordOf}
 use Rattle.text.specs.Reading.{Reads}
-use Rattle.grammar.specs.Limits.{MAX-GOES}
 use Rattle.grammar.specs.Format.Ordered.{symbolKey, goKey}
 use Rattle.grammar.specs.Format.Reader.{result, remaining, opening, closing}
 use Rattle.grammar.specs.Format.ReaderLaws.{shrinking, opening-less}
@@ -53,9 +52,9 @@ goes-of t K p₂ state e₁ on e₂ target end = record { state-is = cc; symbol-
 
 -- The steps of a line: what it says, the key, the order, the store
 
-module _ {text out out′ key : List ℕ} {ascending : Bool} {k at S code M p₆ p₇ : ℕ} (last : List ℕ) (t : Bool) (K : ℕ) where
+module _ {text out out′ key : List ℕ} {ascending : Bool} {room k at S code M p₆ p₇ : ℕ} (last : List ℕ) (t : Bool) (K : ℕ) where
   pub go-steps : Goes text at S t K M p₆ → key ≡ S ∷ symbolKey (symbolOf t K) → ascending ≡ isBefore last key
-      → rest text p₇ ≡ must ascending (rest text p₆) → code ≡ symbolCode (symbolOf t K) → out′ ≡ putLine MAX-GOES k (S ∷ code ∷ M ∷ []) out
-      → PutsKeyed goKey goWords MAX-GOES k (goLine last (rest text at)) text out key p₇ out′
+      → rest text p₇ ≡ must ascending (rest text p₆) → code ≡ symbolCode (symbolOf t K) → out′ ≡ putLine room k (S ∷ code ∷ M ∷ []) out
+      → PutsKeyed goKey goWords room k (goLine last (rest text at)) text out key p₇ out′
   unfolding goLine goKey goWords result remaining
   go-steps says keyed before due coded stored = record { key-is = cc; puts = record { remaining-is = cc; array-is = cc } }

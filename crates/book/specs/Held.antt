@@ -118,7 +118,7 @@ pub record DefinitionIn (P J K : ℕ) (e : Expr) (definitions : List ℕ) (i : �
 
 -- the inherited attributes' definitions, and after them the synthesized ones'
 pub record DefinitionsIn (inherited : List InheritedDefinition) (synthesized : List SynthesizedDefinition) (definitions : List ℕ) : Type 0 where
-  pub long : length definitions ≡ 49 * MAX-DEFINITIONS
+  pub long : 49 * (length inherited + length synthesized) ≤ length definitions
   pub fits : length inherited + length synthesized ≤ MAX-DEFINITIONS
   pub inherited-is : (i : ℕ) → i < length inherited
       → let d : InheritedDefinition = inheritedAt inherited i in DefinitionIn (d .rule) (d .position) (d .attribute) (d .expression) definitions i
@@ -127,7 +127,7 @@ pub record DefinitionsIn (inherited : List InheritedDefinition) (synthesized : L
       DefinitionIn (d .rule) 0 (d .attribute) (d .expression) definitions (length inherited + i)
 
 pub record KernelsIn (ks : List Kernel) (kernels : List ℕ) : Type 0 where
-  pub long : length kernels ≡ 5 * MAX-KERNELS
+  pub long : 5 * length ks ≤ length kernels
   pub fits : length ks ≤ MAX-KERNELS
   pub state-is : (i : ℕ) → i < length ks → getD kernels (5 * i) 0 ≡ kernelAt ks i .state
   pub rule-is : (i : ℕ) → i < length ks → getD kernels (5 * i + 1) 0 ≡ kernelAt ks i .rule
@@ -136,7 +136,7 @@ pub record KernelsIn (ks : List Kernel) (kernels : List ℕ) : Type 0 where
   pub set-is : (i : ℕ) → i < length ks → getD kernels (5 * i + 4) 0 ≡ setOf (kernelAt ks i .lookaheads)
 
 pub record GoesIn (gs : List Go) (goes : List ℕ) : Type 0 where
-  pub long : length goes ≡ 3 * MAX-GOES
+  pub long : 3 * length gs ≤ length goes
   pub fits : length gs ≤ MAX-GOES
   pub state-is : (i : ℕ) → i < length gs → getD goes (3 * i) 0 ≡ goAt gs i .state
   pub symbol-is : (i : ℕ) → i < length gs → getD goes (3 * i + 1) 0 ≡ symbolCode (goAt gs i .symbol)

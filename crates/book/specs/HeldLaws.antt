@@ -1,7 +1,7 @@
 -- From lines that are stored one after another to what the arrays hold (`Held`).
 -- Assumes nothing.
 use Prim.Native.Nat.{ℕ, zero, suc, _+_, _*_, _-_, _≤_, _<_, min}
-use mathlib.Core.Path.{_≡_, refl, ap, _∙_}
+use mathlib.Core.Path.{_≡_, refl, sym, ap, _∙_}
 use mathlib.Core.Bool.{Bool, true, false}
 use mathlib.Core.List.{List, [], _∷_, map, List·Memᴰ as Mem, List·Memᴰ·head as in-head, List·Memᴰ·tail as in-tail}
 use native.Mathlib.Omega.{arith}
@@ -10,6 +10,7 @@ use lib.Dec.{ltb}
 use lib.ListN.{length, set, getD, take, length-set, length-take}
 use lib.Seq.{getD-set-same, getD-set-other, getD-take, take-all}
 use borrow.Author.Tests.{ltb-true, ltb-false}
+use Rattle.text.specs.Positional.{by-less}
 use Rattle.grammar.specs.Limits.{
   MAX-INHERITED,
   MAX-SYNTHESIZED,
@@ -58,6 +59,9 @@ use Rattle.book.specs.Held.{
   HasRoom,
   kept,
 }
+use Rattle.book.specs.declared.Room.{Room}
+use Rattle.book.specs.Counts.{countsOf}
+use Rattle.book.specs.Spelling.{Arrays, Roomy, storedIn, Complete}
 use Rattle.book.specs.LayoutLaws.{length-put, length-store, put-in, put-out, room-for}
 
 -- a word before the place is kept
@@ -175,14 +179,14 @@ rules-in G out h =
           ∙ (right-word (ruleAt (take MAX-RULES G) P) D n ∙ code-at (rightOf (take MAX-RULES G) P) D m);
     }
 
-pub kernels-in : (ks : List Kernel) (out : List ℕ) → length out ≡ 5 * MAX-KERNELS
-    → KernelsIn (take MAX-KERNELS ks) (storeLines kernelWords MAX-KERNELS 0 ks out)
+pub kernels-in : (room : ℕ) (ks : List Kernel) (out : List ℕ) → room ≤ MAX-KERNELS → length out ≡ 5 * room
+    → KernelsIn (take room ks) (storeLines kernelWords room 0 ks out)
 unfolding kernelWords
-kernels-in ks out h =
-    let word = store-line kernelWords 5 MAX-KERNELS (λ k. refl) noKernel ks out h in
+kernels-in room ks out most h =
+    let word = store-line kernelWords 5 room (λ k. refl) noKernel ks out h in
     record {
-      long = length-store kernelWords MAX-KERNELS 0 ks out ∙ h;
-      fits = few MAX-KERNELS ks;
+      long = omega (arith, few room ks, length-store kernelWords room 0 ks out, h);
+      fits = omega (arith, few room ks, most);
       state-is = λ i l. word i 0 (5 * i) l (omega arith) (omega arith);
       rule-is = λ i l. word i 1 (5 * i + 1) l (omega arith) (omega arith);
       dot-is = λ i l. word i 2 (5 * i + 2) l (omega arith) (omega arith);
@@ -190,13 +194,14 @@ kernels-in ks out h =
       set-is = λ i l. word i 4 (5 * i + 4) l (omega arith) (omega arith);
     }
 
-pub goes-in : (gs : List Go) (out : List ℕ) → length out ≡ 3 * MAX-GOES → GoesIn (take MAX-GOES gs) (storeLines goWords MAX-GOES 0 gs out)
+pub goes-in : (room : ℕ) (gs : List Go) (out : List ℕ) → room ≤ MAX-GOES → length out ≡ 3 * room
+    → GoesIn (take room gs) (storeLines goWords room 0 gs out)
 unfolding goWords
-goes-in gs out h =
-    let word = store-line goWords 3 MAX-GOES (λ g. refl) noGo gs out h in
+goes-in room gs out most h =
+    let word = store-line goWords 3 room (λ g. refl) noGo gs out h in
     record {
-      long = length-store goWords MAX-GOES 0 gs out ∙ h;
-      fits = few MAX-GOES gs;
+      long = omega (arith, few room gs, length-store goWords room 0 gs out, h);
+      fits = omega (arith, few room gs, most);
       state-is = λ i l. word i 0 (3 * i) l (omega arith) (omega arith);
       symbol-is = λ i l. word i 1 (3 * i + 1) l (omega arith) (omega arith);
       target-is = λ i l. word i 2 (3 * i + 2) l (omega arith) (omega arith);
@@ -264,69 +269,90 @@ definition-in {definitions} {i} {P} {J} {K} {e} f =
         rw q at (f (4 + (3 * n + j)) (49 * i + 4 + 3 * n + j) (omega arith) (omega arith))
 
 -- the synthesized attributes' definitions are stored after the inherited ones'
-module _ (inherited : List InheritedDefinition) (synthesized : List SynthesizedDefinition) (out : List ℕ) (h : length out ≡ 49 * MAX-DEFINITIONS) where
+module _ (room : ℕ) (most : room ≤ MAX-DEFINITIONS) (inherited : List InheritedDefinition) (synthesized : List SynthesizedDefinition) (out : List ℕ)
+    (h : length out ≡ 49 * room) where
   inheritedLines : List ℕ
-  inheritedLines = storeLines inheritedWords MAX-DEFINITIONS 0 inherited out
+  inheritedLines = storeLines inheritedWords room 0 inherited out
 
   definitionLines : List ℕ
-  definitionLines = storeLines synthesizedWords MAX-DEFINITIONS (length inherited) synthesized inheritedLines
+  definitionLines = storeLines synthesizedWords room (length inherited) synthesized inheritedLines
 
-  long : length inheritedLines ≡ 49 * MAX-DEFINITIONS
+  long : length inheritedLines ≡ 49 * room
   unfolding inheritedLines
-  long = length-store inheritedWords MAX-DEFINITIONS 0 inherited out ∙ h
+  long = length-store inheritedWords room 0 inherited out ∙ h
 
-  inherited-line : (i : ℕ) → i < length (take MAX-DEFINITIONS inherited)
-      → let d : InheritedDefinition = inheritedAt (take MAX-DEFINITIONS inherited) i in
+  inherited-line : (i : ℕ) → i < length (take room inherited)
+      → let d : InheritedDefinition = inheritedAt (take room inherited) i in
       DefinitionIn (d .rule) (d .position) (d .attribute) (d .expression) definitionLines i
   unfolding inheritedLines definitionLines
   inherited-line i l =
-      let within : i < min MAX-DEFINITIONS (length inherited) = rw (length-take MAX-DEFINITIONS inherited) at l in
+      let within : i < min room (length inherited) = rw (length-take room inherited) at l in
       definition-in λ j w m e.
-      store-before synthesizedWords 49 MAX-DEFINITIONS (λ d. length-definition _ _ _ _) (length inherited) synthesized inheritedLines w (omega arith)
-      ∙ store-line inheritedWords 49 MAX-DEFINITIONS (λ d. length-definition _ _ _ _) _ inherited out h i j w l m e
+      store-before synthesizedWords 49 room (λ d. length-definition _ _ _ _) (length inherited) synthesized inheritedLines w (omega arith)
+      ∙ store-line inheritedWords 49 room (λ d. length-definition _ _ _ _) _ inherited out h i j w l m e
 
-  synthesized-line : (i : ℕ) → i < length (take (MAX-DEFINITIONS - length inherited) synthesized)
-      → let d : SynthesizedDefinition = synthesizedAt (take (MAX-DEFINITIONS - length inherited) synthesized) i in
-      DefinitionIn (d .rule) 0 (d .attribute) (d .expression) definitionLines (length (take MAX-DEFINITIONS inherited) + i)
+  synthesized-line : (i : ℕ) → i < length (take (room - length inherited) synthesized)
+      → let d : SynthesizedDefinition = synthesizedAt (take (room - length inherited) synthesized) i in
+      DefinitionIn (d .rule) 0 (d .attribute) (d .expression) definitionLines (length (take room inherited) + i)
   unfolding definitionLines
   synthesized-line i l =
-      let within : i < min (MAX-DEFINITIONS - length inherited) (length synthesized) = rw (length-take (MAX-DEFINITIONS - length inherited) synthesized) at l in
-      let before : length (take MAX-DEFINITIONS inherited) ≡ length inherited = length-take MAX-DEFINITIONS inherited ∙ omega arith in
-      rw (getD-take (MAX-DEFINITIONS - length inherited) synthesized i _ (omega arith)) (definition-in λ j w m e.
+      let within : i < min (room - length inherited) (length synthesized) = rw (length-take (room - length inherited) synthesized) at l in
+      let before : length (take room inherited) ≡ length inherited = length-take room inherited ∙ omega arith in
+      rw (getD-take (room - length inherited) synthesized i _ (omega arith)) (definition-in λ j w m e.
       let q : w ≡ 49 * (length inherited + i) + j = omega arith in
-      rw q (store-at synthesizedWords 49 MAX-DEFINITIONS (λ d. length-definition _ _ _ _) _ (length inherited) synthesized inheritedLines i j
+      rw q (store-at synthesizedWords 49 room (λ d. length-definition _ _ _ _) _ (length inherited) synthesized inheritedLines i j
       (omega (arith, long))
       (omega arith) (omega arith) m))
 
-  pub definitions-in : DefinitionsIn (take MAX-DEFINITIONS inherited) (take (MAX-DEFINITIONS - length inherited) synthesized)
-      (storeLines synthesizedWords MAX-DEFINITIONS (length inherited) synthesized (storeLines inheritedWords MAX-DEFINITIONS 0 inherited out))
+  pub definitions-in : DefinitionsIn (take room inherited) (take (room - length inherited) synthesized)
+      (storeLines synthesizedWords room (length inherited) synthesized (storeLines inheritedWords room 0 inherited out))
   unfolding definitionLines inheritedLines
   definitions-in =
       record {
-        long = length-store synthesizedWords MAX-DEFINITIONS (length inherited) synthesized inheritedLines ∙ long;
-        fits = rw (length-take MAX-DEFINITIONS inherited, length-take (MAX-DEFINITIONS - length inherited) synthesized) (omega arith);
+        long = rw (length-take room inherited, length-take (room - length inherited) synthesized)
+            (omega (arith, length-store synthesizedWords room (length inherited) synthesized inheritedLines, long));
+        fits = rw (length-take room inherited, length-take (room - length inherited) synthesized) (omega (arith, most));
         inherited-is = inherited-line;
         synthesized-is = synthesized-line;
       }
 
+-- what has room is what is kept, where nothing was left out or there is room for all that a limit allows
+kept-same : {A : Type 0} (room limit : ℕ) (xs : List A) → room ≤ limit → (room < limit → length xs ≤ room) → take room xs ≡ take limit xs
+kept-same room limit xs most fit =
+    by-less room limit (λ less. take-all room xs (fit less) ∙ sym (take-all limit xs (omega (arith, fit less))))
+    (λ equal. let e : room ≡ limit = omega arith in rw e)
+
 -- what is kept of a book is held by arrays in which its lines are stored
-pub held : (b : Book) (inherited synthesized rules definitions kernels goes : List ℕ) → length inherited ≡ MAX-INHERITED → length synthesized ≡ MAX-SYNTHESIZED
-    → length rules ≡ 10 * MAX-RULES → length definitions ≡ 49 * MAX-DEFINITIONS → length kernels ≡ 5 * MAX-KERNELS → length goes ≡ 3 * MAX-GOES
-    → Held (kept b) (storeLines ownerWords MAX-INHERITED 0 (b .inheritedOwners) inherited)
-    (storeLines ownerWords MAX-SYNTHESIZED 0 (b .synthesizedOwners) synthesized) (storeLines ruleWords MAX-RULES 0 (b .rules) rules)
-    (storeLines synthesizedWords MAX-DEFINITIONS (length (b .inheritedDefinitions)) (b .synthesizedDefinitions)
-    (storeLines inheritedWords MAX-DEFINITIONS 0 (b .inheritedDefinitions) definitions))
-    (storeLines kernelWords MAX-KERNELS 0 (b .kernels) kernels) (storeLines goWords MAX-GOES 0 (b .goes) goes)
-unfolding kept
-held b inherited synthesized rules definitions kernels goes i s r d k g =
-    record {
-      inherited-in = owners-in MAX-INHERITED (b .inheritedOwners) inherited i;
-      synthesized-in = owners-in MAX-SYNTHESIZED (b .synthesizedOwners) synthesized s;
-      rules-in = rules-in (b .rules) rules r;
-      definitions-in = definitions-in (b .inheritedDefinitions) (b .synthesizedDefinitions) definitions d;
-      kernels-in = kernels-in (b .kernels) kernels k;
-      goes-in = goes-in (b .goes) goes g;
-    }
+module _ (room : Room) (b : Book) (complete : Complete room (countsOf b)) where
+  definitions-same : room .definitions ≤ MAX-DEFINITIONS
+      → (take (room .definitions) (b .inheritedDefinitions) ≡ take MAX-DEFINITIONS (b .inheritedDefinitions))
+      × (take (room .definitions - length (b .inheritedDefinitions)) (b .synthesizedDefinitions)
+      ≡ take (MAX-DEFINITIONS - length (b .inheritedDefinitions)) (b .synthesizedDefinitions))
+  unfolding countsOf
+  definitions-same most = (
+    kept-same (room .definitions) MAX-DEFINITIONS (b .inheritedDefinitions) most (λ less. omega (arith, complete .definitions-fit less)),
+    kept-same (room .definitions - length (b .inheritedDefinitions)) (MAX-DEFINITIONS - length (b .inheritedDefinitions)) (b .synthesizedDefinitions)
+        (omega arith) (λ less. omega (arith, complete .definitions-fit (omega arith))),
+  )
+
+  pub held : (a : Arrays) → Roomy room a
+      → let s : Arrays = storedIn room a b in Held (kept b) (s .inherited) (s .synthesized) (s .rules) (s .definitions) (s .kernels) (s .goes)
+  unfolding kept storedIn countsOf
+  held a r =
+      record {
+        inherited-in = owners-in MAX-INHERITED (b .inheritedOwners) (a .inherited) (r .inherited-long);
+        synthesized-in = owners-in MAX-SYNTHESIZED (b .synthesizedOwners) (a .synthesized) (r .synthesized-long);
+        rules-in = rules-in (b .rules) (a .rules) (r .rules-long);
+        definitions-in =
+            rw (definitions-same (r .definitions-few) .0, definitions-same (r .definitions-few) .1)
+            at (definitions-in (room .definitions) (r .definitions-few) (b .inheritedDefinitions) (b .synthesizedDefinitions) (a .definitions)
+            (r .definitions-long));
+        kernels-in =
+            rw (kept-same (room .kernels) MAX-KERNELS (b .kernels) (r .kernels-few) (complete .kernels-fit))
+            at (kernels-in (room .kernels) (b .kernels) (a .kernels) (r .kernels-few) (r .kernels-long));
+        goes-in =
+            rw (kept-same (room .goes) MAX-GOES (b .goes) (r .goes-few) (complete .goes-fit)) at (goes-in (room .goes) (b .goes) (a .goes) (r .goes-few) (r .goes-long));
+      }
 
 -- where there is room, all of a book is kept
 pub kept-all : (b : Book) → HasRoom b → kept b ≡ b

@@ -15,7 +15,6 @@ use Rattle.text.specs.Numeral.{decimal, value, past, wordOf}
 use Rattle.text.specs.Reading.{Reads}
 use Rattle.sets.specs.Sets.{bit, with}
 use Rattle.sets.specs.SetsLaws.{bit-with, with-lt, same-set}
-use Rattle.grammar.specs.Limits.{MAX-KERNELS}
 use Rattle.grammar.specs.Automaton.ClosureSets.{setOf}
 use Rattle.grammar.specs.Format.Ordered.{kernelKey, lookaheadKey}
 use Rattle.grammar.specs.Format.Reader.{Parsed, result, remaining, opening, closing, naming}
@@ -187,12 +186,12 @@ item-of state e₁ rule e₂ dot = record { state-is = cc; rule-is = cc; dot-is 
 
 -- The steps of a line: its item, the lookaheads, that there are some, the end, the order, the store
 
-module _ {text out out′ : List ℕ} {ascending : Bool} {k at S P D p₅ m a set p₆ p₉ : ℕ} (last : List ℕ) (p₇ p₈ : ℕ) where
+module _ {text out out′ : List ℕ} {ascending : Bool} {room k at S P D p₅ m a set p₆ p₉ : ℕ} (last : List ℕ) (p₇ p₈ : ℕ) where
   pub kernel-steps : Item text at S P D p₅ → Looks (lookaheads (rest text p₅)) text m a set p₆
       → rest text p₇ ≡ must (ltb 0 m) (rest text p₆) → rest text p₈ ≡ closing (rest text p₇)
       → ascending ≡ isBefore last (S ∷ P ∷ D ∷ []) → rest text p₉ ≡ must ascending (rest text p₈)
-      → out′ ≡ putLine MAX-KERNELS k (S ∷ P ∷ D ∷ a ∷ set ∷ []) out
-      → PutsKeyed kernelKey kernelWords MAX-KERNELS k (kernelLine last (rest text at)) text out (S ∷ P ∷ D ∷ []) p₉ out′
+      → out′ ≡ putLine room k (S ∷ P ∷ D ∷ a ∷ set ∷ []) out
+      → PutsKeyed kernelKey kernelWords room k (kernelLine last (rest text at)) text out (S ∷ P ∷ D ∷ []) p₉ out′
   unfolding kernelLine kernelKey kernelWords result remaining
   kernel-steps item terminals some end before due stored =
       record { key-is = cc; puts = record { remaining-is = cc; array-is = cc } }

@@ -4,9 +4,12 @@ pub mod DefinitionsHeld
 pub mod DefinitionsLaws
 pub mod DefinitionsLine
 pub mod DefinitionsLoop
+pub mod DefinitionsShort
+pub mod Ended
 pub mod Expressions
 pub mod ExpressionsLaws
 pub mod ExpressionsLoop
+pub mod ExpressionsShort
 pub mod GoLines
 pub mod Header
 pub mod Held
@@ -19,6 +22,7 @@ pub mod Lines
 pub mod Lookahead
 pub mod Order
 pub mod Parts
+pub mod Rooms
 pub mod Sections
 pub mod Short
 pub mod Spelling

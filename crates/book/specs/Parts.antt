@@ -26,8 +26,8 @@ pub record Declares (text inherited₀ synthesized₀ rules₀ : List ℕ) (numb
   pub rules-read : Fills ruleWords MAX-RULES (ruleLines (rest text rules-at)) text rules₀ r next rules
 
 -- the definitions of inherited attributes, and after them those of synthesized ones: i and s lines, in one array
-pub record DefinesBoth (text out₀ : List ℕ) (at i s next : ℕ) (out : List ℕ) : Type 0 where
+pub record DefinesBoth (text : List ℕ) (room : ℕ) (out₀ : List ℕ) (at i s next : ℕ) (out : List ℕ) : Type 0 where
   pub synthesized-at : ℕ
   pub out₁ : List ℕ
-  pub inherited-read : Defines (definitions true (rest text at)) 0 text out₀ i synthesized-at out₁
-  pub synthesized-read : Defines (definitions false (rest text synthesized-at)) i text out₁ s next out
+  pub inherited-read : Defines (definitions true (rest text at)) room 0 text out₀ i synthesized-at out₁
+  pub synthesized-read : Defines (definitions false (rest text synthesized-at)) room i text out₁ s next out

@@ -33,13 +33,13 @@ pub brief-none : (text : List ℕ) (at number : ℕ) → Brief text at number 0
 brief-none text at number = record { near = omega arith; written = λ h. absurd (omega arith); reads = λ h. absurd (omega arith) }
 
 -- the digits, one after another
-one-written : (b : ℕ) (r : List ℕ) → classOf b ≡ digit → write decimal (b - 48) r ≡ b ∷ r
+pub one-written : (b : ℕ) (r : List ℕ) → classOf b ≡ digit → write decimal (b - 48) r ≡ b ∷ r
 one-written b r c =
     let (low, high) = digit-range b c in
     let e : 48 + (b - 48) ≡ b = omega arith in
     write-small decimal decimal-positional (b - 48) r (omega arith) ∙ ap (λ (k : ℕ). k ∷ r) e
 
-more-written : (a n d : ℕ) (r : List ℕ) → 0 < a → classOf d ≡ digit → n ≡ a * 10 + (d - 48) → write decimal n r ≡ write decimal a (d ∷ r)
+pub more-written : (a n d : ℕ) (r : List ℕ) → 0 < a → classOf d ≡ digit → n ≡ a * 10 + (d - 48) → write decimal n r ≡ write decimal a (d ∷ r)
 more-written a n d r h c e =
     let (low, high) = digit-range d c in
     let same : 48 + (d - 48) ≡ d = omega arith in

@@ -1,15 +1,16 @@
 -- What is answered of a whole text (01, "Spelling of a book"): whether it is a book's, and then the book's numbers and its lines in arrays.
 -- Assumes nothing.
-use Prim.Native.Nat.{ℕ, _*_}
+use Prim.Native.Nat.{ℕ, _+_, _*_, _<_, _≤_}
 use mathlib.Core.Path.{_≡_}
 use mathlib.Core.Bool.{Bool, true, false}
 use mathlib.Core.List.{List}
 use mathlib.Core.Option.{none, some}
 use lib.ListN.{length}
-use Rattle.grammar.specs.Limits.{MAX-INHERITED, MAX-SYNTHESIZED, MAX-RULES, MAX-DEFINITIONS, MAX-KERNELS, MAX-GOES}
+use Rattle.grammar.specs.Limits.{MAX-INHERITED, MAX-SYNTHESIZED, MAX-RULES, MAX-DEFINITIONS, MAX-KERNELS, MAX-GOES, MAX-STATES}
 use Rattle.grammar.specs.Data.Book.{Book as Lines}
 use Rattle.grammar.specs.Format.Parse.{parseBook}
 use Rattle.book.specs.declared.Book.{Book}
+use Rattle.book.specs.declared.Room.{Room}
 use Rattle.book.specs.Layout.{storeLines, ownerWords, ruleWords, kernelWords, goWords}
 use Rattle.book.specs.Held.{inheritedWords, synthesizedWords}
 use Rattle.book.specs.Counts.{countsOf}
@@ -27,25 +28,28 @@ abbrev pub arrays : (inherited synthesized rules definitions kernels goes : List
 arrays inherited synthesized rules definitions kernels goes =
     record { inherited = inherited; synthesized = synthesized; rules = rules; definitions = definitions; kernels = kernels; goes = goes }
 
--- each has as many places as a taken book can have lines
-pub record Roomy (a : Arrays) : Type 0 where
+-- each has places for as many lines as a taken book can have, or as the room says
+pub record Roomy (room : Room) (a : Arrays) : Type 0 where
   pub inherited-long : length (a .inherited) ≡ MAX-INHERITED
   pub synthesized-long : length (a .synthesized) ≡ MAX-SYNTHESIZED
   pub rules-long : length (a .rules) ≡ 10 * MAX-RULES
-  pub definitions-long : length (a .definitions) ≡ 49 * MAX-DEFINITIONS
-  pub kernels-long : length (a .kernels) ≡ 5 * MAX-KERNELS
-  pub goes-long : length (a .goes) ≡ 3 * MAX-GOES
+  pub definitions-long : length (a .definitions) ≡ 49 * room .definitions
+  pub kernels-long : length (a .kernels) ≡ 5 * room .kernels
+  pub goes-long : length (a .goes) ≡ 3 * room .goes
+  pub definitions-few : room .definitions ≤ MAX-DEFINITIONS
+  pub kernels-few : room .kernels ≤ MAX-KERNELS
+  pub goes-few : room .goes ≤ MAX-GOES
 
 -- a book's lines stored in arrays; the synthesized attributes' definitions stand after the inherited ones'
-unfoldable pub storedIn : Arrays → Lines → Arrays
-storedIn a b = record {
+unfoldable pub storedIn : Room → Arrays → Lines → Arrays
+storedIn room a b = record {
   inherited = storeLines ownerWords MAX-INHERITED 0 (b .inheritedOwners) (a .inherited);
   synthesized = storeLines ownerWords MAX-SYNTHESIZED 0 (b .synthesizedOwners) (a .synthesized);
   rules = storeLines ruleWords MAX-RULES 0 (b .rules) (a .rules);
-  definitions = storeLines synthesizedWords MAX-DEFINITIONS (length (b .inheritedDefinitions)) (b .synthesizedDefinitions)
-      (storeLines inheritedWords MAX-DEFINITIONS 0 (b .inheritedDefinitions) (a .definitions));
-  kernels = storeLines kernelWords MAX-KERNELS 0 (b .kernels) (a .kernels);
-  goes = storeLines goWords MAX-GOES 0 (b .goes) (a .goes);
+  definitions = storeLines synthesizedWords (room .definitions) (length (b .inheritedDefinitions)) (b .synthesizedDefinitions)
+      (storeLines inheritedWords (room .definitions) 0 (b .inheritedDefinitions) (a .definitions));
+  kernels = storeLines kernelWords (room .kernels) 0 (b .kernels) (a .kernels);
+  goes = storeLines goWords (room .goes) 0 (b .goes) (a .goes);
 }
 
 -- condition 2
@@ -53,10 +57,17 @@ unfoldable pub isBook : List ℕ → Bool
 isBook text = elim (parseBook text) [ none ↦ false | some b ↦ true ]
 
 -- the answer, and the arrays before and after
-pub record Spelling (text : List ℕ) (before : Arrays) (spelled : Bool) (numbers : Book) (stored : Arrays) : Type 0 where
+pub record Spelling (room : Room) (text : List ℕ) (before : Arrays) (spelled : Bool) (numbers : Book) (stored : Arrays) : Type 0 where
   pub spelled-is : spelled ≡ isBook text
   pub numbers-are : (b : Lines) → parseBook text ≡ some b → numbers ≡ countsOf b
-  pub lines-are : (b : Lines) → parseBook text ≡ some b → stored ≡ storedIn before b
+  pub lines-are : (b : Lines) → parseBook text ≡ some b → stored ≡ storedIn room before b
+
+-- where there is less room than a limit allows, nothing was left out
+pub record Complete (room : Room) (numbers : Book) : Type 0 where
+  pub definitions-fit : room .definitions < MAX-DEFINITIONS → numbers .«inherited_definitions» + numbers .«synthesized_definitions» ≤ room .definitions
+  pub kernels-fit : room .kernels < MAX-KERNELS → numbers .kernels ≤ room .kernels
+  pub goes-fit : room .goes < MAX-GOES → numbers .goes ≤ room .goes
+  pub states-fit : room .states < MAX-STATES → numbers .states ≤ room .states
 
 -- opens every definition of this module
 unfoldable pub opens : Unit {0}

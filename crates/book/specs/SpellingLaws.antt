@@ -14,12 +14,13 @@ use borrow.Author.Tests.{eqb-true, eqb-false, ltb-true, ltb-false}
 use Rattle.text.specs.Rest.{Rest, lost, left, rest, size}
 use Rattle.text.specs.RestLaws.{rest-in, rest-at, rest-out}
 use Rattle.text.specs.Numeral.{wordOf}
-use Rattle.grammar.specs.Limits.{MAX-INHERITED, MAX-SYNTHESIZED, MAX-RULES, MAX-DEFINITIONS, MAX-KERNELS, MAX-GOES}
+use Rattle.grammar.specs.Limits.{MAX-INHERITED, MAX-SYNTHESIZED, MAX-RULES}
 use Rattle.grammar.specs.Data.Book.{Book as Lines}
 use Rattle.grammar.specs.Format.Reader.{parsed, result, remaining}
 use Rattle.grammar.specs.Format.ReaderLaws.{shrinking}
 use Rattle.grammar.specs.Format.Parse.{ownerLines, ruleLines, kernelLines, goLines, endLine, bookText, ended, parseBook}
 use Rattle.book.specs.declared.Book.{Book}
+use Rattle.book.specs.declared.Room.{Room}
 use Rattle.book.specs.Layout.{storeLines, ownerWords, ruleWords, kernelWords, goWords}
 use Rattle.book.specs.Sections.{Gives, Fills}
 use Rattle.book.specs.Header.{Numbers, header, book-is}
@@ -95,15 +96,15 @@ numbersWith numbers i s r d e k g = record {
 }
 
 module _ {text inherited₀ inherited synthesized₀ synthesized rules₀ rules definitions₀ definitions₁ definitions₂ kernels₀ kernels goes₀ goes : List ℕ}
-    {numbers : Numbers} {i s r d e k g p₁ p₂ p₃ p₄ p₅ p₆ p₇ p₈ : ℕ} (p₉ : ℕ)
+    {numbers : Numbers} {i s r d e k g p₁ p₂ p₃ p₄ p₅ p₆ p₇ p₈ : ℕ} (room : Room) (p₉ : ℕ)
     (head-read : Gives (header (rest text 0)) text numbers p₁)
     (inherited-read : Fills ownerWords MAX-INHERITED (ownerLines (wordOf "inh") (wordOf "i") (rest text p₁)) text inherited₀ i p₂ inherited)
     (synthesized-read : Fills ownerWords MAX-SYNTHESIZED (ownerLines (wordOf "syn") (wordOf "s") (rest text p₂)) text synthesized₀ s p₃ synthesized)
     (rules-read : Fills ruleWords MAX-RULES (ruleLines (rest text p₃)) text rules₀ r p₄ rules)
-    (inherited-defined : Defines (definitions true (rest text p₄)) 0 text definitions₀ d p₅ definitions₁)
-    (synthesized-defined : Defines (definitions false (rest text p₅)) d text definitions₁ e p₆ definitions₂)
-    (kernels-read : Fills kernelWords MAX-KERNELS (kernelLines (rest text p₆)) text kernels₀ k p₇ kernels)
-    (goes-read : Fills goWords MAX-GOES (goLines (rest text p₇)) text goes₀ g p₈ goes)
+    (inherited-defined : Defines (definitions true (rest text p₄)) (room .definitions) 0 text definitions₀ d p₅ definitions₁)
+    (synthesized-defined : Defines (definitions false (rest text p₅)) (room .definitions) d text definitions₁ e p₆ definitions₂)
+    (kernels-read : Fills kernelWords (room .kernels) (kernelLines (rest text p₆)) text kernels₀ k p₇ kernels)
+    (goes-read : Fills goWords (room .goes) (goLines (rest text p₇)) text goes₀ g p₈ goes)
     (end-read : rest text p₉ ≡ endLine (rest text p₈)) where
   abbrev read : Lines
   read = whole text numbers p₁ p₂ p₃ p₄ p₅ p₆ p₇
@@ -154,8 +155,8 @@ module _ {text inherited₀ inherited synthesized₀ synthesized rules₀ rules 
   -- the definitions' array, where the text is not lost
   definitions-are : 0 < size (rest text p₉)
       → definitions₂
-      ≡ storeLines synthesizedWords MAX-DEFINITIONS (length (read .inheritedDefinitions)) (read .synthesizedDefinitions)
-      (storeLines inheritedWords MAX-DEFINITIONS 0 (read .inheritedDefinitions) definitions₀)
+      ≡ storeLines synthesizedWords (room .definitions) (length (read .inheritedDefinitions)) (read .synthesizedDefinitions)
+      (storeLines inheritedWords (room .definitions) 0 (read .inheritedDefinitions) definitions₀)
   unfolding whole
   definitions-are h =
       let sixth : 0 < size (rest text p₆) =
@@ -170,15 +171,15 @@ module _ {text inherited₀ inherited synthesized₀ synthesized rules₀ rules 
       ) in
       let fifth : 0 < size (rest text p₅) = omega (arith, ap size (synthesized-defined .remaining-is), definitions-size false (rest text p₅)) in
       some-left (rest text p₆) sixth λ cs e₆. some-left (rest text p₅) fifth λ bs e₅.
-      let first : definitions₁ ≡ storeLines inheritedWords MAX-DEFINITIONS 0 (map inheritedOf (result (definitions true (rest text p₄)))) definitions₀ =
-      inherited-defined .array-is ∙ inherited-stored (rest text p₄) MAX-DEFINITIONS 0 definitions₀ (sym (inherited-defined .remaining-is) ∙ e₅) in
+      let first : definitions₁ ≡ storeLines inheritedWords (room .definitions) 0 (map inheritedOf (result (definitions true (rest text p₄)))) definitions₀ =
+      inherited-defined .array-is ∙ inherited-stored (rest text p₄) (room .definitions) 0 definitions₀ (sym (inherited-defined .remaining-is) ∙ e₅) in
       let count : d ≡ length (map inheritedOf (result (definitions true (rest text p₄)))) =
       inherited-defined .count-is ∙ sym (length-map (result (definitions true (rest text p₄))) inheritedOf) in
       synthesized-defined .array-is
-      ∙ (synthesized-stored (rest text p₅) MAX-DEFINITIONS d definitions₁ (sym (synthesized-defined .remaining-is) ∙ e₆) ∙ rw (first, count))
+      ∙ (synthesized-stored (rest text p₅) (room .definitions) d definitions₁ (sym (synthesized-defined .remaining-is) ∙ e₆) ∙ rw (first, count))
 
   arrays-are : 0 < size (rest text p₉)
-      → arrays inherited synthesized rules definitions₂ kernels goes ≡ storedIn (arrays inherited₀ synthesized₀ rules₀ definitions₀ kernels₀ goes₀) read
+      → arrays inherited synthesized rules definitions₂ kernels goes ≡ storedIn room (arrays inherited₀ synthesized₀ rules₀ definitions₀ kernels₀ goes₀) read
   unfolding storedIn whole
   arrays-are h =
       rw (inherited-read .array-is, synthesized-read .array-is, rules-read .array-is, definitions-are h, kernels-read .array-is, goes-read .array-is)
@@ -187,22 +188,22 @@ module _ {text inherited₀ inherited synthesized₀ synthesized rules₀ rules 
   read-got : {C : Type 0} (b : Lines) → parseBook text ≡ some b → (read ≡ b → 0 < size (rest text p₉) → C) → C
   read-got b e f = ended-got read (rest text p₉) (sym parse-is ∙ e) f
 
-  by-sections : Spelling text (arrays inherited₀ synthesized₀ rules₀ definitions₀ kernels₀ goes₀) (eqb p₉ (length text)) (numbersWith numbers i s r d e k g)
+  by-sections : Spelling room text (arrays inherited₀ synthesized₀ rules₀ definitions₀ kernels₀ goes₀) (eqb p₉ (length text)) (numbersWith numbers i s r d e k g)
       (arrays inherited synthesized rules definitions₂ kernels goes)
   by-sections =
       record {
         spelled-is = spelled-as (eqb p₉ (length text)) refl;
         numbers-are = λ b e. read-got b e λ same some. counts-are ∙ ap countsOf same;
-        lines-are = λ b e. read-got b e λ same some. arrays-are some ∙ ap (storedIn (arrays inherited₀ synthesized₀ rules₀ definitions₀ kernels₀ goes₀)) same;
+        lines-are = λ b e. read-got b e λ same some. arrays-are some ∙ ap (storedIn room (arrays inherited₀ synthesized₀ rules₀ definitions₀ kernels₀ goes₀)) same;
       }
 
 -- the parts of a book, one after another
 pub spelling-steps : {text inherited₀ inherited synthesized₀ synthesized rules₀ rules definitions₀ definitions₂ kernels₀ kernels goes₀ goes : List ℕ}
-    {numbers : Numbers} {i s r d e k g p₄ p₆ p₇ p₈ : ℕ} (p₉ : ℕ) → Declares text inherited₀ synthesized₀ rules₀ numbers i s r p₄ inherited synthesized rules
-    → DefinesBoth text definitions₀ p₄ d e p₆ definitions₂ → Fills kernelWords MAX-KERNELS (kernelLines (rest text p₆)) text kernels₀ k p₇ kernels
-    → Fills goWords MAX-GOES (goLines (rest text p₇)) text goes₀ g p₈ goes → rest text p₉ ≡ endLine (rest text p₈)
-    → Spelling text (arrays inherited₀ synthesized₀ rules₀ definitions₀ kernels₀ goes₀) (eqb p₉ (length text)) (numbersWith numbers i s r d e k g)
+    {numbers : Numbers} {i s r d e k g p₄ p₆ p₇ p₈ : ℕ} (room : Room) (p₉ : ℕ) → Declares text inherited₀ synthesized₀ rules₀ numbers i s r p₄ inherited synthesized rules
+    → DefinesBoth text (room .definitions) definitions₀ p₄ d e p₆ definitions₂ → Fills kernelWords (room .kernels) (kernelLines (rest text p₆)) text kernels₀ k p₇ kernels
+    → Fills goWords (room .goes) (goLines (rest text p₇)) text goes₀ g p₈ goes → rest text p₉ ≡ endLine (rest text p₈)
+    → Spelling room text (arrays inherited₀ synthesized₀ rules₀ definitions₀ kernels₀ goes₀) (eqb p₉ (length text)) (numbersWith numbers i s r d e k g)
     (arrays inherited synthesized rules definitions₂ kernels goes)
-spelling-steps p₉ declared defined items moves end =
-    by-sections p₉ (declared .head-read) (declared .inherited-read) (declared .synthesized-read) (declared .rules-read) (defined .inherited-read)
+spelling-steps room p₉ declared defined items moves end =
+    by-sections room p₉ (declared .head-read) (declared .inherited-read) (declared .synthesized-read) (declared .rules-read) (defined .inherited-read)
     (defined .synthesized-read) items moves end

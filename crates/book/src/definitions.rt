@@ -5,16 +5,16 @@ ghost use Prim.Native.Nat.{_+_, _*_, _≤_};
 ghost use lib.ListN.{length, replicate};
 ghost use Rattle.text.specs.Rest.{rest};
 ghost use Rattle.text.specs.Reading.{Lent};
-ghost use Rattle.grammar.specs.Limits.{MAX-DEFINITIONS};
 ghost use Rattle.lines.specs.Heads.{Head};
 ghost use Rattle.book.specs.Sections.{Gives};
 ghost use Rattle.book.specs.Order.{keyOf, lastKey};
-ghost use Rattle.book.specs.Expressions.{DEFINITION-WORDS, MAX-WAITING};
+ghost use Rattle.book.specs.Expressions.{DEFINITION-WORDS, WaitsRoom};
 ghost use Rattle.book.specs.Definitions.{definedBy, definition, wordFor, definitions};
 ghost use Rattle.book.specs.DefinitionsLoop.{definedOf, Worded, Keeps, Defines};
 ghost use Rattle.book.specs.Parts.{DefinesBoth};
 use super::Book;
 use super::Section;
+use super::ended::ended;
 use super::expression::expression;
 use super::order::Key;
 use super::order::Keyed;
@@ -31,8 +31,8 @@ use lines::line_head;
 // The words of a definition: rule, position, attribute, number of nodes, and 3 words for each of the nodes that a definition may have.
 pub const WORDS: usize = 4 + 3 * (Book::MAX_NODES as usize);
 
-// What a line defines, `P J iK` or `P sK`: the key is rule, position (0 of a synthesized attribute) and attribute.
-fn names(t: &[u8; 256], text: &[u8], at: usize, inherited: bool) -> Keyed
+// What a line defines, `P J iK` or `P sK`, by its parts: the key is rule, position (0 of a synthesized attribute) and attribute.
+fn any_names(t: &[u8; 256], text: &[u8], at: usize, inherited: bool) -> Keyed
     requires { ⌜ Lent (now t) (now text) ⌝ }
     ensures { λ r. ⌜ Gives (definedBy inherited (rest (now (text .entry)) at)) (now (text .entry)) (definedOf (r .key)) (r .at) ⌝ }
 {
@@ -63,6 +63,83 @@ fn names(t: &[u8; 256], text: &[u8], at: usize, inherited: bool) -> Keyed
     }
 }
 
+// `P J iK ` with short numbers, by its bytes.
+fn inherited_names(t: &[u8; 256], text: &[u8], at: usize) -> Keyed
+    requires { ⌜ Lent (now t) (now text) × (at + 10 ≤ length (now text)) ⌝ }
+    ensures { λ r. ⌜ Gives (definedBy true (rest (now (text .entry)) at)) (now (text .entry)) (definedOf (r .key)) (r .at) ⌝ }
+{
+    let rule = ended(t, text, at, b' ');
+    let a = rule.at;
+    if a == 0 {
+        return any_names(t, text, at, true);
+    }
+    let position = ended(t, text, a, b' ');
+    let b = position.at;
+    if b == 0 {
+        return any_names(t, text, at, true);
+    }
+    if text[b] != b'i' {
+        return any_names(t, text, at, true);
+    }
+    let attribute = ended(t, text, b + 1, b' ');
+    if attribute.at == 0 {
+        return any_names(t, text, at, true);
+    }
+    Keyed {
+        key: Key {
+            first: rule.value,
+            second: position.value,
+            third: attribute.value,
+        },
+        at: attribute.at - 1,
+    }
+}
+
+// `P sK ` likewise.
+fn synthesized_names(t: &[u8; 256], text: &[u8], at: usize) -> Keyed
+    requires { ⌜ Lent (now t) (now text) × (at + 10 ≤ length (now text)) ⌝ }
+    ensures { λ r. ⌜ Gives (definedBy false (rest (now (text .entry)) at)) (now (text .entry)) (definedOf (r .key)) (r .at) ⌝ }
+{
+    let rule = ended(t, text, at, b' ');
+    let a = rule.at;
+    if a == 0 {
+        return any_names(t, text, at, false);
+    }
+    if text[a] != b's' {
+        return any_names(t, text, at, false);
+    }
+    let attribute = ended(t, text, a + 1, b' ');
+    if attribute.at == 0 {
+        return any_names(t, text, at, false);
+    }
+    Keyed {
+        key: Key {
+            first: rule.value,
+            second: 0,
+            third: attribute.value,
+        },
+        at: attribute.at - 1,
+    }
+}
+
+// What a line defines.
+fn names(t: &[u8; 256], text: &[u8], at: usize, inherited: bool) -> Keyed
+    requires { ⌜ Lent (now t) (now text) ⌝ }
+    ensures { λ r. ⌜ Gives (definedBy inherited (rest (now (text .entry)) at)) (now (text .entry)) (definedOf (r .key)) (r .at) ⌝ }
+{
+    let n = text.len();
+    if n < 10 {
+        return any_names(t, text, at, inherited);
+    }
+    if n - 10 < at {
+        return any_names(t, text, at, inherited);
+    }
+    if inherited {
+        return inherited_names(t, text, at);
+    }
+    synthesized_names(t, text, at)
+}
+
 // ` e)`: the words of the line, into zeros.
 fn words(
     t: &[u8; 256],
@@ -72,7 +149,7 @@ fn words(
     waits: &mut [u8],
     line: &mut [u32],
 ) -> usize
-    requires { ⌜ Lent (now t) (now text) × (MAX-WAITING ≤ length (now waits)) × (now line ≡ replicate DEFINITION-WORDS 0) ⌝ }
+    requires { ⌜ Lent (now t) (now text) × WaitsRoom (now text) (now waits) × (now line ≡ replicate DEFINITION-WORDS 0) ⌝ }
     ensures { λ r. ⌜ Worded (definedOf key) (rest (now (text .entry)) at) (now (text .entry)) r (now (line .exit)) ⌝ }
 {
     let a = text::mark(t, text, at, text::SPACE);
@@ -94,18 +171,19 @@ fn definition_line(
     last: Key,
     first: u32,
     waits: &mut [u8],
+    room: usize,
     out: &mut [u32],
 ) -> Keyed
     requires { ⌜ Lent (now t) (now text) × (k ≤ 65537) × (first ≤ 65537)
-        × (MAX-WAITING ≤ length (now waits)) × (MAX-DEFINITIONS * DEFINITION-WORDS ≤ length (now out)) ⌝ }
-    ensures { λ r. ⌜ Keeps (definition inherited (lastKey k (keyOf last)) (rest (now (text .entry)) at)) (first + k)
+        × WaitsRoom (now text) (now waits) × (room * DEFINITION-WORDS ≤ length (now out)) ⌝ }
+    ensures { λ r. ⌜ Keeps (definition inherited (lastKey k (keyOf last)) (rest (now (text .entry)) at)) room (first + k)
         (now (text .entry)) (now (out .entry)) (definedOf (r .key)) (r .at) (now (out .exit)) ⌝ }
 {
     let named = names(t, text, at, inherited);
     let key = named.key;
     let mut line = [0u32; WORDS];
     let a = words(t, text, named.at, key, waits, &mut line);
-    put_line(out, Book::MAX_DEFINITIONS as usize, first + k, &line);
+    put_line(out, room, first + k, &line);
     Keyed {
         key,
         at: text::require(text, a, ascends(k, last, key)),
@@ -122,11 +200,12 @@ fn definition_lines(
     head: &[u8],
     first: u32,
     waits: &mut [u8],
+    room: usize,
     out: &mut [u32],
 ) -> Section
     requires { ⌜ Lent (now t) (now text) × (word ≡ wordFor inherited) × Head word (now head) × (first ≤ 65537)
-        × (MAX-WAITING ≤ length (now waits)) × (MAX-DEFINITIONS * DEFINITION-WORDS ≤ length (now out)) ⌝ }
-    ensures { λ r. ⌜ Defines (definitions inherited (rest (now (text .entry)) at)) first
+        × WaitsRoom (now text) (now waits) × (room * DEFINITION-WORDS ≤ length (now out)) ⌝ }
+    ensures { λ r. ⌜ Defines (definitions inherited (rest (now (text .entry)) at)) room first
         (now (text .entry)) (now (out .entry)) (r .count) (r .at) (now (out .exit)) ⌝ }
 {
     let n = text.len();
@@ -138,7 +217,7 @@ fn definition_lines(
         if n < a {
             return Section { count: k, at: p };
         }
-        let line = definition_line(t, text, a, inherited, k, last, first, waits, out);
+        let line = definition_line(t, text, a, inherited, k, last, first, waits, room, out);
         last = line.key;
         p = line.at;
         k += 1;
@@ -150,13 +229,14 @@ fn inherited_definitions(
     text: &[u8],
     at: usize,
     waits: &mut [u8],
+    room: usize,
     out: &mut [u32],
 ) -> Section
-    requires { ⌜ Lent (now t) (now text) × (MAX-WAITING ≤ length (now waits)) × (MAX-DEFINITIONS * DEFINITION-WORDS ≤ length (now out)) ⌝ }
-    ensures { λ r. ⌜ Defines (definitions true (rest (now (text .entry)) at)) 0
+    requires { ⌜ Lent (now t) (now text) × WaitsRoom (now text) (now waits) × (room * DEFINITION-WORDS ≤ length (now out)) ⌝ }
+    ensures { λ r. ⌜ Defines (definitions true (rest (now (text .entry)) at)) room 0
         (now (text .entry)) (now (out .entry)) (r .count) (r .at) (now (out .exit)) ⌝ }
 {
-    definition_lines(t, text, at, true, INHDEF, b"(inhdef ", 0, waits, out)
+    definition_lines(t, text, at, true, INHDEF, b"(inhdef ", 0, waits, room, out)
 }
 
 fn synthesized_definitions(
@@ -165,14 +245,26 @@ fn synthesized_definitions(
     at: usize,
     first: u32,
     waits: &mut [u8],
+    room: usize,
     out: &mut [u32],
 ) -> Section
     requires { ⌜ Lent (now t) (now text) × (first ≤ 65537)
-        × (MAX-WAITING ≤ length (now waits)) × (MAX-DEFINITIONS * DEFINITION-WORDS ≤ length (now out)) ⌝ }
-    ensures { λ r. ⌜ Defines (definitions false (rest (now (text .entry)) at)) first
+        × WaitsRoom (now text) (now waits) × (room * DEFINITION-WORDS ≤ length (now out)) ⌝ }
+    ensures { λ r. ⌜ Defines (definitions false (rest (now (text .entry)) at)) room first
         (now (text .entry)) (now (out .entry)) (r .count) (r .at) (now (out .exit)) ⌝ }
 {
-    definition_lines(t, text, at, false, SYNDEF, b"(syndef ", first, waits, out)
+    definition_lines(
+        t,
+        text,
+        at,
+        false,
+        SYNDEF,
+        b"(syndef ",
+        first,
+        waits,
+        room,
+        out,
+    )
 }
 
 // How many definitions of each kind there are, and where the text goes on.
@@ -188,13 +280,22 @@ pub fn definition_sections(
     text: &[u8],
     at: usize,
     waits: &mut [u8],
+    room: usize,
     out: &mut [u32],
 ) -> DefinitionsRead
-    requires { ⌜ Lent (now t) (now text) × (MAX-WAITING ≤ length (now waits)) × (MAX-DEFINITIONS * DEFINITION-WORDS ≤ length (now out)) ⌝ }
-    ensures { λ r. ⌜ DefinesBoth (now (text .entry)) (now (out .entry)) at (r .inherited) (r .synthesized) (r .at) (now (out .exit)) ⌝ }
+    requires { ⌜ Lent (now t) (now text) × WaitsRoom (now text) (now waits) × (room * DEFINITION-WORDS ≤ length (now out)) ⌝ }
+    ensures { λ r. ⌜ DefinesBoth (now (text .entry)) room (now (out .entry)) at (r .inherited) (r .synthesized) (r .at) (now (out .exit)) ⌝ }
 {
-    let inherited = inherited_definitions(t, text, at, waits, out);
-    let synthesized = synthesized_definitions(t, text, inherited.at, inherited.count, waits, out);
+    let inherited = inherited_definitions(t, text, at, waits, room, out);
+    let synthesized = synthesized_definitions(
+        t,
+        text,
+        inherited.at,
+        inherited.count,
+        waits,
+        room,
+        out,
+    );
     DefinitionsRead {
         inherited: inherited.count,
         synthesized: synthesized.count,

@@ -1,17 +1,20 @@
 // Expressions of any depth, read into nodes in postfix order: an operator's node is written when its bracket is closed.
 ghost use mathlib.Core.Path.{_≡_};
 ghost use mathlib.Core.List.{[], _∷_};
-ghost use Prim.Native.Nat.{_≤_};
+ghost use Prim.Native.Nat.{_+_, _≤_};
 ghost use lib.ListN.{length};
 ghost use Rattle.text.specs.Rest.{rest};
 ghost use Rattle.text.specs.Reading.{Lent};
 ghost use Rattle.grammar.specs.Format.Expression.{begun, bracket, ownPlace, atPlace, valPlace, wholeOf, expressionSteps};
-ghost use Rattle.book.specs.Expressions.{DEFINITION-WORDS, MAX-WAITING, putNode, operatorCode, Shows};
+ghost use Rattle.book.specs.Expressions.{DEFINITION-WORDS, WaitsRoom, putNode, operatorCode, Shows};
 ghost use Rattle.book.specs.ExpressionsLoop.{Expresses};
+ghost use Rattle.book.specs.ExpressionsShort.{OTHER, Short, Begins, Headed, headCode};
 use super::Book;
+use super::ended::ended;
 use super::spelling::I;
 use super::spelling::S;
 use super::spelling::naming;
+use lines::four;
 use text::Cursor;
 
 // The words of operators and places, as numbers in base 32.
@@ -31,8 +34,25 @@ const AT: u32 = 1 * 32 + 20;
 
 const VAL: u32 = (22 * 32 + 1) * 32 + 12;
 
-// The most operators that can wait: each has five bytes or more.
-pub const MAX_WAITING: usize = Book::MAX_TEXT / 5;
+// The first four bytes of each bracket, as one number.
+const ADD_HEAD: u32 = 40 + 256 * (97 + 256 * (100 + 256 * 100));
+
+const SUB_HEAD: u32 = 40 + 256 * (115 + 256 * (117 + 256 * 98));
+
+const MIN_HEAD: u32 = 40 + 256 * (109 + 256 * (105 + 256 * 110));
+
+const MAX_HEAD: u32 = 40 + 256 * (109 + 256 * (97 + 256 * 120));
+
+const PICK_HEAD: u32 = 40 + 256 * (112 + 256 * (105 + 256 * 99));
+
+const OWN_HEAD: u32 = 40 + 256 * (111 + 256 * (119 + 256 * 110));
+
+const AT_HEAD: u32 = 40 + 256 * (97 + 256 * (116 + 256 * 32));
+
+const VAL_HEAD: u32 = 40 + 256 * (118 + 256 * (97 + 256 * 108));
+
+// The code of a beginning that the short ways leave to the reading by parts.
+const OTHER: u8 = 255;
 
 // How an expression begins: with an operator's bracket, which stays open, or as one whole node of a kind and two numbers.
 struct Beginning {
@@ -159,8 +179,8 @@ fn bracket(t: &[u8; 256], text: &[u8], at: usize, word: u32) -> Beginning
     }
 }
 
-// How the expression at a position begins.
-fn begun(t: &[u8; 256], text: &[u8], at: usize) -> Beginning
+// How the expression at a position begins, by its parts.
+fn any_begun(t: &[u8; 256], text: &[u8], at: usize) -> Beginning
     requires { ⌜ Lent (now t) (now text) ⌝ }
     ensures { λ r. ⌜ Shows (begun (rest (now (text .entry)) at)) (now (text .entry)) (r .opens) (r .code) (r .x) (r .y) (r .at) ⌝ }
 {
@@ -180,6 +200,169 @@ fn begun(t: &[u8; 256], text: &[u8], at: usize) -> Beginning
     }
 }
 
+// No short way.
+fn other() -> Beginning
+    ensures { λ r. ⌜ r .code ≡ OTHER ⌝ }
+{
+    Beginning {
+        opens: false,
+        code: OTHER,
+        x: 0,
+        y: 0,
+        at: 0,
+    }
+}
+
+// `(own iK)`, where its word stands.
+fn short_own(t: &[u8; 256], text: &[u8], at: usize) -> Beginning
+    requires { ⌜ Lent (now t) (now text) × Begins (now text) at (40 ∷ 111 ∷ 119 ∷ 110 ∷ 32 ∷ []) ⌝ }
+    ensures { λ r. ⌜ Short (now (text .entry)) at (r .opens) (r .code) (r .x) (r .y) (r .at) ⌝ }
+{
+    if text[at + 5] != b'i' {
+        return other();
+    }
+    let k = ended(t, text, at + 6, b')');
+    if k.at == 0 {
+        return other();
+    }
+    Beginning {
+        opens: false,
+        code: 1,
+        x: k.value,
+        y: 0,
+        at: k.at,
+    }
+}
+
+// `(at J sK)`, where its word stands.
+fn short_at(t: &[u8; 256], text: &[u8], at: usize) -> Beginning
+    requires { ⌜ Lent (now t) (now text) × Begins (now text) at (40 ∷ 97 ∷ 116 ∷ 32 ∷ []) ⌝ }
+    ensures { λ r. ⌜ Short (now (text .entry)) at (r .opens) (r .code) (r .x) (r .y) (r .at) ⌝ }
+{
+    let j = ended(t, text, at + 4, b' ');
+    if j.at == 0 {
+        return other();
+    }
+    let a = j.at;
+    if text[a] != b's' {
+        return other();
+    }
+    let k = ended(t, text, a + 1, b')');
+    if k.at == 0 {
+        return other();
+    }
+    Beginning {
+        opens: false,
+        code: 2,
+        x: j.value,
+        y: k.value,
+        at: k.at,
+    }
+}
+
+// `(val J)`, where its word stands.
+fn short_val(t: &[u8; 256], text: &[u8], at: usize) -> Beginning
+    requires { ⌜ Lent (now t) (now text) × Begins (now text) at (40 ∷ 118 ∷ 97 ∷ 108 ∷ 32 ∷ []) ⌝ }
+    ensures { λ r. ⌜ Short (now (text .entry)) at (r .opens) (r .code) (r .x) (r .y) (r .at) ⌝ }
+{
+    let j = ended(t, text, at + 5, b')');
+    if j.at == 0 {
+        return other();
+    }
+    Beginning {
+        opens: false,
+        code: 3,
+        x: j.value,
+        y: 0,
+        at: j.at,
+    }
+}
+
+// The number of the operator whose bracket begins with these four bytes and a space, `OTHER` where there is none.
+fn short_operator(head: u32) -> u8
+    ensures { λ r. ⌜ r ≡ headCode head ⌝ }
+{
+    if head == ADD_HEAD {
+        return 20;
+    }
+    if head == SUB_HEAD {
+        return 21;
+    }
+    if head == MIN_HEAD {
+        return 22;
+    }
+    if head == MAX_HEAD {
+        return 23;
+    }
+    OTHER
+}
+
+// `(pick `, where its first four bytes are the given number.
+fn short_pick(text: &[u8], at: usize, head: u32) -> Beginning
+    requires { ⌜ (at + 11 ≤ length (now text)) × Headed (now text) at head ⌝ }
+    ensures { λ r. ⌜ Short (now (text .entry)) at (r .opens) (r .code) (r .x) (r .y) (r .at) ⌝ }
+{
+    if (head == PICK_HEAD) & (text[at + 4] == b'k') & (text[at + 5] == b' ') {
+        return Beginning {
+            opens: true,
+            code: 40,
+            x: 0,
+            y: 0,
+            at: at + 6,
+        };
+    }
+    other()
+}
+
+// How the expression at a position begins, by the bytes of a bracket's word, which are compared at once, and of short numbers.
+fn short(t: &[u8; 256], text: &[u8], at: usize) -> Beginning
+    requires { ⌜ Lent (now t) (now text) × (at ≤ length (now text)) ⌝ }
+    ensures { λ r. ⌜ Short (now (text .entry)) at (r .opens) (r .code) (r .x) (r .y) (r .at) ⌝ }
+{
+    if text.len() < at + 11 {
+        return other();
+    }
+    let head = four(text[at], text[at + 1], text[at + 2], text[at + 3]);
+    if head == AT_HEAD {
+        return short_at(t, text, at);
+    }
+    if text[at + 4] != b' ' {
+        return short_pick(text, at, head);
+    }
+    if head == OWN_HEAD {
+        return short_own(t, text, at);
+    }
+    if head == VAL_HEAD {
+        return short_val(t, text, at);
+    }
+    Beginning {
+        opens: true,
+        code: short_operator(head),
+        x: 0,
+        y: 0,
+        at: at + 5,
+    }
+}
+
+// How the expression at a position begins. The answer by parts is taken apart, which keeps that of the short ways out of memory.
+fn begun(t: &[u8; 256], text: &[u8], at: usize) -> Beginning
+    requires { ⌜ Lent (now t) (now text) × (at ≤ length (now text)) ⌝ }
+    ensures { λ r. ⌜ Shows (begun (rest (now (text .entry)) at)) (now (text .entry)) (r .opens) (r .code) (r .x) (r .y) (r .at) ⌝ }
+{
+    let a = short(t, text, at);
+    if a.code != OTHER {
+        return a;
+    }
+    let b = any_begun(t, text, at);
+    Beginning {
+        opens: b.opens,
+        code: b.code,
+        x: b.x,
+        y: b.y,
+        at: b.at,
+    }
+}
+
 // Reads an expression: its first nodes to the line, and the number of them all. `waits` is room for the operators that wait, whatever it holds.
 pub fn expression(
     t: &[u8; 256],
@@ -188,7 +371,7 @@ pub fn expression(
     waits: &mut [u8],
     line: &mut [u32],
 ) -> Cursor
-    requires { ⌜ Lent (now t) (now text) × (MAX-WAITING ≤ length (now waits)) × (length (now line) ≡ DEFINITION-WORDS) ⌝ }
+    requires { ⌜ Lent (now t) (now text) × WaitsRoom (now text) (now waits) × (length (now line) ≡ DEFINITION-WORDS) ⌝ }
     ensures { λ r. ⌜ Expresses (expressionSteps (rest (now (text .entry)) at)) (now (text .entry)) (now (line .entry)) (r .value) (r .at) (now (line .exit)) ⌝ }
 {
     let mut depth: usize = 0;

@@ -5,14 +5,12 @@ ghost use Prim.Native.Nat.{_*_, _≤_, _<_};
 ghost use lib.ListN.{length};
 ghost use Rattle.text.specs.Rest.{rest};
 ghost use Rattle.text.specs.Reading.{Lent};
-ghost use Rattle.grammar.specs.Limits.{MAX-GOES};
 ghost use Rattle.grammar.specs.Format.Ordered.{symbolKey, goKey};
 ghost use Rattle.grammar.specs.Format.Parse.{symbolOf, goLine, goLines};
 ghost use Rattle.book.specs.Layout.{goWords};
 ghost use Rattle.book.specs.Order.{keyOf, lastKey};
 ghost use Rattle.book.specs.Sections.{Fills, PutsKeyed};
 ghost use Rattle.book.specs.GoLines.{GO-WORDS, Goes};
-use super::Book;
 use super::Section;
 use super::order::Key;
 use super::order::Keyed;
@@ -145,22 +143,31 @@ fn go(t: &[u8; 256], text: &[u8], at: usize) -> GoRead
 }
 
 // Line k, after its head: it goes to its place, and its key must stand after the last key.
-fn go_line(t: &[u8; 256], text: &[u8], at: usize, k: u32, last: Key, out: &mut [u32]) -> Keyed
-    requires { ⌜ Lent (now t) (now text) × (MAX-GOES * GO-WORDS ≤ length (now out)) ⌝ }
-    ensures { λ r. ⌜ PutsKeyed goKey goWords MAX-GOES k (goLine (lastKey k (keyOf last)) (rest (now (text .entry)) at))
+fn go_line(
+    t: &[u8; 256],
+    text: &[u8],
+    at: usize,
+    k: u32,
+    last: Key,
+    room: usize,
+    out: &mut [u32],
+) -> Keyed
+    requires { ⌜ Lent (now t) (now text) × (room * GO-WORDS ≤ length (now out)) ⌝ }
+    ensures { λ r. ⌜ PutsKeyed goKey goWords room k (goLine (lastKey k (keyOf last)) (rest (now (text .entry)) at))
         (now (text .entry)) (now (out .entry)) (keyOf (r .key)) (r .at) (now (out .exit)) ⌝ }
 {
     let read = go(t, text, at);
     let key = key_of(read.state, read.terminal, read.number);
     let d = text::require(text, read.at, ascends(k, last, key));
     let line = [read.state, code_of(read.terminal, read.number), read.target];
-    put_line(out, Book::MAX_GOES as usize, k, &line);
+    put_line(out, room, k, &line);
     Keyed { key, at: d }
 }
 
-pub fn go_lines(t: &[u8; 256], text: &[u8], at: usize, out: &mut [u32]) -> Section
-    requires { ⌜ Lent (now t) (now text) × (MAX-GOES * GO-WORDS ≤ length (now out)) ⌝ }
-    ensures { λ r. ⌜ Fills goWords MAX-GOES (goLines (rest (now (text .entry)) at))
+// The lines, as far as there is room for them.
+pub fn go_lines(t: &[u8; 256], text: &[u8], at: usize, room: usize, out: &mut [u32]) -> Section
+    requires { ⌜ Lent (now t) (now text) × (room * GO-WORDS ≤ length (now out)) ⌝ }
+    ensures { λ r. ⌜ Fills goWords room (goLines (rest (now (text .entry)) at))
         (now (text .entry)) (now (out .entry)) (r .count) (r .at) (now (out .exit)) ⌝ }
 {
     let n = text.len();
@@ -173,7 +180,7 @@ pub fn go_lines(t: &[u8; 256], text: &[u8], at: usize, out: &mut [u32]) -> Secti
         if n < a {
             return Section { count: k, at: p };
         }
-        let line = go_line(t, text, a, k, last, out);
+        let line = go_line(t, text, a, k, last, room, out);
         last = line.key;
         p = line.at;
         k += 1;

@@ -4,7 +4,6 @@ ghost use Prim.Native.Nat.{_*_, _≤_, _<_};
 ghost use lib.ListN.{length};
 ghost use Rattle.text.specs.Rest.{rest};
 ghost use Rattle.text.specs.Reading.{Lent};
-ghost use Rattle.grammar.specs.Limits.{MAX-KERNELS};
 ghost use Rattle.grammar.specs.Format.Ordered.{kernelKey};
 ghost use Rattle.grammar.specs.Format.Parse.{kernelLine, kernelLines};
 ghost use Rattle.book.specs.Layout.{kernelWords};
@@ -12,7 +11,6 @@ ghost use Rattle.book.specs.Order.{keyOf, lastKey};
 ghost use Rattle.book.specs.Sections.{Fills, PutsKeyed};
 ghost use Rattle.book.specs.KernelLines.{KERNEL-WORDS, Item};
 ghost use Rattle.book.specs.KnownLookaheads.{KnownIn};
-use super::Book;
 use super::Section;
 use super::known::Known;
 use super::known::known_after;
@@ -128,10 +126,11 @@ fn kernel_line(
     k: u32,
     last: Key,
     known: Known,
+    room: usize,
     out: &mut [u32],
 ) -> KernelRead
-    requires { ⌜ Lent (now t) (now text) × (MAX-KERNELS * KERNEL-WORDS ≤ length (now out)) × KnownIn (now text) known ⌝ }
-    ensures { λ r. ⌜ PutsKeyed kernelKey kernelWords MAX-KERNELS k (kernelLine (lastKey k (keyOf last)) (rest (now (text .entry)) at))
+    requires { ⌜ Lent (now t) (now text) × (room * KERNEL-WORDS ≤ length (now out)) × KnownIn (now text) known ⌝ }
+    ensures { λ r. ⌜ PutsKeyed kernelKey kernelWords room k (kernelLine (lastKey k (keyOf last)) (rest (now (text .entry)) at))
         (now (text .entry)) (now (out .entry)) (keyOf (r .key)) (r .at) (now (out .exit)) × KnownIn (now (text .entry)) (r .known) ⌝ }
 {
     let read = item(t, text, at);
@@ -151,7 +150,7 @@ fn kernel_line(
         terminals.last,
         terminals.set,
     ];
-    put_line(out, Book::MAX_KERNELS as usize, k, &line);
+    put_line(out, room, k, &line);
     KernelRead {
         key,
         known: known_after(text, read.at, terminals, e, known),
@@ -159,9 +158,10 @@ fn kernel_line(
     }
 }
 
-pub fn kernel_lines(t: &[u8; 256], text: &[u8], at: usize, out: &mut [u32]) -> Section
-    requires { ⌜ Lent (now t) (now text) × (MAX-KERNELS * KERNEL-WORDS ≤ length (now out)) ⌝ }
-    ensures { λ r. ⌜ Fills kernelWords MAX-KERNELS (kernelLines (rest (now (text .entry)) at))
+// The lines, as far as there is room for them.
+pub fn kernel_lines(t: &[u8; 256], text: &[u8], at: usize, room: usize, out: &mut [u32]) -> Section
+    requires { ⌜ Lent (now t) (now text) × (room * KERNEL-WORDS ≤ length (now out)) ⌝ }
+    ensures { λ r. ⌜ Fills kernelWords room (kernelLines (rest (now (text .entry)) at))
         (now (text .entry)) (now (out .entry)) (r .count) (r .at) (now (out .exit)) ⌝ }
 {
     let n = text.len();
@@ -175,7 +175,7 @@ pub fn kernel_lines(t: &[u8; 256], text: &[u8], at: usize, out: &mut [u32]) -> S
         if n < a {
             return Section { count: k, at: p };
         }
-        let line = kernel_line(t, text, a, k, last, known, out);
+        let line = kernel_line(t, text, a, k, last, known, room, out);
         last = line.key;
         known = line.known;
         p = line.at;

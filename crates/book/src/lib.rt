@@ -1,5 +1,6 @@
 // Reading a book's text into arrays: condition 2, and what the arrays then hold.
 pub mod definitions;
+pub mod ended;
 pub mod expression;
 pub mod goes;
 pub mod header;
@@ -10,6 +11,7 @@ pub mod lookaheads;
 pub mod order;
 pub mod owners;
 pub mod reading;
+pub mod rooms;
 pub mod rules;
 pub mod short;
 pub mod spelling;
@@ -18,11 +20,35 @@ pub mod symbol;
 
 ghost use mathlib.Core.Path.{_≡_};
 ghost use Rattle.book.specs.Counts.{nothing};
+ghost use Rattle.book.specs.Rooms.{fullRoom};
 
 // The lines of one kind: how many there are, and where the text goes on.
 pub struct Section {
     pub count: u32,
     pub at: usize,
+}
+
+// How many lines of the kinds that may be many arrays have room for, and how many states tables have. Arrays are cleared when they are made, so a short book
+// is read into short ones.
+pub struct Room {
+    pub definitions: usize,
+    pub kernels: usize,
+    pub goes: usize,
+    pub states: usize,
+}
+
+impl Room {
+    // For all that the limits allow.
+    pub fn full() -> Self
+        ensures { λ r. ⌜ r ≡ fullRoom ⌝ }
+    {
+        Room {
+            definitions: Book::MAX_DEFINITIONS as usize,
+            kernels: Book::MAX_KERNELS as usize,
+            goes: Book::MAX_GOES as usize,
+            states: Book::MAX_STATES as usize,
+        }
+    }
 }
 
 // The numbers of a book: what its first line says, and how many lines of each kind it has.

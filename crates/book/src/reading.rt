@@ -4,10 +4,11 @@ ghost use lib.ListN.{length};
 ghost use Rattle.text.specs.Reading.{Lent};
 ghost use Rattle.grammar.specs.Limits.{MAX-INHERITED, MAX-SYNTHESIZED, MAX-RULES};
 ghost use Rattle.book.specs.Lines.{RULE-WORDS};
-ghost use Rattle.book.specs.Expressions.{MAX-WAITING};
+ghost use Rattle.book.specs.Expressions.{WaitsRoom};
 ghost use Rattle.book.specs.Parts.{Declares};
 ghost use Rattle.book.specs.Spelling.{arrays, Roomy, Spelling};
 use super::Book;
+use super::Room;
 use super::definitions::definition_sections;
 use super::goes::go_lines;
 use super::header::header;
@@ -69,6 +70,7 @@ pub fn spelling(
     t: &[u8; 256],
     text: &[u8],
     waits: &mut [u8],
+    room: Room,
     inherited: &mut [u32],
     synthesized: &mut [u32],
     rules: &mut [u32],
@@ -76,17 +78,17 @@ pub fn spelling(
     kernels: &mut [u32],
     goes: &mut [u32],
 ) -> BookRead
-    requires { ⌜ Lent (now t) (now text) × (MAX-WAITING ≤ length (now waits))
-        × Roomy (arrays (now inherited) (now synthesized) (now rules) (now definitions) (now kernels) (now goes)) ⌝ }
-    ensures { λ r. ⌜ Spelling (now (text .entry))
+    requires { ⌜ Lent (now t) (now text) × WaitsRoom (now text) (now waits)
+        × Roomy room (arrays (now inherited) (now synthesized) (now rules) (now definitions) (now kernels) (now goes)) ⌝ }
+    ensures { λ r. ⌜ Spelling room (now (text .entry))
         (arrays (now (inherited .entry)) (now (synthesized .entry)) (now (rules .entry)) (now (definitions .entry)) (now (kernels .entry)) (now (goes .entry)))
         (r .spelled) (r .book)
         (arrays (now (inherited .exit)) (now (synthesized .exit)) (now (rules .exit)) (now (definitions .exit)) (now (kernels .exit)) (now (goes .exit))) ⌝ }
 {
     let declared = declarations(t, text, inherited, synthesized, rules);
-    let defined = definition_sections(t, text, declared.at, waits, definitions);
-    let items = kernel_lines(t, text, defined.at, kernels);
-    let moves = go_lines(t, text, items.at, goes);
+    let defined = definition_sections(t, text, declared.at, waits, room.definitions, definitions);
+    let items = kernel_lines(t, text, defined.at, room.kernels, kernels);
+    let moves = go_lines(t, text, items.at, room.goes, goes);
     let end = end_line(t, text, moves.at);
     BookRead {
         spelled: end == text.len(),

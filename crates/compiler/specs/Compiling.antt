@@ -2,7 +2,7 @@
 -- Assumes nothing.
 use Prim.Native.Nat.{ℕ, zero, suc}
 use mathlib.Core.Path.{_≡_, refl, sym, ap, _∙_}
-use mathlib.Core.Bool.{Bool, true, false}
+use mathlib.Core.Bool.{Bool, true, false, not, _&&_, false≢true}
 use mathlib.Core.List.{List}
 use mathlib.Core.Option.{Option, none, some}
 use native.Mathlib.Omega.{arith}
@@ -10,11 +10,13 @@ use lib.ListN.{length}
 use Rattle.grammar.specs.Data.Book.{Book as Lines}
 use Rattle.grammar.specs.Format.Parse.{parseBook}
 use Rattle.grammar.specs.Format.ParseLaws.{print-parse}
+use Rattle.grammar.specs.Conditions.Decides.{Decides, refutes}
 use Rattle.grammar.specs.Conditions.Tests.{withinLimits, declared, owned, defined}
 use Rattle.grammar.specs.Automaton.Compiled.{statesRefusal}
 use Rattle.grammar.specs.Refusal.{bookRefusal, refusal}
 use Rattle.book.specs.declared.Book.{Book}
-use Rattle.book.specs.Spelling.{Arrays, Roomy, Spelling}
+use Rattle.book.specs.declared.Room.{Room}
+use Rattle.book.specs.Spelling.{Arrays, Roomy, Spelling, Complete}
 use Rattle.conditions.specs.AskedLaws.{counted}
 use Rattle.conditions.specs.SpellingHeld.{spelled-got, misspelt-none, arrays-held}
 use Rattle.attributes.specs.OneFormula.{FormulasHeld, formulasRight}
@@ -37,11 +39,13 @@ pub record Checked (r : ℕ) (numbers : Book) (inherited synthesized rules defin
   pub told : r ≡ bookRefusal b
   pub ready : r ≡ 0 → BookReady numbers inherited synthesized rules definitions kernels goes vanishes begins reached starts closures table actions b
 
--- the same of a text
-pub record Compiles (text : List ℕ) (r : ℕ) (numbers : Book) (inherited synthesized rules definitions kernels goes : List ℕ)
+-- the same of a text, where nothing of it was left out for want of room; where there is room for all, nothing is
+pub record Compiles (room : Room) (text : List ℕ) (complete : Bool) (r : ℕ) (numbers : Book) (inherited synthesized rules definitions kernels goes : List ℕ)
     (vanishes begins reached starts closures table actions : List ℕ) : Type 0 where
-  pub told : r ≡ refusal text
-  pub ready : r ≡ 0 → (b : Lines) → parseBook text ≡ some b
+  pub left-out : complete ≡ false → Complete room numbers → ⊥
+  pub fits : complete ≡ true → r ≡ 0 → Complete room numbers
+  pub told : complete ≡ true → r ≡ refusal text
+  pub ready : complete ≡ true → r ≡ 0 → (b : Lines) → parseBook text ≡ some b
       → BookReady numbers inherited synthesized rules definitions kernels goes vanishes begins reached starts closures table actions b
 
 -- ---- the refusal of a book
@@ -147,31 +151,58 @@ taken-got {C} text z k = go (parseBook text) refl
 
 -- ---- what was read
 
-module _ {text : List ℕ} {before stored : Arrays} {spelled : Bool} {numbers : Book} (s : Spelling text before spelled numbers stored) where
-  pub compiles-misspelt : {vanishes begins reached starts closures table actions : List ℕ} → spelled ≡ false
-      → Compiles text 2 numbers (stored .inherited) (stored .synthesized) (stored .rules) (stored .definitions) (stored .kernels) (stored .goes)
+module _ {text : List ℕ} {before stored : Arrays} {spelled : Bool} {numbers : Book} (room : Room)
+    (s : Spelling room text before spelled numbers stored) where
+  compiles-misspelt : {vanishes begins reached starts closures table actions : List ℕ} → spelled ≡ false
+      → Compiles room text true 2 numbers (stored .inherited) (stored .synthesized) (stored .rules) (stored .definitions) (stored .kernels) (stored .goes)
       vanishes begins reached starts closures table actions
-  compiles-misspelt h = record { told = sym (misspelt-refused text (misspelt-none s h)); ready = λ z. absurd (omega arith) }
+  compiles-misspelt h = record {
+    left-out = λ e. absurd (false≢true (sym e));
+    fits = λ _ z. absurd (omega arith);
+    told = λ _. sym (misspelt-refused text (misspelt-none room s h));
+    ready = λ _ z. absurd (omega arith);
+  }
 
-  module _ (room : Roomy before) where
+  -- the text is misspelt, or something was left out
+  pub compiles-unread : {whole : Bool} {vanishes begins reached starts closures table actions : List ℕ} → Decides whole (Complete room numbers)
+      → spelled && whole ≡ false
+      → Compiles room text (not spelled) 2 numbers (stored .inherited) (stored .synthesized) (stored .rules) (stored .definitions) (stored .kernels)
+      (stored .goes) vanishes begins reached starts closures table actions
+  compiles-unread {whole} {vanishes} {begins} {reached} {starts} {closures} {table} {actions} d e = go spelled refl whole refl
+    where
+      go : (t : Bool) → spelled ≡ t → (u : Bool) → whole ≡ u
+          → Compiles room text (not spelled) 2 numbers (stored .inherited) (stored .synthesized) (stored .rules) (stored .definitions) (stored .kernels)
+          (stored .goes) vanishes begins reached starts closures table actions
+      go false p u q = rw p (compiles-misspelt p)
+      go true p false q = rw p (record {
+        left-out = λ _. refutes (rw q at d);
+        fits = λ f. absurd (false≢true f);
+        told = λ f. absurd (false≢true f);
+        ready = λ f. absurd (false≢true f);
+      })
+      go true p true q = absurd (false≢true (sym (rw (p, q) at e)))
+
+  module _ (roomy : Roomy room before) (complete : Complete room numbers) where
     pub read-kept : (b : Lines) → parseBook text ≡ some b
         → BookKept numbers (stored .inherited) (stored .synthesized) (stored .rules) (stored .definitions) (stored .kernels) (stored .goes) b
-    read-kept b e = record { numbers-are = s .numbers-are b e; ordered = print-parse text b e .1 .ordered; arrays-in = arrays-held s b e room }
+    read-kept b e = record { numbers-are = s .numbers-are b e; ordered = print-parse text b e .1 .ordered; arrays-in = arrays-held room s b e roomy complete }
 
     pub read-some : spelled ≡ true
         → (b : Lines)
         × BookKept numbers (stored .inherited) (stored .synthesized) (stored .rules) (stored .definitions) (stored .kernels) (stored .goes) b
-    read-some h = spelled-got s h λ b e. (b, read-kept b e)
+    read-some h = spelled-got room s h λ b e. (b, read-kept b e)
 
     pub compiles-checked : {r : ℕ} {vanishes begins reached starts closures table actions : List ℕ} → spelled ≡ true
         → ((b : Lines)
         → BookKept numbers (stored .inherited) (stored .synthesized) (stored .rules) (stored .definitions) (stored .kernels) (stored .goes) b
         → Checked r numbers (stored .inherited) (stored .synthesized) (stored .rules) (stored .definitions) (stored .kernels) (stored .goes)
         vanishes begins reached starts closures table actions b)
-        → Compiles text r numbers (stored .inherited) (stored .synthesized) (stored .rules) (stored .definitions) (stored .kernels) (stored .goes)
+        → Compiles room text true r numbers (stored .inherited) (stored .synthesized) (stored .rules) (stored .definitions) (stored .kernels) (stored .goes)
         vanishes begins reached starts closures table actions
-    compiles-checked h c = spelled-got s h λ b e.
+    compiles-checked h c = spelled-got room s h λ b e.
         record {
-          told = c b (read-kept b e) .told ∙ sym (book-refused text b e);
-          ready = λ z b′ e′. c b′ (read-kept b′ e′) .ready z;
+          left-out = λ f. absurd (false≢true (sym f));
+          fits = λ _ _. complete;
+          told = λ _. c b (read-kept b e) .told ∙ sym (book-refused text b e);
+          ready = λ _ z b′ e′. c b′ (read-kept b′ e′) .ready z;
         }

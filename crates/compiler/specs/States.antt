@@ -1,12 +1,13 @@
 -- A book that is spelled right (2), within the limits (3) and declared (4), in the arrays from which its states are worked out; the arrays that are
 -- filled; and the first of 7, 8 and 9 that applies. Assumes nothing.
-use Prim.Native.Nat.{ℕ, _*_}
-use mathlib.Core.Path.{_≡_, sym, _∙_}
+use Prim.Native.Nat.{ℕ, _*_, _≤_}
+use mathlib.Core.Path.{_≡_, sym, ap, _∙_}
 use mathlib.Core.Bool.{Bool, true, false}
 use mathlib.Core.List.{List}
 use native.Mathlib.Omega.{arith}
-use lib.ListN.{length, replicate}
-use Rattle.grammar.specs.Limits.{MAX-RULES}
+use lib.ListN.{length, replicate, length-replicate}
+use Rattle.text.specs.Positional.{by-less}
+use Rattle.grammar.specs.Limits.{MAX-RULES, MAX-STATES}
 use Rattle.grammar.specs.Data.Book.{Book}
 use Rattle.grammar.specs.Format.Ordered.{Ordered}
 use Rattle.grammar.specs.Conditions.Meaning.{WithinLimits, Declared}
@@ -14,10 +15,13 @@ use Rattle.grammar.specs.BookFacts.{small-book}
 use Rattle.grammar.specs.Automaton.FirstSets.{setsOf}
 use Rattle.grammar.specs.Automaton.StatesCheck.{kernelRules, goRules}
 use Rattle.grammar.specs.Automaton.Compiled.{itemsTable, itemsAt, cellsTable, noConflict}
+use Rattle.book.specs.declared.Book.{Book as Counts}
+use Rattle.book.specs.declared.Room.{Room}
 use Rattle.book.specs.Held.{RulesIn, KernelsIn, GoesIn}
+use Rattle.book.specs.Spelling.{Complete}
 use Rattle.items.specs.Arrays.{SuffixesIn, StartsIn, ClosuresIn, GoTableIn, ActionsIn}
 use Rattle.items.specs.Starts.{LinesIn}
-use Rattle.items.specs.Closures.{StateItemsIn}
+use Rattle.items.specs.Closures.{StateItemsIn, Blank}
 use Rattle.automaton.specs.KernelRules.{RuledIn}
 use Rattle.items.specs.GrammarOf.{GrammarHeld, book-grammar}
 use Rattle.items.specs.RestSets.{RestSetsIn}
@@ -72,15 +76,54 @@ pub record TablesIn (b : Book) (vanishes begins reached starts closures table ac
   pub table-in : GoTableIn b table
   pub actions-in : ActionsIn b (setsOf (b .rules)) actions
 
--- the arrays as they are lent
-pub record TablesRoom (vanishes begins reached starts closures table actions : List ℕ) : Type 0 where
+-- the arrays as they are lent, with room for the states of a book within the limits
+pub record TablesRoom (states : ℕ) (vanishes begins reached starts closures table actions : List ℕ) : Type 0 where
   pub vanishes-long : length vanishes ≡ 9 * MAX-RULES
   pub begins-long : length begins ≡ 9 * MAX-RULES
   pub reached-long : length reached ≡ 9 * MAX-RULES
   pub starts-long : length starts ≡ 129
-  pub closures-none : closures ≡ replicate 4096 0
-  pub table-long : length table ≡ 8192
+  pub closures-blank : states ≤ MAX-STATES → Blank states closures
+  pub table-long : states ≤ MAX-STATES → 64 * states ≤ length table
   pub actions-long : length actions ≡ 4096
+
+-- the same, with as much room as is said
+pub record TablesLent (room : Room) (vanishes begins reached starts closures table actions : List ℕ) : Type 0 where
+  pub vanishes-long : length vanishes ≡ 9 * MAX-RULES
+  pub begins-long : length begins ≡ 9 * MAX-RULES
+  pub reached-long : length reached ≡ 9 * MAX-RULES
+  pub starts-long : length starts ≡ 129
+  pub closures-none : closures ≡ replicate (32 * room .states) 0
+  pub table-long : length table ≡ 64 * room .states
+  pub actions-long : length actions ≡ 4096
+  pub states-few : room .states ≤ MAX-STATES
+
+-- the states of a book within the limits have room
+pub states-enough : {room : Room} {numbers : Counts} → Complete room numbers → room .states ≤ MAX-STATES → numbers .states ≤ MAX-STATES
+    → numbers .states ≤ room .states
+states-enough {room} fit few low = by-less (room .states) MAX-STATES (λ less. fit .states-fit less) (λ all. omega arith)
+
+pub tables-room : {room : Room} {numbers : Counts} {vanishes begins reached starts closures table actions : List ℕ} → Complete room numbers
+    → TablesLent room vanishes begins reached starts closures table actions
+    → TablesRoom (numbers .states) vanishes begins reached starts closures table actions
+tables-room {room} {numbers} {closures = closures} fit t =
+    record {
+      vanishes-long = t .vanishes-long;
+      begins-long = t .begins-long;
+      reached-long = t .reached-long;
+      starts-long = t .starts-long;
+      closures-blank = λ few. record {
+        long = omega (arith, closures-long, enough few);
+        none = t .closures-none ∙ ap (λ (n : ℕ). replicate n 0) (sym closures-long);
+      };
+      table-long = λ few. omega (arith, t .table-long, enough few);
+      actions-long = t .actions-long;
+    }
+  where
+    closures-long : length closures ≡ 32 * room .states
+    closures-long = ap length (t .closures-none) ∙ length-replicate {A = ℕ} (32 * room .states) 0
+
+    enough : numbers .states ≤ MAX-STATES → numbers .states ≤ room .states
+    enough = states-enough fit (t .states-few)
 
 -- the refusal r is told, and the arrays are filled where there is none
 pub record Tabled (b : Book) (r : ℕ) (vanishes begins reached starts closures table actions : List ℕ) : Type 0 where

@@ -2,25 +2,27 @@
 // A contract asks that the arrays hold some book, and says what it says of every book that they hold.
 ghost use mathlib.Core.Path.{_≡_};
 ghost use mathlib.Core.List.{List};
-ghost use Prim.Native.Nat.{ℕ, _*_, _≤_};
+ghost use Prim.Native.Nat.{ℕ, _*_};
 ghost use lib.ListN.{length};
 ghost use Rattle.text.specs.Reading.{Lent};
 ghost use Rattle.grammar.specs.Limits.{MAX-INHERITED};
 ghost use Rattle.grammar.specs.Data.Book.{Book as Lines};
-ghost use Rattle.book.specs.Expressions.{MAX-WAITING};
+ghost use Rattle.book.specs.Expressions.{WaitsRoom};
 ghost use Rattle.book.specs.Held.{OwnersIn};
 ghost use Rattle.book.specs.Spelling.{arrays, Roomy};
 ghost use Rattle.conditions.specs.Answers.{Some};
 ghost use Rattle.formulas.specs.Table.{ROOM};
 ghost use Rattle.attributes.specs.OneFormula.{FormulasHeld, formulasRight};
-ghost use Rattle.compiler.specs.States.{TablesRoom};
+ghost use Rattle.compiler.specs.States.{TablesRoom, TablesLent};
 ghost use Rattle.compiler.specs.Conditions.{BookKept, conditionsRefusal};
 ghost use Rattle.compiler.specs.Prepared.{Prepared};
 ghost use Rattle.compiler.specs.Compiling.{Checked, Compiles};
 use super::states::tables;
 use attributes::one_formula::one_formula;
 use book::Book;
+use book::Room;
 use book::reading::spelling;
+use book::rooms::complete;
 use conditions::declared::declared;
 use conditions::defined::defined;
 use conditions::limits::within_limits;
@@ -81,7 +83,7 @@ fn prepare(
     cells: &mut [u8],
 ) -> u32
     requires { ⌜ Some (BookKept book (now inherited) (now synthesized) (now rules) (now definitions) (now kernels) (now goes)) ⌝ }
-    requires { ⌜ TablesRoom (now vanishes) (now begins) (now reached) (now starts) (now lookaheads) (now table) (now cells) ⌝ }
+    requires { ⌜ TablesRoom (book .states) (now vanishes) (now begins) (now reached) (now starts) (now lookaheads) (now table) (now cells) ⌝ }
     ensures { λ r. ⌜ ((b : Lines) → BookKept book (now (inherited .entry)) (now (synthesized .entry)) (now (rules .entry)) (now (definitions .entry))
         (now (kernels .entry)) (now (goes .entry)) b
         → Prepared r book (now (inherited .entry)) (now (synthesized .entry)) (now (rules .entry)) (now (definitions .entry)) (now (kernels .entry))
@@ -119,7 +121,7 @@ fn prepare(
     )
 }
 
-// Whether each attribute has one formula in every partial state (10). `room` is for the nodes of formulas, whatever it holds.
+// Whether each attribute has one formula in every partial state (10). `nodes` is room for the nodes of formulas, whatever it holds.
 fn formulas_right(
     book: Book,
     inherited: &[u32],
@@ -130,12 +132,12 @@ fn formulas_right(
     lookaheads: &[u32],
     vanishes: &[u32],
     reached: &[u32],
-    room: &mut [u32],
+    nodes: &mut [u32],
 ) -> bool
     requires { ⌜ ((b : Lines) × (begins : List ℕ) × FormulasHeld b (now rules) (book .rules) (now definitions) (book .«inherited_definitions») (now kernels)
         (now starts) (now lookaheads) (now vanishes) begins (now reached) (book .terminals) (book .states)
         × OwnersIn MAX-INHERITED (b .inheritedOwners) (now inherited) × (book .inherited ≡ length (b .inheritedOwners))) ⌝ }
-    requires { ⌜ length (now room) ≡ 4 * ROOM ⌝ }
+    requires { ⌜ length (now nodes) ≡ 4 * ROOM ⌝ }
     ensures { λ r. ⌜ ((b : Lines) (begins : List ℕ) → FormulasHeld b (now (rules .entry)) (book .rules) (now (definitions .entry))
         (book .«inherited_definitions») (now (kernels .entry)) (now (starts .entry)) (now (lookaheads .entry)) (now (vanishes .entry)) begins
         (now (reached .entry)) (book .terminals) (book .states)
@@ -156,12 +158,12 @@ fn formulas_right(
         reached,
         book.terminals,
         book.states,
-        room,
+        nodes,
         &mut nexts,
     )
 }
 
-// Fills the tables of a book, up to the first of 3 to 10 that applies; that, or 0. `room` is for the nodes of formulas.
+// Fills the tables of a book, up to the first of 3 to 10 that applies; that, or 0. `nodes` is room for the nodes of formulas.
 fn check(
     book: Book,
     inherited: &[u32],
@@ -177,11 +179,11 @@ fn check(
     lookaheads: &mut [u32],
     table: &mut [u8],
     cells: &mut [u8],
-    room: &mut [u32],
+    nodes: &mut [u32],
 ) -> u32
     requires { ⌜ Some (BookKept book (now inherited) (now synthesized) (now rules) (now definitions) (now kernels) (now goes)) ⌝ }
-    requires { ⌜ TablesRoom (now vanishes) (now begins) (now reached) (now starts) (now lookaheads) (now table) (now cells) ⌝ }
-    requires { ⌜ length (now room) ≡ 4 * ROOM ⌝ }
+    requires { ⌜ TablesRoom (book .states) (now vanishes) (now begins) (now reached) (now starts) (now lookaheads) (now table) (now cells) ⌝ }
+    requires { ⌜ length (now nodes) ≡ 4 * ROOM ⌝ }
     ensures { λ r. ⌜ ((b : Lines) → BookKept book (now (inherited .entry)) (now (synthesized .entry)) (now (rules .entry)) (now (definitions .entry))
         (now (kernels .entry)) (now (goes .entry)) b
         → Checked r book (now (inherited .entry)) (now (synthesized .entry)) (now (rules .entry)) (now (definitions .entry)) (now (kernels .entry))
@@ -217,25 +219,27 @@ fn check(
         lookaheads,
         vanishes,
         reached,
-        room,
+        nodes,
     ) {
         return 0;
     }
     10
 }
 
-// The refusal of a text, or 0, and the numbers of its book.
+// The refusal of a text, or 0, and the numbers of its book; nothing is said where the arrays have no room for what the text has.
 pub struct Compiled {
+    pub complete: bool,
     pub refusal: u32,
     pub book: Book,
 }
 
 // Reads a text into the arrays of its lines and fills the tables, up to the first of 2 to 10 that applies.
-// `waits` and `room` are room, whatever they hold: for what waits in an expression, and for the nodes of formulas.
+// `waits` and `nodes` are room, whatever they hold: for what waits in an expression, and for the nodes of formulas.
 pub fn compile(
     t: &[u8; 256],
     text: &[u8],
     waits: &mut [u8],
+    room: Room,
     inherited: &mut [u32],
     synthesized: &mut [u32],
     rules: &mut [u32],
@@ -249,13 +253,13 @@ pub fn compile(
     lookaheads: &mut [u32],
     table: &mut [u8],
     cells: &mut [u8],
-    room: &mut [u32],
+    nodes: &mut [u32],
 ) -> Compiled
-    requires { ⌜ Lent (now t) (now text) × (MAX-WAITING ≤ length (now waits))
-        × Roomy (arrays (now inherited) (now synthesized) (now rules) (now definitions) (now kernels) (now goes)) ⌝ }
-    requires { ⌜ TablesRoom (now vanishes) (now begins) (now reached) (now starts) (now lookaheads) (now table) (now cells) ⌝ }
-    requires { ⌜ length (now room) ≡ 4 * ROOM ⌝ }
-    ensures { λ r. ⌜ Compiles (now (text .entry)) (r .refusal) (r .book) (now (inherited .exit)) (now (synthesized .exit)) (now (rules .exit))
+    requires { ⌜ Lent (now t) (now text) × WaitsRoom (now text) (now waits)
+        × Roomy room (arrays (now inherited) (now synthesized) (now rules) (now definitions) (now kernels) (now goes)) ⌝ }
+    requires { ⌜ TablesLent room (now vanishes) (now begins) (now reached) (now starts) (now lookaheads) (now table) (now cells) ⌝ }
+    requires { ⌜ length (now nodes) ≡ 4 * ROOM ⌝ }
+    ensures { λ r. ⌜ Compiles room (now (text .entry)) (r .complete) (r .refusal) (r .book) (now (inherited .exit)) (now (synthesized .exit)) (now (rules .exit))
         (now (definitions .exit)) (now (kernels .exit)) (now (goes .exit)) (now (vanishes .exit)) (now (begins .exit)) (now (reached .exit))
         (now (starts .exit)) (now (lookaheads .exit)) (now (table .exit)) (now (cells .exit)) ⌝ }
 {
@@ -263,6 +267,7 @@ pub fn compile(
         t,
         text,
         waits,
+        room,
         inherited,
         synthesized,
         rules,
@@ -271,8 +276,13 @@ pub fn compile(
         goes,
     );
     let book = read.book;
-    if !read.spelled {
-        return Compiled { refusal: 2, book };
+    let whole = complete(room, book);
+    if !(read.spelled & whole) {
+        return Compiled {
+            complete: !read.spelled,
+            refusal: 2,
+            book,
+        };
     }
     let refusal = check(
         book,
@@ -289,7 +299,11 @@ pub fn compile(
         lookaheads,
         table,
         cells,
-        room,
+        nodes,
     );
-    Compiled { refusal, book }
+    Compiled {
+        complete: true,
+        refusal,
+        book,
+    }
 }

@@ -1,14 +1,15 @@
 // The arrays of a book's states, and the first of 7, 8 and 9 that applies.
 // A contract asks that the arrays hold some book, and says what it says of every book that they hold.
 ghost use mathlib.Core.Path.{_≡_};
-ghost use Prim.Native.Nat.{_*_};
-ghost use lib.ListN.{length, replicate};
+ghost use Prim.Native.Nat.{_*_, _≤_};
+ghost use lib.ListN.{length};
 ghost use Rattle.grammar.specs.Limits.{MAX-RULES};
 ghost use Rattle.grammar.specs.Data.Book.{Book};
 ghost use Rattle.grammar.specs.Automaton.FirstSets.{setsOf};
 ghost use Rattle.grammar.specs.Automaton.StatesCheck.{kernelRules};
 ghost use Rattle.book.specs.Held.{GoesIn};
 ghost use Rattle.items.specs.Arrays.{StartsIn, ClosuresIn, GoTableIn};
+ghost use Rattle.items.specs.Closures.{Blank};
 ghost use Rattle.compiler.specs.States.{KernelsHeld, BookHeld, ItemsFilled, TablesRoom, Tabled, goesRight};
 use automaton::actions::actions;
 use automaton::go_rules::go_rules;
@@ -49,7 +50,7 @@ fn fill_items(
     requires { ⌜ ((b : Book) × KernelsHeld b (now rules) (now kernels) states × (count ≡ length (b .rules))
         × StartsIn (b .kernels) (b .states) (now starts)) ⌝ }
     requires { ⌜ (length (now vanishes) ≡ 9 * MAX-RULES) × (length (now begins) ≡ 9 * MAX-RULES) × (length (now reached) ≡ 9 * MAX-RULES)
-        × (now lookaheads ≡ replicate 4096 0) ⌝ }
+        × Blank states (now lookaheads) ⌝ }
     ensures { λ _. ⌜ ((b : Book) → KernelsHeld b (now (rules .entry)) (now (kernels .entry)) states → count ≡ length (b .rules)
         → StartsIn (b .kernels) (b .states) (now (starts .entry))
         → ItemsFilled b (now (vanishes .exit)) (now (begins .exit)) (now (reached .exit)) (now (lookaheads .exit))) ⌝ }
@@ -81,7 +82,7 @@ fn moves(
 ) -> bool
     requires { ⌜ ((b : Book) × KernelsHeld b (now rules) (now kernels) states × (count ≡ length (b .rules)) × GoesIn (b .goes) (now goes)
         × (lines ≡ length (b .goes)) × StartsIn (b .kernels) (b .states) (now starts) × ClosuresIn b (setsOf (b .rules)) (now lookaheads))
-        × (length (now table) ≡ 8192) ⌝ }
+        × (64 * states ≤ length (now table)) ⌝ }
     ensures { λ r. ⌜ ((b : Book) → KernelsHeld b (now (rules .entry)) (now (kernels .entry)) states → count ≡ length (b .rules)
         → GoesIn (b .goes) (now (goes .entry)) → lines ≡ length (b .goes) → StartsIn (b .kernels) (b .states) (now (starts .entry))
         → ClosuresIn b (setsOf (b .rules)) (now (lookaheads .entry)) → (r ≡ goesRight b) × GoTableIn b (now (table .exit))) ⌝ }
@@ -119,7 +120,7 @@ pub fn tables(
     cells: &mut [u8],
 ) -> u32
     requires { ⌜ ((b : Book) × BookHeld b (now rules) count (now kernels) items (now goes) lines terminals states) ⌝ }
-    requires { ⌜ TablesRoom (now vanishes) (now begins) (now reached) (now starts) (now lookaheads) (now table) (now cells) ⌝ }
+    requires { ⌜ TablesRoom states (now vanishes) (now begins) (now reached) (now starts) (now lookaheads) (now table) (now cells) ⌝ }
     ensures { λ r. ⌜ ((b : Book) → BookHeld b (now (rules .entry)) count (now (kernels .entry)) items (now (goes .entry)) lines terminals states
         → Tabled b r (now (vanishes .exit)) (now (begins .exit)) (now (reached .exit)) (now (starts .exit)) (now (lookaheads .exit)) (now (table .exit))
         (now (cells .exit))) ⌝ }

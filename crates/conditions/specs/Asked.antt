@@ -88,7 +88,7 @@ pub record Entry : Type 0 where
 
 -- the definition in line i
 pub record LineIs (definitions : List ℕ) (i : ℕ) (d : InheritedDefinition) : Type 0 where
-  pub long : length definitions ≡ 49 * MAX-DEFINITIONS
+  pub long : 49 * i + 49 ≤ length definitions
   pub room : i < MAX-DEFINITIONS
   pub few-nodes : nodes (d .expression) ≤ MAX-NODES
   pub line-in : DefinitionIn (d .rule) (d .position) (d .attribute) (d .expression) definitions i

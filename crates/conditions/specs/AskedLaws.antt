@@ -100,7 +100,7 @@ module _ {definitions : List ℕ} {b : Lines} (w : WithinLimits b) (h : Definiti
   pub inherited-line : i < length (b .inheritedDefinitions) → LineIs definitions i (inheritedEntry b i .line)
   inherited-line l =
       record {
-        long = h .long;
+        long = omega (arith, h .long);
         room = omega (arith, h .fits);
         few-nodes = w .inherited-nodes _ (at-member (b .inheritedDefinitions) i _ l);
         line-in = h .inherited-is i l;
@@ -110,7 +110,7 @@ module _ {definitions : List ℕ} {b : Lines} (w : WithinLimits b) (h : Definiti
       → LineIs definitions (n + i) (synthesizedEntry b i .line)
   synthesized-line e l =
       record {
-        long = h .long;
+        long = omega (arith, h .long);
         room = omega (arith, h .fits);
         few-nodes = w .synthesized-nodes _ (at-member (b .synthesizedDefinitions) i _ l);
         line-in = rw e (h .synthesized-is i l);

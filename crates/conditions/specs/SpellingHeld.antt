@@ -9,13 +9,14 @@ use Rattle.grammar.specs.Data.Book.{Book as Lines}
 use Rattle.grammar.specs.Format.Parse.{parseBook}
 use Rattle.grammar.specs.Format.ParseLaws.{print-parse}
 use Rattle.book.specs.declared.Book.{Book}
+use Rattle.book.specs.declared.Room.{Room}
 use Rattle.book.specs.Counts.{countsOf}
 use Rattle.book.specs.Held.{Held, kept}
 use Rattle.book.specs.HeldLaws.{held}
 use Rattle.conditions.specs.Asked.{Counted, Kept}
-use Rattle.book.specs.Spelling.{Arrays, Roomy, storedIn, isBook, Spelling}
+use Rattle.book.specs.Spelling.{Arrays, Roomy, isBook, Spelling, Complete}
 
-module _ {text : List ℕ} {before stored : Arrays} {spelled : Bool} {numbers : Book} (s : Spelling text before spelled numbers stored) where
+module _ {text : List ℕ} {before stored : Arrays} {spelled : Bool} {numbers : Book} (room : Room) (s : Spelling room text before spelled numbers stored) where
   -- a text that is spelled right has a book
   pub spelled-got : {C : Type 0} → spelled ≡ true → ((b : Lines) → parseBook text ≡ some b → C) → C
   unfolding isBook
@@ -52,12 +53,9 @@ module _ {text : List ℕ} {before stored : Arrays} {spelled : Bool} {numbers : 
           goes-are = refl;
         })
 
-    module _ (r : Roomy before) where
+    module _ (r : Roomy room before) (complete : Complete room numbers) where
       pub arrays-held : Held (kept b) (stored .inherited) (stored .synthesized) (stored .rules) (stored .definitions) (stored .kernels) (stored .goes)
-      unfolding storedIn
-      arrays-held =
-          rw (s .lines-are b e) (held b (before .inherited) (before .synthesized) (before .rules) (before .definitions) (before .kernels) (before .goes)
-          (r .inherited-long) (r .synthesized-long) (r .rules-long) (r .definitions-long) (r .kernels-long) (r .goes-long))
+      arrays-held = rw (s .lines-are b e) (held room b (rw (s .numbers-are b e) at complete) before r)
 
       -- all but the go lines
       pub arrays-kept : Kept numbers (stored .inherited) (stored .synthesized) (stored .rules) (stored .definitions) (stored .kernels) b

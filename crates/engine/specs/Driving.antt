@@ -1,10 +1,11 @@
 -- A stored book that is taken, and a message, as the machine asks for them. Assumes nothing.
-use Prim.Native.Nat.{ℕ}
+use Prim.Native.Nat.{ℕ, _*_, _≤_}
+use native.Mathlib.Omega.{arith}
 use mathlib.Core.Path.{_≡_, refl, ap, _∙_}
 use mathlib.Core.List.{List}
 use mathlib.Core.Option.{some}
 use lib.ListN.{length, replicate}
-use Rattle.grammar.specs.Limits.{MAX-TEXT, PAGE-WORDS}
+use Rattle.grammar.specs.Limits.{PAGE-WORDS}
 use Rattle.grammar.specs.Data.Book.{Book as Lines}
 use Rattle.grammar.specs.Evaluator.Tree.{Token}
 use Rattle.grammar.specs.Engine.{tokensOf}
@@ -53,8 +54,9 @@ module _ {numbers : Book} {inherited synthesized rules definitions kernels goes 
   tokens-of m = record { tokens = message-tokens b m (counted b (h .ready .numbers-are) .terminals-are); few = m .few }
 
   -- no plan is worked out yet
-  pub plans-of : {lists : List ℕ} → length lists ≡ MAX-TEXT → PlansIn b (replicate 4096 0) lists
-  plans-of l = plans-none b refl l (h .ready .conditions-met .limits .states-limit .high)
+  pub plans-of : {lists : List ℕ} → 512 * numbers .states ≤ length lists → PlansIn b (replicate 4096 0) lists
+  plans-of l =
+      plans-none b refl (omega (arith, l, counted b (h .ready .numbers-are) .states-are)) (h .ready .conditions-met .limits .states-limit .high)
 
 -- the stacks as they are before the first move
 pub run-room : {records rows : List ℕ} → rows ≡ replicate PAGE-WORDS 0 → length records ≡ 4224

@@ -21,8 +21,11 @@ use Rattle.grammar.specs.Engine.{storedBook}
 use Rattle.book.specs.declared.Book.{Book}
 use Rattle.packing.specs.Words.{Placed}
 use Rattle.packing.specs.PlacedLaws.{placed-count, placed-first}
+use Rattle.book.specs.declared.Room.{Room}
+use Rattle.book.specs.Rooms.{fullRoom}
 use Rattle.compiler.specs.Prepared.{BookReady}
 use Rattle.compiler.specs.Compiling.{Compiles, book-refused, taken-got}
+use Rattle.engine.specs.Rooms.{compiled-whole}
 
 -- there are as many words as a stored book has, and they are the filling of the text in them
 unfoldable pub isFilling : List ℕ → Bool
@@ -94,10 +97,11 @@ unfilled {words} h e = unfilled-none words (sym (h .told) ∙ e)
 
 module _ {words text : List ℕ} {filled : Bool} {count : ℕ} (h : Found words text filled count) (e : filled ≡ true) {r : ℕ} {numbers : Book}
     {inherited synthesized rules definitions kernels goes : List ℕ} {vanishes begins reached starts closures table actions : List ℕ}
-    (c : Compiles (take count text) r numbers inherited synthesized rules definitions kernels goes vanishes begins reached starts closures table actions)
+    {complete : Bool} {room : Room} (all : room ≡ fullRoom)
+    (c : Compiles room (take count text) complete r numbers inherited synthesized rules definitions kernels goes vanishes begins reached starts closures table actions)
   where
     told : r ≡ refusal (unpack words)
-    told = c .told ∙ ap refusal (h .text-is e)
+    told = c .told (compiled-whole all c) ∙ ap refusal (h .text-is e)
 
     pub found-none : (r ≡ 0 → ⊥) → storedBook words ≡ none
     found-none n = stored-none words (sym (h .told) ∙ e) (λ z. n (told ∙ z))
@@ -114,7 +118,7 @@ module _ {words text : List ℕ} {filled : Bool} {count : ℕ} (h : Found words 
           b,
           taken b p z,
           record {
-            ready = c .ready z b (ap parseBook (h .text-is e) ∙ p);
+            ready = c .ready (compiled-whole all c) z b (ap parseBook (h .text-is e) ∙ p);
             spelled = rw same at (s .its-book .spelled);
             sound = rw same at (s .its-book .sound);
           },

@@ -1,7 +1,8 @@
 // Evaluating: a stored book and the tokens of a message to rows.
 ghost use mathlib.Core.Path.{_≡_};
+ghost use Prim.Native.Nat.{_*_, _≤_};
 ghost use lib.ListN.{length, replicate};
-ghost use Rattle.grammar.specs.Limits.{PAGE-WORDS, MAX-TEXT};
+ghost use Rattle.grammar.specs.Limits.{PAGE-WORDS};
 ghost use Rattle.grammar.specs.Data.Book.{Book as Lines};
 ghost use Rattle.grammar.specs.Evaluator.Machine.{evaluate};
 ghost use Rattle.grammar.specs.Engine.{tablesOf, evaluateWords};
@@ -13,6 +14,7 @@ use super::sides::fill_sides;
 use super::stored::text_in;
 use super::tokens::kinds_right;
 use book::Book;
+use book::Room;
 use compiler::compile::compile;
 use machine::run::Outcome;
 use machine::run::run;
@@ -67,7 +69,7 @@ fn message(
 ) -> Outcome
     requires { ⌜ Some (TakenBook book (now inherited) (now synthesized) (now rules) (now definitions) (now kernels) (now goes) (now vanishes) (now begins)
         (now reached) (now starts) (now lookaheads) (now table) (now actions)) ⌝ }
-    requires { ⌜ Message (book .terminals) (now tokens) × (now rows ≡ replicate PAGE-WORDS 0) × (length (now lists) ≡ MAX-TEXT)
+    requires { ⌜ Message (book .terminals) (now tokens) × (now rows ≡ replicate PAGE-WORDS 0) × (512 * book .states ≤ length (now lists))
         × (length (now records) ≡ 4224) ⌝ }
     ensures { λ r. ⌜ ((b : Lines) → TakenBook book (now (inherited .entry)) (now (synthesized .entry)) (now (rules .entry)) (now (definitions .entry))
         (now (kernels .entry)) (now (goes .entry)) (now (vanishes .entry)) (now (begins .entry)) (now (reached .entry)) (now (starts .entry))
@@ -133,6 +135,7 @@ fn number(words: &[u32], tokens: &[u32], rows: &mut [u32], count: &mut u32) -> u
         return 11;
     }
     let t = classes();
+    let room = Room::full();
     let mut waits = [0u8; 13107];
     let mut inherited = [0u32; 16];
     let mut synthesized = [0u32; 32];
@@ -147,12 +150,13 @@ fn number(words: &[u32], tokens: &[u32], rows: &mut [u32], count: &mut u32) -> u
     let mut lookaheads = [0u32; 4096];
     let mut table = [0u8; 8192];
     let mut cells = [0u8; 4096];
-    let mut room = [0u32; 7680];
+    let mut nodes = [0u32; 7680];
     let n = found.count;
     let compiled = compile(
         &t,
         &text[..n],
         &mut waits,
+        room,
         &mut inherited,
         &mut synthesized,
         &mut rules,
@@ -166,7 +170,7 @@ fn number(words: &[u32], tokens: &[u32], rows: &mut [u32], count: &mut u32) -> u
         &mut lookaheads,
         &mut table,
         &mut cells,
-        &mut room,
+        &mut nodes,
     );
     if compiled.refusal != 0 {
         return 11;
@@ -193,7 +197,7 @@ fn number(words: &[u32], tokens: &[u32], rows: &mut [u32], count: &mut u32) -> u
         &table,
         &cells,
         &mut text,
-        &mut room[..4224],
+        &mut nodes[..4224],
         tokens,
         rows,
     );

@@ -7,6 +7,7 @@ ghost use Rattle.grammar.specs.Refusal.{refusal};
 ghost use Rattle.grammar.specs.Engine.{readBook};
 ghost use Rattle.engine.specs.Readings.{Reads, readNumber};
 use book::Book;
+use book::Room;
 use compiler::compile::compile;
 use packing::packing::clear;
 use packing::packing::pack;
@@ -18,6 +19,7 @@ fn refusal(text: &[u8], words: &mut [u32]) -> u32
     ensures { λ r. ⌜ r ≡ refusal (now (text .entry)) ⌝ }
 {
     let t = classes();
+    let room = Room::full();
     let mut waits = [0u8; 13107];
     let mut inherited = [0u32; 16];
     let mut synthesized = [0u32; 32];
@@ -36,6 +38,7 @@ fn refusal(text: &[u8], words: &mut [u32]) -> u32
         &t,
         text,
         &mut waits,
+        room,
         &mut inherited,
         &mut synthesized,
         &mut rules,

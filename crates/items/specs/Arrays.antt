@@ -44,7 +44,7 @@ pub record StartsIn (ks : List Kernel) (states : ℕ) (starts : List ℕ) : Type
 
 -- the lookaheads of nonterminal B's rules in the closure of state S, at 32 * S + B
 pub record ClosuresIn (b : Book) (F : Sets) (closures : List ℕ) : Type 0 where
-  pub long : length closures ≡ 32 * MAX-STATES
+  pub long : 32 * b .states ≤ length closures
   pub set-is : (S B : ℕ) → S < b .states → B < 32 → getD closures (32 * S + B) 0 ≡ setAt (closureSets b F S) B
 
 -- a target, or 255 for no go line
@@ -54,7 +54,7 @@ targetCode (some M) = M
 
 -- the target of state S on symbol X, at 64 * S + the symbol's word
 pub record GoTableIn (b : Book) (table : List ℕ) : Type 0 where
-  pub long : length table ≡ 64 * MAX-STATES
+  pub long : 64 * b .states ≤ length table
   pub go-is : (S : ℕ) (X : Symbol) → S < b .states → GoSymbol b X → getD table (64 * S + symbolCode X) 0 ≡ targetCode (goIn (b .goes) S X)
 
 -- an action in one word

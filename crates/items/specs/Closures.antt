@@ -50,22 +50,24 @@ pub record StateItemsIn (b : Book) (F : Sets) (rules : List ℕ) (count : ℕ) (
 -- the states below s are done
 pub record Closed (rules : List ℕ) (count : ℕ) (kernels starts : List ℕ) (states : ℕ) (nulls firsts : List ℕ) (closures : List ℕ) (s : ℕ) : Type 0 where
   pub within : s ≤ states
-  pub long : length closures ≡ 32 * MAX-STATES
+  pub long : 32 * states ≤ length closures
   pub rest : (i : ℕ) → 32 * s ≤ i → getD closures i 0 ≡ 0
   pub done : (b : Book) (F : Sets) → StateItemsIn b F rules count kernels starts states nulls firsts
       → (S B : ℕ) → S < s → B < 32 → getD closures (32 * S + B) 0 ≡ setAt (closureSets b F S) B
 
+-- room for the closures of a number of states, with nothing in it
+pub record Blank (states : ℕ) (closures : List ℕ) : Type 0 where
+  pub long : 32 * states ≤ length closures
+  pub none : closures ≡ replicate (length closures) 0
+
 -- ---- the array of all closures, state by state
 
-pub all-long : {closures : List ℕ} → closures ≡ replicate 4096 0 → length closures ≡ 32 * MAX-STATES
-all-long e = ap length e ∙ length-replicate {A = ℕ} 4096 0
-
 module _ {rules : List ℕ} {count : ℕ} {kernels starts : List ℕ} {states : ℕ} {nulls firsts : List ℕ} where
-  pub closed-none : {closures : List ℕ} → closures ≡ replicate 4096 0 → Closed rules count kernels starts states nulls firsts closures 0
-  closed-none e = record {
+  pub closed-none : {closures : List ℕ} → Blank states closures → Closed rules count kernels starts states nulls firsts closures 0
+  closed-none {closures} e = record {
     within = omega arith;
-    long = all-long e;
-    rest = λ i h. ap (λ (l : List ℕ). getD l i 0) e ∙ none-at 4096 i;
+    long = e .long;
+    rest = λ i h. ap (λ (l : List ℕ). getD l i 0) (e .none) ∙ none-at (length closures) i;
     done = λ b F H S B h l. absurd (omega arith);
   }
 
@@ -91,7 +93,7 @@ module _ {rules : List ℕ} {count : ℕ} {kernels starts : List ℕ} {states : 
         → Closed rules count kernels starts states nulls firsts (putBack (32 * s) (32 * s + 32 - 32 * s) closures looks) (s + 1)
     closed-more looks is h few long = record {
       within = omega arith;
-      long = back-long (32 * s) size closures looks fits exact ∙ C .long;
+      long = omega (arith, back-long (32 * s) size closures looks fits exact, C .long);
       rest = λ i m. back-behind (32 * s) size closures looks fits exact i (omega arith) ∙ C .rest i (omega arith);
       done = λ b F H S B m n. by-order S s
           (λ o. back-before (32 * s) size closures looks fits exact (32 * S + B) (omega arith) ∙ C .done b F H S B o n)
@@ -109,4 +111,4 @@ module _ {rules : List ℕ} {count : ℕ} {kernels starts : List ℕ} {states : 
         exact = omega arith
 
     pub closed-all : states ≤ s → (b : Book) (F : Sets) → StateItemsIn b F rules count kernels starts states nulls firsts → ClosuresIn b F closures
-    closed-all h b F H = record { long = C .long; set-is = λ S B m n. C .done b F H S B (omega (arith, H .states-are)) n }
+    closed-all h b F H = record { long = omega (arith, C .long, H .states-are); set-is = λ S B m n. C .done b F H S B (omega (arith, H .states-are)) n }

@@ -18,7 +18,7 @@ use Rattle.items.specs.Arrays.{StartsIn}
 
 -- an array of kernel lines, `count` of them
 pub record Room (kernels : List ℕ) (count : ℕ) : Type 0 where
-  pub long : length kernels ≡ 5 * MAX-KERNELS
+  pub long : 5 * count ≤ length kernels
   pub fits : count ≤ MAX-KERNELS
 
 -- what the array holds: `count` kernel lines of states below `states`, in the order of their states
@@ -30,7 +30,7 @@ pub record LinesIn (ks : List Kernel) (count states : ℕ) (kernels : List ℕ) 
   pub ascend : (i j : ℕ) → i ≤ j → j < length ks → kernelAt ks i .state ≤ kernelAt ks j .state
 
 pub room : {ks : List Kernel} {count states : ℕ} {kernels : List ℕ} → LinesIn ks count states kernels → Room kernels count
-room L = record { long = L .kernels-in .long; fits = omega (arith, L .counted, L .kernels-in .fits) }
+room L = record { long = omega (arith, L .counted, L .kernels-in .long); fits = omega (arith, L .counted, L .kernels-in .fits) }
 
 -- ---- lines of one state, from one line up to another
 

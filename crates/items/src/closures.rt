@@ -1,10 +1,8 @@
-// The closures of all states, 32 words each. The array is lent with zeros; each state fills its part.
-ghost use mathlib.Core.Path.{_≡_};
-ghost use lib.ListN.{replicate};
+// The closures of all states, 32 words each. The array is lent with zeros and has room for the states; each fills its part.
 ghost use Rattle.grammar.specs.Data.Book.{Book};
 ghost use Rattle.grammar.specs.Automaton.FirstSets.{Sets};
 ghost use Rattle.items.specs.Arrays.{ClosuresIn};
-ghost use Rattle.items.specs.Closures.{StateItemsIn};
+ghost use Rattle.items.specs.Closures.{StateItemsIn, Blank};
 ghost use Rattle.items.specs.Leads.{Leads};
 use super::closure::closure;
 use super::leads::fill_leads;
@@ -24,7 +22,7 @@ fn state_closures(
 )
     requires { ⌜ ((b : Book) × (F : Sets)
         × StateItemsIn b F (now rules) count (now kernels) (now starts) states (now nulls) (now firsts))
-        × Leads (now rules) count (now leads) × (now closures ≡ replicate 4096 0) ⌝ }
+        × Leads (now rules) count (now leads) × Blank states (now closures) ⌝ }
     ensures { λ _. ⌜ ((b : Book) (F : Sets)
         → StateItemsIn b F (now (rules .entry)) count (now (kernels .entry)) (now (starts .entry)) states (now (nulls .entry)) (now (firsts .entry))
         → ClosuresIn b F (now (closures .exit))) ⌝ }
@@ -62,7 +60,7 @@ pub fn closures(
 )
     requires { ⌜ ((b : Book) × (F : Sets)
         × StateItemsIn b F (now rules) count (now kernels) (now starts) states (now nulls) (now firsts))
-        × (now closures ≡ replicate 4096 0) ⌝ }
+        × Blank states (now closures) ⌝ }
     ensures { λ _. ⌜ ((b : Book) (F : Sets)
         → StateItemsIn b F (now (rules .entry)) count (now (kernels .entry)) (now (starts .entry)) states (now (nulls .entry)) (now (firsts .entry))
         → ClosuresIn b F (now (closures .exit))) ⌝ }

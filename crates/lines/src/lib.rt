@@ -47,7 +47,7 @@ pub fn opening(t: &[u8; 256], text: &[u8], at: usize, word: u32) -> usize
 }
 
 // Four bytes as one number, which compilers load as one.
-fn four(a: u8, b: u8, c: u8, d: u8) -> u32
+pub fn four(a: u8, b: u8, c: u8, d: u8) -> u32
     ensures { λ r. ⌜ Four r a b c d ⌝ }
 {
     (a as u32) + 256 * ((b as u32) + 256 * ((c as u32) + 256 * (d as u32)))

@@ -18,11 +18,11 @@ use Rattle.machine.specs.declared.moves.Moved.{Moved}
 use Rattle.machine.specs.declared.moves.Moved.the-variants.{On, Stopped}
 use Rattle.machine.specs.declared.run.Outcome.{Outcome}
 use Rattle.stack.specs.declared.top.Top.{Top}
-use Rattle.machine.specs.Moving.{Rooms, Poised, Accepts, Told, told-on, told-accepted, told-refused}
+use Rattle.machine.specs.Moving.{Rooms, Poised, Told, told-on, told-accepted, told-refused}
 use Rattle.machine.specs.Running.{RunIn, MovesIn, Facing, facing-of, TopLow, top-low, rows-count}
 use Rattle.machine.specs.Setting.{TopAsked, TopSet, config-asked, config-set, config-cell}
 use Rattle.stack.specs.Path.{bottom}
-use Rattle.stack.specs.Standing.{Message, ConfigIn, stands, framesOf, rowsOf, GoesOn}
+use Rattle.stack.specs.Standing.{Message, ConfigIn, stands, framesOf, GoesOn}
 
 -- what a run answers: the refusal and no row, or 0, the rows' count and the rows
 abbrev pub Answered : Answer → Outcome → List ℕ → Type 0
@@ -175,15 +175,15 @@ module _ {b : Book} {ks : List Token} {rules : List ℕ} {count : ℕ} {definiti
         run-stepped = stepped U (cell-set .plans-in) (moved b ks (U .at) run-moves run-poised (run-facing value-is))
 
 -- the arrays as they are lent, after a step
-pub record RoomsLeft (states inherited synthesized starts rows sets counts lists : List ℕ) : Type 0 where
+pub record RoomsLeft (room : ℕ) (states inherited synthesized starts rows sets counts lists : List ℕ) : Type 0 where
   pub rooms : Rooms states inherited synthesized starts rows sets
   pub counts-long : length counts ≡ 4096
-  pub lists-long : length lists ≡ 65536
+  pub lists-long : length lists ≡ room
 
-pub rooms-kept : {states inherited synthesized starts rows sets counts lists states′ inherited′ synthesized′ starts′ rows′ sets′ counts′ lists′ : List ℕ}
-    → RoomsLeft states inherited synthesized starts rows sets counts lists → length states′ ≡ length states → length inherited′ ≡ length inherited
+pub rooms-kept : {room : ℕ} {states inherited synthesized starts rows sets counts lists states′ inherited′ synthesized′ starts′ rows′ sets′ counts′ lists′ : List ℕ}
+    → RoomsLeft room states inherited synthesized starts rows sets counts lists → length states′ ≡ length states → length inherited′ ≡ length inherited
     → length synthesized′ ≡ length synthesized → length starts′ ≡ length starts → length rows′ ≡ length rows → length sets′ ≡ length sets
-    → length counts′ ≡ length counts → length lists′ ≡ length lists → RoomsLeft states′ inherited′ synthesized′ starts′ rows′ sets′ counts′ lists′
+    → length counts′ ≡ length counts → length lists′ ≡ length lists → RoomsLeft room states′ inherited′ synthesized′ starts′ rows′ sets′ counts′ lists′
 rooms-kept R a b c d e f g h = record {
   rooms = record {
     stacks = record {

@@ -27,7 +27,8 @@ pub record Shifts (b : Book) (c : Config) (state kind value : ℕ) : Type 0 wher
   pub value-is : value ≡ valueOf c
 
 -- the numbers of a shift are small
-pub record ShiftLow (top : Top) (state kind : ℕ) : Type 0 where
+pub record ShiftLow (b : Book) (top : Top) (state kind : ℕ) : Type 0 where
+  pub state-there : state < b .states
   pub state-low : state < 128
   pub kind-low : kind < 32
   pub position-low : top .position < 255
@@ -35,12 +36,13 @@ pub record ShiftLow (top : Top) (state kind : ℕ) : Type 0 where
 
 low-of : {b : Book} {ks : List Token} {c : Config} {rules definitions table states inherited synthesized starts rows : List ℕ} {top : Top} {state kind : ℕ}
     → BookIn b rules definitions table → length ks ≤ MAX-TOKENS → ConfigIn b ks states inherited synthesized starts rows top c → actionOf b c ≡ some shift
-    → state ≡ stateOf c → kind ≡ kindOf c → ShiftLow top state kind
+    → state ≡ stateOf c → kind ≡ kindOf c → ShiftLow b top state kind
 low-of B few (stands {S = S} {z = []} C) e s k = let g = shift-goes (B .spelled) (B .sound) S 0 e in absurd (omega (arith, g .low))
 low-of {b} {ks} B few (stands {S = S} {p = p} {z = x ∷ z} C) e s k =
     let g = shift-goes (B .spelled) (B .sound) S (x .kind) e in
     let there : S < b .states = state-low B (C .path) in
     record {
+      state-there = omega arith;
       state-low = omega (arith, B .sound .limits .states-limit .high);
       kind-low = omega (arith, g .high, B .sound .limits .terminals-limit .high);
       position-low = omega (arith, C .position-is, ap length (C .left-is), length-drop p ks);
@@ -50,7 +52,7 @@ low-of {b} {ks} B few (stands {S = S} {p = p} {z = x ∷ z} C) e s k =
 module _ {b : Book} {ks : List Token} {c : Config} {rules definitions table states inherited synthesized starts rows : List ℕ} {top : Top}
     {state kind value : ℕ} (B : BookIn b rules definitions table) (H : Poised b ks c states inherited synthesized starts rows top)
     (X : Shifts b c state kind value) where
-  pub shift-low : ShiftLow top state kind
+  pub shift-low : ShiftLow b top state kind
   shift-low = low-of B (H .message .few) (H .config-in) (X .action-is) (X .state-is) (X .kind-is)
 
   pub shift-told : {states′ synthesized′ starts′ rows′ : List ℕ} {target : ℕ} {next : Top} → Stacks states synthesized starts rows → top .rows ≢ 512

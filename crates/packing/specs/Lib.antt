@@ -1,3 +1,4 @@
+pub mod FrontLaws
 pub mod LowWords
 pub mod PackingLoops
 pub mod PlacedLaws

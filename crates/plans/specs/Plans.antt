@@ -26,7 +26,7 @@ pub record PlanAt (lines counts lists : List ℕ) (place : ℕ) : Type 0 where
 -- the memory
 pub record PlansIn (b : Book) (counts lists : List ℕ) : Type 0 where
   pub counts-long : length counts ≡ 4096
-  pub lists-long : length lists ≡ 65536
+  pub lists-long : 512 * b .states ≤ length lists
   pub plan-at : (S a : ℕ) → S < b .states → a < 32 → (getD counts (32 * S + a) 0 ≡ 0 → ⊥) → PlanAt (planOf b S a) counts lists (32 * S + a)
 
 -- the plans of the first n partial states of state S are known to have no lines, and the other counts are as they were

@@ -50,7 +50,7 @@ plan-sets-cell {b} spelled s S a =
 -- The memory
 
 -- nothing is worked out
-pub plans-none : (b : Book) {counts lists : List ℕ} → counts ≡ replicate 4096 0 → length lists ≡ 65536 → b .states ≤ 128 → PlansIn b counts lists
+pub plans-none : (b : Book) {counts lists : List ℕ} → counts ≡ replicate 4096 0 → 512 * b .states ≤ length lists → b .states ≤ 128 → PlansIn b counts lists
 plans-none b {counts} {lists} e l few = record {
   counts-long = ap (length {A = ℕ}) e ∙ length-replicate {A = ℕ} 4096 0;
   lists-long = l;
@@ -87,7 +87,7 @@ module _ {b : Book} {counts lists new : List ℕ} (M : PlansIn b counts lists) (
   pub plans-more : PlansIn b (set counts place (n + 1)) new
   plans-more = record {
     counts-long = length-set counts place (n + 1) ∙ M .counts-long;
-    lists-long = E .long ∙ M .lists-long;
+    lists-long = omega (arith, E .long, M .lists-long);
     plan-at = λ S′ a′ s′ low′ k. by S′ a′ s′ low′ k (ℕ-discrete (32 * S′ + a′) place);
   }
     where

@@ -53,6 +53,9 @@ module _ {b : Book} {ks : List Token} {c : Config} {rules definitions table firs
     pub left-state : getD states (top .depth - n) 0 < 128
     left-state = rw same-size (left-ready .state-low)
 
+    pub left-state-there : getD states (top .depth - n) 0 < b .states
+    left-state-there = rw same-size (left-ready .state-there)
+
     pub left-asked : NodeAsked b definitions firsts P n
     left-asked = rw size-is (left-ready .asked)
 

@@ -64,6 +64,7 @@ pub record LineOf (b : Book) (definitions : List ℕ) (P size line : ℕ) : Type
   pub asked : Asked definitions line size (synthesizedAt (b .synthesizedDefinitions) number .expression)
   pub expression-is : synthesizedExpr b P (getD definitions (49 * line + 2) 0) ≡ synthesizedAt (b .synthesizedDefinitions) number .expression
   pub low : line < 128
+  pub inside : 49 * line + 49 ≤ length definitions
 
 -- a line's place among the definitions
 module _ {b : Book} {definitions firsts : List ℕ} {P size : ℕ} (A : NodeAsked b definitions firsts P size) where
@@ -109,6 +110,7 @@ module _ {b : Book} {definitions firsts : List ℕ} {P size : ℕ} (A : NodeAske
         asked = rw (e, ← size-is) (synthesized-asked (A .definitions-in) (A .limits) (A .declared) i there);
         expression-is = rw (attribute-is, ← rule-is) (synthesized-expression (A .ordered) i there);
         low = omega (arith, next .within, A .definitions-in .fits);
+        inside = omega (arith, next .within, A .definitions-in .long);
       }
 
   pub line-of : (line : ℕ) → getD firsts P 0 ≤ line → line < getD firsts (P + 1) 0 → LineOf b definitions P size line

@@ -217,6 +217,7 @@ module _ {b : Book} {rules definitions table firsts down up : List ℕ} (B : Boo
     pub deep : size ≤ top .depth
     pub depth-low : top .depth ≤ 128
     pub position-low : top .position ≤ length ks
+    pub state-there : getD states (top .depth - size) 0 < b .states
     pub state-low : getD states (top .depth - size) 0 < 128
     pub asked : NodeAsked b definitions firsts P (getD rules (10 * P + 1) 0)
 
@@ -238,6 +239,7 @@ module _ {b : Book} {rules definitions table firsts down up : List ℕ} (B : Boo
           deep = omega (arith, reduce-deep C e s, C .depth-is);
           depth-low = omega (arith, C .depth-is, C .depth-low);
           position-low = omega (arith, C .position-is, C .position-low);
+          state-there = omega (arith, state-low B (path-off C e s));
           state-low = omega (arith, state-low B (path-off C e s), B .sound .limits .states-limit .high);
           asked = record {
             ordered = B .spelled .ordered;

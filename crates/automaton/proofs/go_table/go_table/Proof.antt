@@ -1,13 +1,15 @@
 -- `go_table::go_table` meets its contract: before each turn the lines from i on are in the table. Assumes nothing.
-use Prim.Native.Nat.{_-_}
+use Prim.Native.Nat.{_*_, _-_, _<_}
 use native.Mathlib.Omega.{arith}
-use Rattle.automaton.specs.GoTable.{LineLow, line-low, Filled, filled-none, filled-more, filled-all}
+use mathlib.Core.Path.{_≡_, refl}
+use lib.ListN.{length, getD, length-set}
+use Rattle.automaton.specs.GoTable.{LineLow, line-low, line-state, Filled, filled-none, filled-more, filled-all}
 use borrow.Author.Needs.{needs}
 use Rattle.automaton.proofs.go_table.go_table.Statement.{statement}
 use Rattle.automaton.proofs.go_table.go_table.Tie as tie
 
 abbrev Inv-loop : tie.InvT-loop
-Inv-loop goes count states table₀ i₀ table i = Filled goes count states i table
+Inv-loop goes count states table₀ i₀ table i = (length table ≡ length table₀) × Filled goes count states i table
 
 abbrev μ-loop : tie.MeasureT-loop
 μ-loop goes count states table₀ i₀ table i = i
@@ -16,20 +18,27 @@ abbrev μ-loop : tie.MeasureT-loop
 low : (c : tie.In-loop Inv-loop μ-loop) → LineLow (c .before .before .before .before .before .before .before .before .args .goes .now) (c .before .loop .i - 1)
 low c =
     let start = c .before .before .before .before .before .before .before .before in
-    line-low (start .pre .1 .1) (c .before .loop .i - 1) (omega (arith, c .before .loop .inv .within))
+    line-low (start .pre .1 .1) (c .before .loop .i - 1) (omega (arith, c .before .loop .inv .1 .within))
+
+there : (c : tie.In-loop Inv-loop μ-loop)
+    → getD (c .before .before .before .before .before .before .before .before .args .goes .now) (3 * (c .before .loop .i - 1)) 0
+    < c .before .before .before .before .before .before .before .before .args .states
+there c =
+    let start = c .before .before .before .before .before .before .before .before in
+    line-state (start .pre .1 .1) (c .before .loop .i - 1) (omega (arith, c .before .loop .inv .1 .within))
 
 mul-fill : tie.Need-mul-fill Inv-loop μ-loop
 mul-fill c = omega (arith, c .before .before .before .pre .1 .1 .states-is, c .before .before .before .pre .1 .1 .limits .states-limit .high)
 
 fill-requires : tie.Need-fill-requires Inv-loop μ-loop
-fill-requires c κs = omega (arith, c .before .before .before .pre .1 .1 .states-is, c .before .before .before .pre .1 .1 .limits .states-limit .high)
+fill-requires c κs = c .before .before .before .pre .0
 
 loop-holds : tie.Need-loop-holds Inv-loop μ-loop
 loop-holds c =
-    let s = c .before .before .before .before .before .before in
-    rw (c .before .before .fill .ensures)
-    (filled-none (s .args .goes .now) (s .args .table .now) (s .args .count) (s .args .states) (s .pre .0)
-    (omega (arith, s .pre .0, s .pre .1 .1 .states-is, s .pre .1 .1 .limits .states-limit .high)))
+    let s = c .before .before .before .before .before .before in (
+      refl,
+      rw (c .before .before .fill .ensures) (filled-none (s .args .goes .now) (s .args .table .now) (s .args .count) (s .args .states) (s .pre .0)),
+    )
 
 sub-i : tie.Need-sub-i Inv-loop μ-loop
 sub-i c = search needs
@@ -68,21 +77,23 @@ cast-table : tie.Need-cast-table Inv-loop μ-loop
 cast-table c = omega (arith, low (c .before .before .before) .target-low)
 
 slice-write-table : tie.Need-slice-write-table Inv-loop μ-loop
-slice-write-table c = omega (arith, low (c .before .before .before), c .before .before .before .before .loop .inv .long)
+slice-write-table c = omega (arith, low (c .before .before .before), there (c .before .before .before), c .before .before .before .before .loop .inv .1 .long)
 
 loop-less : tie.Need-loop-less Inv-loop μ-loop
 loop-less c = search needs
 
 loop-again : tie.Need-loop-again Inv-loop μ-loop
-loop-again c =
-    rw (c .before .before .word .ensures, c .before .word2 .ensures, c .word3 .ensures)
-    (filled-more (c .before .before .before .before .loop .inv) (c .before .before .before .loop-test .taken))
+loop-again c = (
+  simp length-set (c .before .before .before .before .loop .inv .0),
+  rw (c .before .before .word .ensures, c .before .word2 .ensures, c .word3 .ensures)
+      (filled-more (c .before .before .before .before .loop .inv .1) (c .before .before .before .loop-test .taken)),
+)
 
 same-length : tie.Need-same-length Inv-loop μ-loop
-same-length c = omega (arith, c .before .loop .inv .long, c .before .before .before .before .before .before .before .before .pre .0)
+same-length c = search (needs, c .before .loop .inv .0)
 
 returns : tie.Need-returns Inv-loop μ-loop
-returns c = filled-all (c .before .loop .inv) (omega arith)
+returns c = filled-all (c .before .loop .inv .1) (omega arith)
 
 pub go-table-spec : {M : Type 1} → statement M
 go-table-spec =

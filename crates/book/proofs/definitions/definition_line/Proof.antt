@@ -1,3 +1,6 @@
+use mathlib.Core.Path.{_≡_}
+use lib.ListN.{length}
+use Rattle.book.specs.Expressions.{DEFINITION-WORDS}
 use Rattle.book.specs.DefinitionsLoop.{line-kept}
 use Rattle.book.specs.Definitions.{ascending}
 use borrow.Author.Needs.{needs}
@@ -13,9 +16,6 @@ slice-aggregate-words c = search needs
 words-requires : tie.Need-words-requires
 words-requires c κs = search needs
 
-cast-put-line : tie.Need-cast-put-line
-cast-put-line c = search needs
-
 add-put-line : tie.Need-add-put-line
 add-put-line c = search needs
 
@@ -23,7 +23,10 @@ slice-aggregate-put-line : tie.Need-slice-aggregate-put-line
 slice-aggregate-put-line c = search needs
 
 put-line-requires : tie.Need-put-line-requires
-put-line-requires c κs = search needs
+put-line-requires c κs =
+    let made = c .before .before .before .before .before in
+    let long : length (made .words .last .1 .1 .1 .1 .1 .0) ≡ DEFINITION-WORDS = search needs in
+    rw long (c .before .before .before .before .before .before .before .before .before .before .before .before .before .pre .4)
 
 ascends-requires : tie.Need-ascends-requires
 ascends-requires c κs = search needs
@@ -52,7 +55,6 @@ definition-line-spec =
     names-requires
     slice-aggregate-words
     words-requires
-    cast-put-line
     add-put-line
     slice-aggregate-put-line
     put-line-requires

@@ -9,17 +9,17 @@ use Rattle.book.proofs.definitions.definition_lines.Statement.{statemen
 use Rattle.book.proofs.definitions.definition_lines.Tie as tie
 
 abbrev Inv-loop : tie.InvT-loop
-Inv-loop t text at inherited word head first waits₀ out₀ n p₀ k₀ last₀ waits out p k last =
-    (length waits ≡ length waits₀) × Defining inherited first text (definitions inherited (rest text at)) out₀ (keyOf last) k p out
+Inv-loop t text at inherited word head first waits₀ room out₀ n p₀ k₀ last₀ waits out p k last =
+    (length waits ≡ length waits₀) × Defining inherited room first text (definitions inherited (rest text at)) out₀ (keyOf last) k p out
 
 abbrev μ-loop : tie.MeasureT-loop
-μ-loop t text at inherited word head first waits₀ out₀ n p₀ k₀ last₀ waits out p k last = size (rest text p)
+μ-loop t text at inherited word head first waits₀ room out₀ n p₀ k₀ last₀ waits out p k last = size (rest text p)
 
 none-requires : tie.Need-none-requires Inv-loop μ-loop
 none-requires c κs = search needs
 
 loop-holds : tie.Need-loop-holds Inv-loop μ-loop
-loop-holds c = (search needs, defining-start _ _ _ _ _ _)
+loop-holds c = (search needs, defining-start _ _ _ _ _ _ _)
 
 line-head-requires : tie.Need-line-head-requires Inv-loop μ-loop
 line-head-requires c κs = search needs
@@ -34,7 +34,7 @@ returns : tie.Need-returns Inv-loop μ-loop
 returns c =
     let head = c .before in
     let start = head .before .before .before .before .before .before .before in
-    defining-done _ _ _ (head .before .loop .inv .1) (rw (start .pre .1) at (head .line-head .ensures)) (c .if1 .taken)
+    defining-done _ _ _ _ (head .before .loop .inv .1) (rw (start .pre .1) at (head .line-head .ensures)) (c .if1 .taken)
 
 definition-line-requires : tie.Need-definition-line-requires Inv-loop μ-loop
 definition-line-requires c κs = search needs
@@ -48,7 +48,7 @@ loop-less c =
     let found = line .before .before .before in
     let head = found .before in
     let start = head .before .before .before .before .before .before .before in
-    defining-less _ _ _ (head .before .loop .inv .1) (rw (start .pre .1) at (head .line-head .ensures)) (found .if1 .left) (line .definition-line .ensures)
+    defining-less _ _ _ _ (head .before .loop .inv .1) (rw (start .pre .1) at (head .line-head .ensures)) (found .if1 .left) (line .definition-line .ensures)
 
 loop-again : tie.Need-loop-again Inv-loop μ-loop
 unfolding ascending
@@ -58,7 +58,7 @@ loop-again c =
     let head = found .before in
     let start = head .before .before .before .before .before .before .before in (
       search (needs, line .definition-line .kept .1 .1 .1),
-      defining-turn _ _ _ (head .before .loop .inv .1) (rw (start .pre .1) at (head .line-head .ensures)) (found .if1 .left) (line .definition-line .ensures),
+      defining-turn _ _ _ _ (head .before .loop .inv .1) (rw (start .pre .1) at (head .line-head .ensures)) (found .if1 .left) (line .definition-line .ensures),
     )
 
 pub definition-lines-spec : {M : Type 1} → statement M

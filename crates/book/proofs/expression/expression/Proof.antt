@@ -5,12 +5,13 @@ use native.Mathlib.Omega.{arith}
 use lib.ListN.{length, length-set}
 use Rattle.text.specs.Rest.{rest, size}
 use Rattle.grammar.specs.Format.Expression.{scan, expressionSteps}
-use Rattle.book.specs.Expressions.{DEFINITION-WORDS}
+use Rattle.book.specs.Expressions.{DEFINITION-WORDS, WaitsRoom}
 use Rattle.book.specs.ExpressionsLoop.{
   Working,
   working-start,
   begun-shorter,
   mark-shorter,
+  open-low,
   open-fits,
   working-open,
   working-whole,
@@ -31,6 +32,11 @@ Inv-loop t text at waits₀ line₀ depth₀ due₀ p₀ count₀ waits line dep
 abbrev μ-loop : tie.MeasureT-loop
 μ-loop t text at waits₀ line₀ depth₀ due₀ p₀ count₀ waits line depth due p count = size (rest text p)
 
+-- in each turn the stack has its room
+waits-room : (c : tie.In-loop Inv-loop μ-loop)
+    → WaitsRoom (c .before .before .before .before .before .args .text .now) (c .before .loop .waits)
+waits-room c = omega (arith, c .before .loop .inv .0, c .before .before .before .before .before .pre .1)
+
 loop-holds : tie.Need-loop-holds Inv-loop μ-loop
 loop-holds c = (search needs, search needs, working-start _ _ _ _)
 
@@ -41,15 +47,14 @@ slice-write-waits : tie.Need-slice-write-waits Inv-loop μ-loop
 slice-write-waits c =
     let begins = c .before in
     let turn = begins .before .before in
-    let start = turn .before .before .before .before .before in
-    omega (arith, open-fits (turn .before .loop .inv .2) (turn .loop-test .taken) (begins .begun .ensures) (c .if2 .taken) (start .pre .0 .short))
+    open-fits (turn .before .loop .inv .2) (turn .loop-test .taken) (begins .begun .ensures) (c .if2 .taken) (waits-room turn)
 
 add-depth : tie.Need-add-depth Inv-loop μ-loop
 add-depth c =
     let begins = c .before in
     let turn = begins .before .before in
     let start = turn .before .before .before .before .before in
-    omega (arith, open-fits (turn .before .loop .inv .2) (turn .loop-test .taken) (begins .begun .ensures) (c .if2 .taken) (start .pre .0 .short))
+    omega (arith, open-low (turn .before .loop .inv .2) (turn .loop-test .taken) (begins .begun .ensures) (c .if2 .taken), start .pre .0 .short)
 
 loop-less : tie.Need-loop-less Inv-loop μ-loop
 loop-less c =
@@ -65,7 +70,7 @@ loop-again c =
     let start = turn .before .before .before .before .before in (
       simp length-set (inv .0),
       inv .1,
-      working-open (inv .2) (turn .loop-test .taken) (begins .begun .ensures) (c .if2 .taken) (omega arith) (start .pre .0 .short) (begins .before .if1 .taken),
+      working-open (inv .2) (turn .loop-test .taken) (begins .begun .ensures) (c .if2 .taken) (waits-room turn) (begins .before .if1 .taken),
     )
 
 put-node-requires : tie.Need-put-node-requires Inv-loop μ-loop
@@ -159,7 +164,7 @@ loop-again-4 c =
     let start = turn .before .before .before .before .before in (
       simp length-set (inv .0),
       inv .1,
-      working-space (inv .2) (turn .loop-test .taken) (c .before .before .before .before .if1 .left) (omega arith) refl (omega arith) (start .pre .0 .short)
+      working-space (inv .2) (turn .loop-test .taken) (c .before .before .before .before .if1 .left) (omega arith) refl (waits-room turn)
           (c .before .if4 .left) (c .mark2 .ensures),
     )
 

@@ -18,9 +18,6 @@ require-requires c κs = search needs
 code-of-requires : tie.Need-code-of-requires
 code-of-requires c κs = search needs
 
-cast-put-line : tie.Need-cast-put-line
-cast-put-line c = search needs
-
 slice-aggregate-put-line : tie.Need-slice-aggregate-put-line
 slice-aggregate-put-line c = search needs
 
@@ -48,7 +45,6 @@ go-line-spec =
     ascends-requires
     require-requires
     code-of-requires
-    cast-put-line
     slice-aggregate-put-line
     put-line-requires
     same-length

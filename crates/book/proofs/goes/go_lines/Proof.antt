@@ -1,6 +1,5 @@
 use Rattle.text.specs.Rest.{rest, size}
 use Rattle.text.specs.Numeral.{wordOf, spelled}
-use Rattle.grammar.specs.Limits.{MAX-GOES}
 use Rattle.grammar.specs.Format.Ordered.{goKey}
 use Rattle.grammar.specs.Format.Reader.{opening}
 use Rattle.grammar.specs.Format.Parse.{goLine, goLines}
@@ -14,12 +13,12 @@ use Rattle.book.proofs.goes.go_lines.Statement.{statement}
 use Rattle.book.proofs.goes.go_lines.Tie as tie
 
 abbrev Inv-loop : tie.InvT-loop
-Inv-loop t text at out₀ n head p₀ k₀ last₀ out p k last =
-    Filling (opening (wordOf "go")) goLine (λ before. goKey) goWords MAX-GOES
+Inv-loop t text at room out₀ n head p₀ k₀ last₀ out p k last =
+    Filling (opening (wordOf "go")) goLine (λ before. goKey) goWords room
     text (goLines (rest text at)) out₀ (lastKey k (keyOf last)) k p out
 
 abbrev μ-loop : tie.MeasureT-loop
-μ-loop t text at out₀ n head p₀ k₀ last₀ out p k last = size (rest text p)
+μ-loop t text at room out₀ n head p₀ k₀ last₀ out p k last = size (rest text p)
 
 slice-aggregate-head : tie.Need-slice-aggregate-head Inv-loop μ-loop
 slice-aggregate-head c = search needs

@@ -22,9 +22,6 @@ ascends-requires c κs = search needs
 require-requires-2 : tie.Need-require-requires-2
 require-requires-2 c κs = c .before .before .before .before .before .before .before .before .pre .0 .short
 
-cast-put-line : tie.Need-cast-put-line
-cast-put-line c = search needs
-
 slice-aggregate-put-line : tie.Need-slice-aggregate-put-line
 slice-aggregate-put-line c = search needs
 
@@ -65,7 +62,6 @@ kernel-line-spec =
     closing-requires
     ascends-requires
     require-requires-2
-    cast-put-line
     slice-aggregate-put-line
     put-line-requires
     known-after-requires

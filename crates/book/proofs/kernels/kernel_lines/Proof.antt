@@ -1,6 +1,5 @@
 use Rattle.text.specs.Rest.{rest, size}
 use Rattle.text.specs.Numeral.{wordOf, spelled}
-use Rattle.grammar.specs.Limits.{MAX-KERNELS}
 use Rattle.grammar.specs.Format.Ordered.{kernelKey}
 use Rattle.grammar.specs.Format.Reader.{opening}
 use Rattle.grammar.specs.Format.Parse.{kernelLine, kernelLines}
@@ -15,12 +14,12 @@ use Rattle.book.proofs.kernels.kernel_lines.Statement.{statement}
 use Rattle.book.proofs.kernels.kernel_lines.Tie as tie
 
 abbrev Inv-loop : tie.InvT-loop
-Inv-loop t text at out₀ n head p₀ k₀ last₀ known₀ out p k last known =
-    Filling (opening (wordOf "kernel")) kernelLine (λ before. kernelKey) kernelWords MAX-KERNELS
+Inv-loop t text at room out₀ n head p₀ k₀ last₀ known₀ out p k last known =
+    Filling (opening (wordOf "kernel")) kernelLine (λ before. kernelKey) kernelWords room
     text (kernelLines (rest text at)) out₀ (lastKey k (keyOf last)) k p out × KnownIn text known
 
 abbrev μ-loop : tie.MeasureT-loop
-μ-loop t text at out₀ n head p₀ k₀ last₀ known₀ out p k last known = size (rest text p)
+μ-loop t text at room out₀ n head p₀ k₀ last₀ known₀ out p k last known = size (rest text p)
 
 slice-aggregate-head : tie.Need-slice-aggregate-head Inv-loop μ-loop
 slice-aggregate-head c = search needs

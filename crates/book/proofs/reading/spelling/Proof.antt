@@ -35,7 +35,10 @@ same-length : tie.Need-same-length
 same-length c = search needs
 
 same-length-2 : tie.Need-same-length-2
-same-length-2 c = search needs
+same-length-2 c =
+    let items = c .before .before .before .before .before .before .before in
+    let defined = items .before .before .before .before .before .before in
+    search (needs, defined .before .before .before .before .before .before .before .before .before .declarations)
 
 same-length-3 : tie.Need-same-length-3
 same-length-3 c = search needs
@@ -58,7 +61,7 @@ returns c =
     let items = moves .before .before .before .before in
     let defined = items .before .before .before .before .before .before in
     let declared = defined .before .before .before .before .before .before .before .before .before in
-    spelling-steps _ (declared .declarations .ensures) (defined .definition-sections .ensures) (items .kernel-lines .ensures) (moves .go-lines .ensures)
+    spelling-steps _ _ (declared .declarations .ensures) (defined .definition-sections .ensures) (items .kernel-lines .ensures) (moves .go-lines .ensures)
     (c .end-line .ensures)
 
 pub spelling-spec : {M : Type 1} → statement M

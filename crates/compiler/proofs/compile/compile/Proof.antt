@@ -1,6 +1,8 @@
 -- `compile::compile` meets its contract: a text that is spelled right has a book, and that is checked. Assumes nothing.
 use borrow.Author.Tests.{not-true, not-false}
-use Rattle.compiler.specs.Compiling.{compiles-misspelt, compiles-checked, read-some}
+use Rattle.grammar.specs.Automaton.TestLaws.{both-true}
+use Rattle.compiler.specs.States.{tables-room}
+use Rattle.compiler.specs.Compiling.{compiles-unread, compiles-checked, read-some}
 use borrow.Author.Needs.{needs}
 use Rattle.compiler.proofs.compile.compile.Statement.{statement}
 use Rattle.compiler.proofs.compile.compile.Tie as tie
@@ -13,11 +15,11 @@ lent-at c = c .before .before .before .before .before .before .before .before
 abbrev start : tie.After-spelling → tie.Start
 start c = lent-at c .before .before .before .before .before .before .before .before .before .before .before .before .before .before .before .before
 
-abbrev read-of : tie.After-struct-known → tie.After-spelling
+abbrev read-of : tie.After-complete → tie.After-spelling
 read-of c = c .before .before .before .before .before .before .before .before .before .before .before .before .before .before .before .before
 
 abbrev spelling-at : tie.Else1 → tie.After-spelling
-spelling-at c = read-of (c .before)
+spelling-at c = read-of (c .before .before)
 
 abbrev read-at : tie.After-check → tie.Else1
 read-at c = c .before .before .before .before .before .before .before .before .before .before .before .before .before .before .before
@@ -27,6 +29,9 @@ check-at c = c .before .before .before .before .before .before .before .before .
 
 spelling-requires : tie.Need-spelling-requires
 spelling-requires c κs = search needs
+
+complete-requires : tie.Need-complete-requires
+complete-requires c κs = search needs
 
 same-length : tie.Need-same-length
 same-length c = search needs
@@ -50,30 +55,33 @@ same-length-7 : tie.Need-same-length-7
 same-length-7 c = search needs
 
 returns : tie.Need-returns
-returns c = compiles-misspelt (read-of (c .before) .spelling .ensures) (not-true _ (c .if1 .taken))
+returns c = let w = c .before .before .before in
+    compiles-unread _ (read-of w .spelling .ensures) (w .complete .ensures) (not-true _ (c .before .if1 .taken))
 
 check-requires : tie.Need-check-requires
 check-requires c κs = let e = c .before .before .before .before .before .before .before .before .before .before .before .before .before .before in
     let s = spelling-at e in
-    (read-some (s .spelling .ensures) (start s .pre .0 .2) (not-false _ (e .if1 .left)), start s .pre .1)
+    let (spelled, fits) = both-true _ _ (not-false _ (e .if1 .left)) in
+    let all = e .before .before .complete .ensures .sound fits in
+    (read-some _ (s .spelling .ensures) (start s .pre .0 .2) all spelled, (tables-room all (start s .pre .1 .0), start s .pre .1 .1))
 
 same-length-8 : tie.Need-same-length-8
 same-length-8 c = spelling-at (read-at (check-at c)) .spelling .kept .1 .1 .0
 
 same-length-9 : tie.Need-same-length-9
-same-length-9 c = spelling-at (read-at (check-at c)) .spelling .kept .1 .1 .1 .0
+same-length-9 c = spelling-at (read-at (check-at c)) .spelling .kept .1 .1 .1 .1 .0
 
 same-length-10 : tie.Need-same-length-10
-same-length-10 c = spelling-at (read-at (check-at c)) .spelling .kept .1 .1 .1 .1 .0
+same-length-10 c = spelling-at (read-at (check-at c)) .spelling .kept .1 .1 .1 .1 .1 .0
 
 same-length-11 : tie.Need-same-length-11
-same-length-11 c = spelling-at (read-at (check-at c)) .spelling .kept .1 .1 .1 .1 .1 .0
+same-length-11 c = spelling-at (read-at (check-at c)) .spelling .kept .1 .1 .1 .1 .1 .1 .0
 
 same-length-12 : tie.Need-same-length-12
-same-length-12 c = spelling-at (read-at (check-at c)) .spelling .kept .1 .1 .1 .1 .1 .1 .0
+same-length-12 c = spelling-at (read-at (check-at c)) .spelling .kept .1 .1 .1 .1 .1 .1 .1 .0
 
 same-length-13 : tie.Need-same-length-13
-same-length-13 c = search needs
+same-length-13 c = spelling-at (read-at (check-at c)) .spelling .kept .1 .1 .1 .1 .1 .1 .1 .1 .0
 
 same-length-14 : tie.Need-same-length-14
 same-length-14 c = search needs
@@ -106,13 +114,15 @@ returns-2 : tie.Need-returns-2
 returns-2 c = let k = check-at c in
     let e = read-at k in
     let s = spelling-at e in
-    compiles-checked (s .spelling .ensures) (start s .pre .0 .2) (not-false _ (e .if1 .left)) (k .check .ensures)
+    let (spelled, fits) = both-true _ _ (not-false _ (e .if1 .left)) in
+    compiles-checked _ (s .spelling .ensures) (start s .pre .0 .2) (e .before .before .complete .ensures .sound fits) spelled (k .check .ensures)
 
 pub compile-spec : {M : Type 1} → statement M
 compile-spec =
     tie.close
     (tie.spec
     spelling-requires
+    complete-requires
     same-length
     same-length-2
     same-length-3

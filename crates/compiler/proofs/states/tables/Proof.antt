@@ -1,10 +1,19 @@
 -- `states::tables` meets its contract: each step prepares what the next one asks, and the first that fails is told. Assumes nothing.
+use Prim.Native.Nat.{ℕ, _≤_}
+use mathlib.Core.List.{List}
+use native.Mathlib.Omega.{arith}
+use Rattle.grammar.specs.Limits.{MAX-STATES}
+use Rattle.grammar.specs.Data.Book.{Book}
 use borrow.Author.Needs.{needs}
 use borrow.Author.Tests.{not-true, not-false}
 use Rattle.grammar.specs.Automaton.FirstSets.{setsOf}
-use Rattle.compiler.specs.States.{held-closures, tabled-kernels, tabled-goes, tabled-acts, tabled-all}
+use Rattle.compiler.specs.States.{BookHeld, held-closures, tabled-kernels, tabled-goes, tabled-acts, tabled-all}
 use Rattle.compiler.proofs.states.tables.Statement.{statement}
 use Rattle.compiler.proofs.states.tables.Tie as tie
+
+few : {b : Book} {rules kernels goes : List ℕ} {count items lines terminals states : ℕ}
+    → BookHeld b rules count kernels items goes lines terminals states → states ≤ MAX-STATES
+few H = omega (arith, H .kernels-held .states-are, H .kernels-held .limits .states-limit .high)
 
 -- from each call back to the one before
 
@@ -36,7 +45,7 @@ fill-items-requires c κs =
     let (b, H) = start s .pre .0 in
     let room = start s .pre .1 in
     let (k, T) = s .kernel-states .ensures b (H .kernels-held) (H .kernels-counted) in
-    ((b, H .kernels-held, H .rules-counted, T), (room .vanishes-long, room .begins-long, room .reached-long, room .closures-none))
+    ((b, H .kernels-held, H .rules-counted, T), (room .vanishes-long, room .begins-long, room .reached-long, room .closures-blank (few H)))
 
 moves-requires : tie.Need-moves-requires
 moves-requires c κs =
@@ -44,7 +53,7 @@ moves-requires c κs =
     let (b, H) = start (kernels-at i) .pre .0 in
     let (k, T) = kernels-at i .kernel-states .ensures b (H .kernels-held) (H .kernels-counted) in
     let I = i .fill-items .ensures b (H .kernels-held) (H .rules-counted) T in
-    ((b, H .kernels-held, H .rules-counted, H .goes-in, H .goes-counted, T, I .closures-in), start (kernels-at i) .pre .1 .table-long)
+    ((b, H .kernels-held, H .rules-counted, H .goes-in, H .goes-counted, T, I .closures-in), start (kernels-at i) .pre .1 .table-long (few H))
 
 same-length-2 : tie.Need-same-length-2
 same-length-2 c = search needs

@@ -5,7 +5,7 @@ use native.Mathlib.Omega.{arith}
 use lib.ListN.{length, take, length-take, replicate}
 use borrow.Author.Tests.{not-true, not-false}
 use Rattle.grammar.specs.Limits.{MAX-TEXT}
-use Rattle.engine.specs.Rooms.{zeros, records-room, waits-room, lines-room, tables-room}
+use Rattle.engine.specs.Rooms.{zeros, records-room, waits-room, lines-room, tables-lent}
 use Rattle.conditions.specs.AskedLaws.{counted}
 use Rattle.engine.specs.Stored.{unfilled, found-none, found-book}
 use Rattle.engine.specs.Evaluations.{answers-none, answers-asked, answers-run}
@@ -18,8 +18,11 @@ use Rattle.engine.proofs.evaluating.number.Tie as tie
 abbrev text-at : tie.Else1 → tie.After-text-in
 text-at c = c .before .before .before
 
+abbrev full-at : tie.After-text3 → tie.After-full
+full-at c = c .before .before
+
 abbrev classes-at : tie.After-text3 → tie.After-classes
-classes-at c = c .before .before
+classes-at c = full-at c .before
 
 abbrev found-at : tie.After-text3 → tie.Else1
 found-at c = classes-at c .before
@@ -37,9 +40,9 @@ abbrev clear-at : tie.After-cells3 → tie.After-clear
 clear-at c = c .before .before .before .before .before .before .before .before .before .before .before .before .before .before .before
 
 -- the room after compiling
-records-long : (k : tie.After-compile) → length (take 4224 (k .compile .last .1 .1 .1 .1 .1 .1 .1 .1 .1 .1 .1 .1 .1 .1 .1 .1 .0)) ≡ 4224
+records-long : (k : tie.After-compile) → length (take 4224 (k .compile .last .1 .1 .1 .1 .1 .1 .1 .1 .1 .1 .1 .1 .1 .1 .1 .1 .1 .0)) ≡ 4224
 records-long k =
-    records-room (k .compile .last .1 .1 .1 .1 .1 .1 .1 .1 .1 .1 .1 .1 .1 .1 .1 .1 .0) (k .compile .kept .1 .1 .1 .1 .1 .1 .1 .1 .1 .1 .1 .1 .1 .1 .1 .1 .0)
+    records-room (k .compile .last .1 .1 .1 .1 .1 .1 .1 .1 .1 .1 .1 .1 .1 .1 .1 .1 .1 .0) (k .compile .kept .1 .1 .1 .1 .1 .1 .1 .1 .1 .1 .1 .1 .1 .1 .1 .1 .1 .0)
 
 slice-aggregate-text-in : tie.Need-slice-aggregate-text-in
 slice-aggregate-text-in c = search needs
@@ -52,6 +55,9 @@ returns c = answers-none _ _ _ (unfilled (c .before .before .before .text-in .en
 
 classes-requires : tie.Need-classes-requires
 classes-requires c κs = search needs
+
+full-requires : tie.Need-full-requires
+full-requires c κs = search needs
 
 array-share-prefix-text : tie.Need-array-share-prefix-text
 array-share-prefix-text c = search needs
@@ -110,13 +116,13 @@ compile-requires c κs = let t = c .before .before .before .before .before .befo
     let f = text-at (found-at t) .text-in in
     let short : length (take (f .result .count) (f .last .1 .0)) ≤ MAX-TEXT =
     omega (arith, length-take (f .result .count) (f .last .1 .0), f .ensures .within) in
-    ((record { table-is = classes-at t .classes .ensures; short = short }, waits-room, lines-room), (tables-room, zeros 7680))
+    ((record { table-is = classes-at t .classes .ensures; short = short }, waits-room (take (f .result .count) (f .last .1 .0)) short, lines-room (full-at t .full .ensures)), (tables-lent (full-at t .full .ensures), zeros 7680))
 
 returns-2 : tie.Need-returns-2
 returns-2 c =
     let k = c .before .before .before .before .before .before .before .before .before .before .before .before .before .before .before .before .before in
     let e = found-at (lent-at k) in
-    answers-none _ _ _ (found-none (text-at e .text-in .ensures) (not-false _ (e .if1 .left)) (k .compile .ensures) (c .if2 .taken))
+    answers-none _ _ _ (found-none (text-at e .text-in .ensures) (not-false _ (e .if1 .left)) (full-at (lent-at k) .full .ensures) (k .compile .ensures) (c .if2 .taken))
 
 asked-requires : tie.Need-asked-requires
 asked-requires c κs = search needs
@@ -125,7 +131,7 @@ returns-3 : tie.Need-returns-3
 returns-3 c = let f = c .before .before .before in
     let k = compile-at f in
     let e = found-at (lent-at k) in
-    let (b, q, t) = found-book (text-at e .text-in .ensures) (not-false _ (e .if1 .left)) (k .compile .ensures) (f .if2 .left) in
+    let (b, q, t) = found-book (text-at e .text-in .ensures) (not-false _ (e .if1 .left)) (full-at (lent-at k) .full .ensures) (k .compile .ensures) (f .if2 .left) in
     answers-asked _ _ _ b q (counted b (t .ready .numbers-are) .terminals-are) (c .before .asked .ensures) (c .if3 .taken)
 
 clear-requires : tie.Need-clear-requires
@@ -174,8 +180,8 @@ slice-aggregate-message-14 : tie.Need-slice-aggregate-message-14
 slice-aggregate-message-14 c = let k = text-at (found-at (lent-at (compile-at (book-at (clear-at (c .before) .before .before))))) in
     sym (k .text-in .kept .1 .0)
 
-array-borrow-prefix-room : tie.Need-array-borrow-prefix-room
-array-borrow-prefix-room c = search needs
+array-borrow-prefix-nodes : tie.Need-array-borrow-prefix-nodes
+array-borrow-prefix-nodes c = search needs
 
 slice-aggregate-message-15 : tie.Need-slice-aggregate-message-15
 slice-aggregate-message-15 c = let k = compile-at (book-at (clear-at (c .before .before) .before .before)) in
@@ -187,12 +193,17 @@ message-requires c κs = let r = clear-at (c .before .before .before) in
     let f = book-at a in
     let k = compile-at f in
     let e = found-at (lent-at k) in
-    let (b, q, t) = found-book (text-at e .text-in .ensures) (not-false _ (e .if1 .left)) (k .compile .ensures) (f .if2 .left) in (
+    let (b, q, t) = found-book (text-at e .text-in .ensures) (not-false _ (e .if1 .left)) (full-at (lent-at k) .full .ensures) (k .compile .ensures) (f .if2 .left) in (
       (b, t),
       (
         a .before .asked .ensures .passed (a .if3 .left),
         r .clear .ensures ∙ ap (λ n. replicate n 0) (a .before .asked .ensures .all-rows (a .if3 .left)),
-        text-at e .text-in .kept .1 .0,
+        omega (
+          arith,
+          text-at e .text-in .kept .1 .0,
+          t .ready .conditions-met .limits .states-limit .high,
+          counted b (t .ready .numbers-are) .states-are,
+        ),
         records-long k,
       ),
     )
@@ -207,7 +218,7 @@ returns-4 c = let m = c .before .before .before .before in
     let f = book-at a in
     let k = compile-at f in
     let e = found-at (lent-at k) in
-    let (b, q, t) = found-book (text-at e .text-in .ensures) (not-false _ (e .if1 .left)) (k .compile .ensures) (f .if2 .left) in
+    let (b, q, t) = found-book (text-at e .text-in .ensures) (not-false _ (e .if1 .left)) (full-at (lent-at k) .full .ensures) (k .compile .ensures) (f .if2 .left) in
     answers-run _ _ _ b q (counted b (t .ready .numbers-are) .terminals-are) (a .before .asked .ensures) (a .if3 .left)
     (m .message .ensures b t (a .before .asked .ensures .passed (a .if3 .left)))
 
@@ -219,6 +230,7 @@ number-spec =
     text-in-requires
     returns
     classes-requires
+    full-requires
     array-share-prefix-text
     slice-aggregate-compile
     slice-aggregate-compile-2
@@ -255,7 +267,7 @@ number-spec =
     slice-aggregate-message-12
     slice-aggregate-message-13
     slice-aggregate-message-14
-    array-borrow-prefix-room
+    array-borrow-prefix-nodes
     slice-aggregate-message-15
     message-requires
     same-length

@@ -1,22 +1,23 @@
 -- `items::closures::closures` meets its contract: the states below s have their closures, the words behind them are 0.
 -- Assumes nothing.
 use Prim.Native.Nat.{_-_}
-use native.Mathlib.Omega.{arith}
+use mathlib.Core.Path.{_≡_, refl}
+use lib.ListN.{length}
 use borrow.Author.Needs.{needs}
 use Rattle.items.specs.KernelLines.{state-words}
-use Rattle.items.specs.Closures.{Closed, all-long, closed-none, part-none, closed-more, closed-all}
+use Rattle.items.specs.Closures.{Closed, closed-none, part-none, closed-more, closed-all}
 use Rattle.items.proofs.closures.state_closures.Statement.{statement}
 use Rattle.items.proofs.closures.state_closures.Tie as tie
 
 abbrev Inv-loop : tie.InvT-loop
 Inv-loop rules count leads kernels starts states nulls firsts closures₀ s₀ closures s =
-    Closed rules count kernels starts states nulls firsts closures s
+    (length closures ≡ length closures₀) × Closed rules count kernels starts states nulls firsts closures s
 
 abbrev μ-loop : tie.MeasureT-loop
 μ-loop rules count leads kernels starts states nulls firsts closures₀ s₀ closures s = states - s
 
 loop-holds : tie.Need-loop-holds Inv-loop μ-loop
-loop-holds c = closed-none (c .before .before .before .before .before .before .before .pre .2)
+loop-holds c = (refl, closed-none (c .before .before .before .before .before .before .before .pre .2))
 
 word-requires : tie.Need-word-requires Inv-loop μ-loop
 word-requires c κs = search needs
@@ -52,7 +53,7 @@ closure-requires c κs =
     let h = c .before .before .before .loop-test .taken in
     let here = state-words (g .2 .starts-in) (loop .s) h (c .before .before .word .ensures) (c .before .word2 .ensures) in
     let leads = c .before .before .before .before .before .before .before .before .before .before .before .before .pre .1 in
-    ((g .0, g .1, g .2 .items-in, g .2 .counted, here .within), leads, part-none (loop .inv) h (g .2 .few))
+    ((g .0, g .1, g .2 .items-in, g .2 .counted, here .within), leads, part-none (loop .inv .1) h (g .2 .few))
 
 add-s : tie.Need-add-s Inv-loop μ-loop
 add-s c = search needs
@@ -64,17 +65,19 @@ loop-again : tie.Need-loop-again Inv-loop μ-loop
 loop-again c =
     let g = c .before .before .before .before .before .before .before .before .before .before .before .before .before .before .before .pre .0 in
     let loop = c .before .before .before .before .before .before .before .loop in
-    let h = c .before .before .before .before .before .before .loop-test .taken in
-    closed-more (loop .inv) _
-    (λ b F H. c .before .before .closure .ensures b F (loop .s) (H .items-in) (H .counted)
-    (state-words (H .starts-in) (loop .s) h (c .before .before .before .before .before .word .ensures) (c .before .before .before .before .word2 .ensures)))
-    h (g .2 .few) (search needs)
+    let h = c .before .before .before .before .before .before .loop-test .taken in (
+      search (needs, loop .inv .0),
+      closed-more (loop .inv .1) _
+          (λ b F H. c .before .before .closure .ensures b F (loop .s) (H .items-in) (H .counted)
+          (state-words (H .starts-in) (loop .s) h (c .before .before .before .before .before .word .ensures) (c .before .before .before .before .word2 .ensures)))
+          h (g .2 .few) (search needs),
+    )
 
 same-length : tie.Need-same-length Inv-loop μ-loop
-same-length c = omega (arith, c .before .loop .inv .long, all-long (c .before .before .before .before .before .before .before .before .before .pre .2))
+same-length c = c .before .loop .inv .0
 
 returns : tie.Need-returns Inv-loop μ-loop
-returns c = λ b F H. closed-all (c .before .loop .inv) (c .loop-test .left) b F H
+returns c = λ b F H. closed-all (c .before .loop .inv .1) (c .loop-test .left) b F H
 
 pub state-closures-spec : {M : Type 1} → statement M
 state-closures-spec =

@@ -20,7 +20,7 @@ abbrev tests-at : tie.After-push-token → tie.Else2
 tests-at c = c .before .before .before .before .before .before
 
 -- the numbers are small
-low : (c : tie.Start) → ShiftLow (c .args .top) (c .args .state) (c .args .kind)
+low : (c : tie.Start) → ShiftLow (c .pre .1 .0) (c .args .top) (c .args .state) (c .args .kind)
 low c = let s = c .pre .1 in shift-low (s .6) (s .7) (s .8)
 
 returns : tie.Need-returns
@@ -40,7 +40,7 @@ shared-slice-read-target : tie.Need-shared-slice-read-target
 shared-slice-read-target c =
     let s = start (c .before) in
     let l = low s in
-    omega (arith, l .state-low, l .kind-low, s .pre .1 .6 .table-in .long)
+    omega (arith, l .state-there, l .kind-low, s .pre .1 .6 .table-in .long)
 
 cast-target : tie.Need-cast-target
 cast-target c =

@@ -37,7 +37,7 @@ set-cell-requires c κs =
     let (room, height, kind, sets) = s .pre .0 in
     let (b, states, starts, st, A, l, H, M) = s .pre .1 in
     let (memory, row) = q .planned .ensures b H l M in (
-      (room, height, omega (arith, memory .lists-long, state-low s, kind, top-short A (s .args .kind) row)),
+      (room, height, omega (arith, memory .lists-long, l, kind, top-short A (s .args .kind) row)),
       (b, _, top-asked A (s .args .kind) row),
     )
 

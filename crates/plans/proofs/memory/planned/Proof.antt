@@ -120,7 +120,7 @@ plan-requires c κs =
     let marks = m .masks .ensures b (H .firsts) _ (F .marks-held) (plans-check H (entry (asked m) .pre .2)) (F .definitions-counted) l in (
       (b, plans-check H (marks .long), F .definitions-counted),
       omega (arith, s .pre .1),
-      omega (arith, place (asked m), M .lists-long),
+      omega (arith, l, s .pre .1, M .lists-long),
       v .skip .ensures,
     )
 

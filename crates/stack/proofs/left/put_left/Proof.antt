@@ -4,7 +4,7 @@ use mathlib.Core.Path.{_≡_, refl, ap}
 use native.Mathlib.Omega.{arith}
 use lib.ListN.{length, getD}
 use borrow.Author.Needs.{needs}
-use Rattle.stack.specs.LeftMove.{left-ready, left-deep, left-room, left-owner, left-state, left-asked, left-reducing, left-pushed}
+use Rattle.stack.specs.LeftMove.{left-ready, left-deep, left-room, left-owner, left-state, left-state-there, left-asked, left-reducing, left-pushed}
 use Rattle.stack.proofs.left.put_left.Statement.{statement}
 use Rattle.stack.proofs.left.put_left.Tie as tie
 
@@ -45,6 +45,9 @@ module _ (c : tie.After-word2) where
 
   state : getD (start c .args .states .now) (start c .args .top .depth - c .word2 .result) 0 < 128
   state = left-state (start c .pre .1 .3) (c .word2 .ensures) (c .before .word .ensures)
+
+  there : getD (start c .args .states .now) (start c .args .top .depth - c .word2 .result) 0 < start c .pre .1 .0 .states
+  there = left-state-there (start c .pre .1 .3) (c .word2 .ensures) (c .before .word .ensures)
 
 mul-place : tie.Need-mul-place
 mul-place c = omega (arith, rule-low (c .before .before .before .before .before .before .before .before .before .before .before))
@@ -101,7 +104,7 @@ add-target-2 c = let w = words-at (values-at (start-at c)) in omega (arith, stat
 shared-slice-read-target : tie.Need-shared-slice-read-target
 shared-slice-read-target c =
     let w = words-at (values-at (start-at (c .before))) in
-    omega (arith, state w, c .before .word3 .ensures, owner w, start w .pre .1 .3 .book-in .table-in .long)
+    omega (arith, there w, c .before .word3 .ensures, owner w, start w .pre .1 .3 .book-in .table-in .long)
 
 cast-target : tie.Need-cast-target
 cast-target c =

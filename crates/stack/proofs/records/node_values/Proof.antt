@@ -1,9 +1,8 @@
 -- `stack::records::node_values` meets its contract: the record has the values of the definitions before the line looked at. Assumes nothing.
 use Prim.Native.Nat.{_-_, _≤_}
-use mathlib.Core.Path.{_≡_}
 use mathlib.Core.List.{[]}
 use native.Mathlib.Omega.{arith}
-use lib.ListN.{length, getD}
+use lib.ListN.{getD}
 use Rattle.grammar.specs.Data.Book.{Book}
 use Rattle.stack.specs.NodeValues.{NodeAsked, ValuesBefore, LineOf, last-within, line-of, values-none, values-turn, values-end}
 use Rattle.stack.proofs.records.node_values.Statement.{statement}
@@ -35,9 +34,6 @@ module _ (c : tie.In-loop Inv-loop μ-loop) where
   line-there : LineOf (s .pre .1 .0) (s .args .definitions .now) (s .args .rule) (s .args .size) (c .before .loop .line)
   line-there = line-at (s .pre .1 .0) (s .pre .1 .1)
 
-  room : length (s .args .definitions .now) ≡ 6272
-  room = s .pre .1 .1 .definitions-in .long
-
 add-word : tie.Need-add-word Inv-loop μ-loop
 add-word c = omega (arith, last-within (c .before .before .before .before .before .pre .1 .1) .1)
 
@@ -60,7 +56,7 @@ add-word-2 : tie.Need-add-word-2 Inv-loop μ-loop
 add-word-2 c = omega (arith, line-there (c .before) .low)
 
 word-requires-3 : tie.Need-word-requires-3 Inv-loop μ-loop
-word-requires-3 c κs = omega (arith, line-there (c .before) .low, room (c .before))
+word-requires-3 c κs = omega (arith, line-there (c .before) .inside)
 
 add-fresh : tie.Need-add-fresh Inv-loop μ-loop
 add-fresh c = omega (arith, line-there (c .before .before) .attribute-low, c .word3 .ensures)

@@ -5,11 +5,20 @@ import argparse
 import random
 from collections import Counter
 
-from cases import TESTS, damaged, limits, messages, named, neighbours, readings, slips
+from cases import TESTS, damaged, limits, messages, named, neighbours, readings, sizes, slips
 from cases.group import Group
 
 DATA = TESTS.parent / "crates" / "vectors" / "data"
-GROUPS = {"named": named, "readings": readings, "messages": messages, "slips": slips, "damaged": damaged, "neighbours": neighbours, "limits": limits}
+GROUPS = {
+    "named": named,
+    "readings": readings,
+    "messages": messages,
+    "slips": slips,
+    "damaged": damaged,
+    "neighbours": neighbours,
+    "sizes": sizes,
+    "limits": limits,
+}
 
 
 def main():

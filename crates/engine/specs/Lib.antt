@@ -1,3 +1,4 @@
+pub mod Attempts
 pub mod Driving
 pub mod Evaluations
 pub mod Promises

@@ -12,11 +12,18 @@ use Rattle.grammar.specs.Limits.{MAX-TEXT, BOOK-WORDS}
 use Rattle.grammar.specs.Format.Packing.{pack}
 use Rattle.grammar.specs.Refusal.{refusal}
 use Rattle.grammar.specs.Engine.{Reading, readingOf, readBook}
+use Rattle.book.specs.declared.Room.{Room}
+use Rattle.book.specs.Rooms.{fullRoom}
 
 -- the number that is answered, and every lent word afterwards
 pub record Reads (reading : Reading) (number : ℕ) (words : List ℕ) : Type 0 where
   pub number-is : number ≡ reading .number
   pub words-are : words ≡ reading .words
+
+-- the refusal of a text, where arrays have room for what it has; where there is room for all, they have
+pub record Attempted (room : Room) (text : List ℕ) (complete : Bool) (r : ℕ) : Type 0 where
+  pub all : room ≡ fullRoom → complete ≡ true
+  pub told : complete ≡ true → r ≡ refusal text
 
 -- 1 for the lengths, else the number of the text
 unfoldable pub readNumber : List ℕ → ℕ → ℕ

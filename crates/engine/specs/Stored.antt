@@ -22,10 +22,8 @@ use Rattle.book.specs.declared.Book.{Book}
 use Rattle.packing.specs.Words.{Placed}
 use Rattle.packing.specs.PlacedLaws.{placed-count, placed-first}
 use Rattle.book.specs.declared.Room.{Room}
-use Rattle.book.specs.Rooms.{fullRoom}
 use Rattle.compiler.specs.Prepared.{BookReady}
 use Rattle.compiler.specs.Compiling.{Compiles, book-refused, taken-got}
-use Rattle.engine.specs.Rooms.{compiled-whole}
 
 -- there are as many words as a stored book has, and they are the filling of the text in them
 unfoldable pub isFilling : List ℕ → Bool
@@ -35,6 +33,7 @@ isFilling words = eqb (length words) BOOK-WORDS && sameSets words (pack BOOK-WOR
 pub record Found (words text : List ℕ) (filled : Bool) (count : ℕ) : Type 0 where
   pub told : filled ≡ isFilling words
   pub within : count ≤ MAX-TEXT
+  pub inside : count ≤ length text
   pub text-is : filled ≡ true → take count text ≡ unpack words
 
 -- a book that is found is taken, and in the arrays
@@ -46,29 +45,30 @@ pub record TakenBook (numbers : Book) (inherited synthesized rules definitions k
 
 -- ---- the text in the words
 
-module _ (words : List ℕ) where
-  pub found-short : {text : List ℕ} → (length words ≡ BOOK-WORDS → ⊥) → Found words text false 0
-  unfolding isFilling
-  found-short n = record {
-    told = rw (ne-eqb (length words) BOOK-WORDS n);
-    within = omega arith;
-    text-is = λ e. absurd (let z : _≡_ {A = ℕ} 0 1 = cc in omega arith);
-  }
+first-inside : {bytes old new : List ℕ} {count : ℕ} → Placed bytes 0 old new count → count ≤ length new
+first-inside {bytes} {old} {new} {count} p = omega (arith, placed-count p, ap length (p .text-is) ∙ length-append bytes (drop count old))
 
-  pub found-text : {old text : List ℕ} {count : ℕ} {filled : Bool} → length words ≡ BOOK-WORDS → length text ≡ MAX-TEXT
-      → Placed (unpack words) 0 old text count → filled ≡ sameSets words (pack (length words) (unpack words))
-      → Found words text filled count
+module _ (words : List ℕ) where
+  pub found-text : (front : ℕ) {old text : List ℕ} {count : ℕ} {filled : Bool} → length words ≡ BOOK-WORDS → length text ≤ MAX-TEXT
+      → unpack (take front words) ≡ unpack words → Placed (unpack (take front words)) 0 old text count
+      → filled ≡ sameSets words (pack (length words) (unpack words)) → Found words text filled count
   unfolding isFilling
-  found-text {old} {text} {count} l m p f = record {
+  found-text front {old} {text} {count} l short whole p f = record {
     told = f ∙ ap (λ (n : ℕ). sameSets words (pack n (unpack words))) l
         ∙ sym (ap (λ (t : Bool). t && sameSets words (pack BOOK-WORDS (unpack words))) (eq-eqb (length words) BOOK-WORDS l));
-    within = omega (arith, placed-count p, m, ap length (p .text-is) ∙ length-append (unpack words) (drop count old));
-    text-is = λ e. placed-first p;
+    within = omega (arith, short, first-inside p);
+    inside = first-inside p;
+    text-is = λ e. placed-first p ∙ whole;
   }
 
 -- ---- the book in the words
 
 module _ (words : List ℕ) where
+  -- words of another number hold none
+  pub unfit-none : (length words ≡ BOOK-WORDS → ⊥) → storedBook words ≡ none
+  unfolding storedBook isFilling
+  unfit-none n = rw (ne-eqb (length words) BOOK-WORDS n, storedBook)
+
   pub unfilled-none : isFilling words ≡ false → storedBook words ≡ none
   unfolding storedBook isFilling
   unfilled-none e = rw (e, storedBook)
@@ -97,11 +97,12 @@ unfilled {words} h e = unfilled-none words (sym (h .told) ∙ e)
 
 module _ {words text : List ℕ} {filled : Bool} {count : ℕ} (h : Found words text filled count) (e : filled ≡ true) {r : ℕ} {numbers : Book}
     {inherited synthesized rules definitions kernels goes : List ℕ} {vanishes begins reached starts closures table actions : List ℕ}
-    {complete : Bool} {room : Room} (all : room ≡ fullRoom)
-    (c : Compiles room (take count text) complete r numbers inherited synthesized rules definitions kernels goes vanishes begins reached starts closures table actions)
+    {complete : Bool} {room : Room} (whole : complete ≡ true)
+    (c : Compiles room (take count text) complete r numbers inherited synthesized rules definitions kernels goes vanishes begins reached starts closures
+    table actions)
   where
     told : r ≡ refusal (unpack words)
-    told = c .told (compiled-whole all c) ∙ ap refusal (h .text-is e)
+    told = c .told whole ∙ ap refusal (h .text-is e)
 
     pub found-none : (r ≡ 0 → ⊥) → storedBook words ≡ none
     found-none n = stored-none words (sym (h .told) ∙ e) (λ z. n (told ∙ z))
@@ -118,7 +119,7 @@ module _ {words text : List ℕ} {filled : Bool} {count : ℕ} (h : Found words 
           b,
           taken b p z,
           record {
-            ready = c .ready (compiled-whole all c) z b (ap parseBook (h .text-is e) ∙ p);
+            ready = c .ready whole z b (ap parseBook (h .text-is e) ∙ p);
             spelled = rw same at (s .its-book .spelled);
             sound = rw same at (s .its-book .sound);
           },

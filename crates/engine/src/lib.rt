@@ -1,6 +1,7 @@
 // The two public calls: reading and evaluating.
 pub mod evaluating;
 pub mod reading;
+pub mod rooms;
 pub mod sides;
 pub mod stored;
 pub mod tokens;

@@ -5,7 +5,10 @@ ghost use lib.ListN.{length};
 ghost use Rattle.grammar.specs.Limits.{MAX-TEXT, BOOK-WORDS};
 ghost use Rattle.grammar.specs.Refusal.{refusal};
 ghost use Rattle.grammar.specs.Engine.{readBook};
-ghost use Rattle.engine.specs.Readings.{Reads, readNumber};
+ghost use Rattle.book.specs.Expressions.{WaitsRoom};
+ghost use Rattle.engine.specs.Rooms.{shortRoom, ArraysLent};
+ghost use Rattle.engine.specs.Readings.{Attempted, Reads, readNumber};
+use super::rooms::short_room;
 use book::Book;
 use book::Room;
 use compiler::compile::compile;
@@ -13,48 +16,127 @@ use packing::packing::clear;
 use packing::packing::pack;
 use text::classes;
 
-// The first of 2 to 10 that applies to a text, or 0. The book's arrays and tables are not looked at again; the words are room.
-fn refusal(text: &[u8], words: &mut [u32]) -> u32
-    requires { ⌜ (length (now text) ≤ MAX-TEXT) × (length (now words) ≡ BOOK-WORDS) ⌝ }
-    ensures { λ r. ⌜ r ≡ refusal (now (text .entry)) ⌝ }
+// The longest text for which arrays for a short book are tried.
+const SHORT_TEXT: usize = 4096;
+
+// The refusal of a text, or 0; nothing is said where arrays have no room for what the text has.
+struct Answer {
+    complete: bool,
+    refusal: u32,
+}
+
+// The first of 2 to 10 that applies to a text, or 0, by arrays of the caller. What they hold is not looked at again; the words are room.
+fn attempt(
+    text: &[u8],
+    waits: &mut [u8],
+    room: Room,
+    definitions: &mut [u32],
+    kernels: &mut [u32],
+    goes: &mut [u32],
+    lookaheads: &mut [u32],
+    table: &mut [u8],
+    words: &mut [u32],
+) -> Answer
+    requires { ⌜ (length (now text) ≤ MAX-TEXT) × (length (now words) ≡ BOOK-WORDS)
+        × WaitsRoom (now text) (now waits) × ArraysLent room (now definitions) (now kernels) (now goes) (now lookaheads) (now table) ⌝ }
+    ensures { λ r. ⌜ Attempted room (now (text .entry)) (r .complete) (r .refusal) ⌝ }
 {
     let t = classes();
-    let room = Room::full();
-    let mut waits = [0u8; 13107];
     let mut inherited = [0u32; 16];
     let mut synthesized = [0u32; 32];
     let mut rules = [0u32; 640];
-    let mut definitions = [0u32; 6272];
-    let mut kernels = [0u32; 2560];
-    let mut goes = [0u32; 3072];
     let mut vanishes = [0u32; 576];
     let mut begins = [0u32; 576];
     let mut reached = [0u32; 576];
     let mut starts = [0u32; 129];
-    let mut lookaheads = [0u32; 4096];
-    let mut table = [0u8; 8192];
     let mut cells = [0u8; 4096];
     let compiled = compile(
         &t,
         text,
-        &mut waits,
+        waits,
         room,
         &mut inherited,
         &mut synthesized,
         &mut rules,
-        &mut definitions,
-        &mut kernels,
-        &mut goes,
+        definitions,
+        kernels,
+        goes,
         &mut vanishes,
         &mut begins,
         &mut reached,
         &mut starts,
-        &mut lookaheads,
-        &mut table,
+        lookaheads,
+        table,
         &mut cells,
         &mut words[..7680],
     );
-    compiled.refusal
+    Answer {
+        complete: compiled.complete,
+        refusal: compiled.refusal,
+    }
+}
+
+// By arrays for a short book.
+fn short(text: &[u8], words: &mut [u32]) -> Answer
+    requires { ⌜ (length (now text) ≤ 4096) × (length (now words) ≡ BOOK-WORDS) ⌝ }
+    ensures { λ r. ⌜ Attempted shortRoom (now (text .entry)) (r .complete) (r .refusal) ⌝ }
+{
+    let mut waits = [0u8; 820];
+    let mut definitions = [0u32; 2352];
+    let mut kernels = [0u32; 320];
+    let mut goes = [0u32; 192];
+    let mut lookaheads = [0u32; 1024];
+    let mut table = [0u8; 2048];
+    attempt(
+        text,
+        &mut waits,
+        short_room(),
+        &mut definitions,
+        &mut kernels,
+        &mut goes,
+        &mut lookaheads,
+        &mut table,
+        words,
+    )
+}
+
+// By arrays for any book.
+fn full(text: &[u8], words: &mut [u32]) -> u32
+    requires { ⌜ (length (now text) ≤ MAX-TEXT) × (length (now words) ≡ BOOK-WORDS) ⌝ }
+    ensures { λ r. ⌜ r ≡ refusal (now (text .entry)) ⌝ }
+{
+    let mut waits = [0u8; 13107];
+    let mut definitions = [0u32; 6272];
+    let mut kernels = [0u32; 2560];
+    let mut goes = [0u32; 3072];
+    let mut lookaheads = [0u32; 4096];
+    let mut table = [0u8; 8192];
+    attempt(
+        text,
+        &mut waits,
+        Room::full(),
+        &mut definitions,
+        &mut kernels,
+        &mut goes,
+        &mut lookaheads,
+        &mut table,
+        words,
+    ).refusal
+}
+
+// The first of 2 to 10 that applies to a text, or 0.
+fn refusal(text: &[u8], words: &mut [u32]) -> u32
+    requires { ⌜ (length (now text) ≤ MAX-TEXT) × (length (now words) ≡ BOOK-WORDS) ⌝ }
+    ensures { λ r. ⌜ r ≡ refusal (now (text .entry)) ⌝ }
+{
+    if SHORT_TEXT < text.len() {
+        return full(text, words);
+    }
+    let first = short(text, words);
+    if first.complete {
+        return first.refusal;
+    }
+    full(text, words)
 }
 
 // 1 for the lengths, else the number of the text. What is in the words afterwards is not said.

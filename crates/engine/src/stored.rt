@@ -1,9 +1,10 @@
 // The text in the words of a stored book.
 ghost use mathlib.Core.Path.{_≡_};
-ghost use lib.ListN.{length};
-ghost use Rattle.grammar.specs.Limits.{MAX-TEXT};
+ghost use Prim.Native.Nat.{_*_, _≤_};
+ghost use lib.ListN.{length, take};
+ghost use Rattle.grammar.specs.Limits.{MAX-TEXT, BOOK-WORDS};
+ghost use Rattle.grammar.specs.Format.Packing.{unpack};
 ghost use Rattle.engine.specs.Stored.{Found};
-use book::Book;
 use packing::unpacking::filled;
 use packing::unpacking::unpack;
 
@@ -13,18 +14,13 @@ pub struct Filling {
     pub count: usize,
 }
 
-// Puts the text in the words at the beginning of `text`.
-pub fn text_in(words: &[u32], text: &mut [u8]) -> Filling
-    requires { ⌜ length (now text) ≡ MAX-TEXT ⌝ }
+// Puts the text in the words, which stands in so many of the first, at the beginning of `text`.
+pub fn text_in(words: &[u32], front: usize, text: &mut [u8]) -> Filling
+    requires { ⌜ (length (now words) ≡ BOOK-WORDS) × (front ≤ BOOK-WORDS) × (unpack (take front (now words)) ≡ unpack (now words))
+        × (4 * front ≤ length (now text)) × (length (now text) ≤ MAX-TEXT) ⌝ }
     ensures { λ r. ⌜ Found (now (words .entry)) (now (text .exit)) (r .filled) (r .count) ⌝ }
 {
-    if words.len() != Book::BOOK_WORDS {
-        return Filling {
-            filled: false,
-            count: 0,
-        };
-    }
-    let count = unpack(words, text);
+    let count = unpack(&words[..front], text);
     let filled = filled(words, count);
     Filling { filled, count }
 }

@@ -1,0 +1,195 @@
+-- `evaluating::attempt` meets its contract: the arrays have room, and what is compiled is answered. Assumes nothing.
+use mathlib.Core.Path.{sym, _∙_}
+use native.Mathlib.Omega.{arith}
+use lib.ListN.{length-take}
+use Rattle.engine.specs.Rooms.{zeros, lines-room, tables-lent}
+use borrow.Author.Needs.{needs}
+use Rattle.engine.proofs.evaluating.attempt.Statement.{statement}
+use Rattle.engine.proofs.evaluating.attempt.Tie as tie
+
+classes-requires : tie.Need-classes-requires
+classes-requires c κs = search needs
+
+slice-reshare-prefix-compile : tie.Need-slice-reshare-prefix-compile
+slice-reshare-prefix-compile c = c .before .before .before .before .before .before .before .before .before .before .before .pre .0 .1 .inside
+
+slice-aggregate-compile : tie.Need-slice-aggregate-compile
+slice-aggregate-compile c = let s = c .before .before .before .before .before .before .before .before .before .before .before .before in
+    sym (length-take (s .args .n) (s .args .text .now) ∙ omega (arith, s .pre .0 .1 .inside))
+
+slice-aggregate-compile-2 : tie.Need-slice-aggregate-compile-2
+slice-aggregate-compile-2 c = search needs
+
+slice-aggregate-compile-3 : tie.Need-slice-aggregate-compile-3
+slice-aggregate-compile-3 c = search needs
+
+slice-aggregate-compile-4 : tie.Need-slice-aggregate-compile-4
+slice-aggregate-compile-4 c = search needs
+
+slice-aggregate-compile-5 : tie.Need-slice-aggregate-compile-5
+slice-aggregate-compile-5 c = search needs
+
+slice-aggregate-compile-6 : tie.Need-slice-aggregate-compile-6
+slice-aggregate-compile-6 c = search needs
+
+slice-aggregate-compile-7 : tie.Need-slice-aggregate-compile-7
+slice-aggregate-compile-7 c = search needs
+
+slice-aggregate-compile-8 : tie.Need-slice-aggregate-compile-8
+slice-aggregate-compile-8 c = search needs
+
+slice-aggregate-compile-9 : tie.Need-slice-aggregate-compile-9
+slice-aggregate-compile-9 c = search needs
+
+slice-aggregate-compile-10 : tie.Need-slice-aggregate-compile-10
+slice-aggregate-compile-10 c = search needs
+
+compile-requires : tie.Need-compile-requires
+compile-requires c κs = let s = c .before .before .before .before .before .before .before .before .before .before .before .before .before .before .before
+    .before .before .before .before .before .before .before .before .before .before .before .before in
+    let cut = length-take (s .args .n) (s .args .text .now) in (
+      (
+        record {
+          table-is = c .before .before .before .before .before .before .before .before .before .before .before .before .before .before .before
+              .before .before .classes .ensures;
+          short = omega (arith, cut, s .pre .0 .1 .within);
+        },
+        omega (arith, cut, s .pre .2),
+        lines-room (s .pre .3),
+      ),
+      (tables-lent (s .pre .3), zeros 7680),
+    )
+
+slice-aggregate-respond : tie.Need-slice-aggregate-respond
+slice-aggregate-respond c = search needs
+
+slice-aggregate-respond-2 : tie.Need-slice-aggregate-respond-2
+slice-aggregate-respond-2 c = search needs
+
+slice-aggregate-respond-3 : tie.Need-slice-aggregate-respond-3
+slice-aggregate-respond-3 c = search needs
+
+slice-aggregate-respond-4 : tie.Need-slice-aggregate-respond-4
+slice-aggregate-respond-4 c = search needs
+
+slice-aggregate-respond-5 : tie.Need-slice-aggregate-respond-5
+slice-aggregate-respond-5 c = search needs
+
+slice-aggregate-respond-6 : tie.Need-slice-aggregate-respond-6
+slice-aggregate-respond-6 c = search needs
+
+slice-aggregate-respond-7 : tie.Need-slice-aggregate-respond-7
+slice-aggregate-respond-7 c = search needs
+
+slice-aggregate-respond-8 : tie.Need-slice-aggregate-respond-8
+slice-aggregate-respond-8 c = search needs
+
+slice-aggregate-respond-9 : tie.Need-slice-aggregate-respond-9
+slice-aggregate-respond-9 c = search needs
+
+respond-requires : tie.Need-respond-requires
+respond-requires c κs = let k = c .before .before .before .before .before .before .before .before .before .before .before .before .before .before .before
+    .before .before .before .before .before .before .before .before .before .before .before .before .before .before .before .before .before .before .before
+    .before .before .before .before in
+    let s = k .before .before .before .before .before .before .before .before .before .before .before .before .before .before .before .before .before
+    .before .before .before .before .before .before .before .before .before .before .before in (
+      (
+        s .args .room,
+        s .args .n,
+        record {
+          words = s .pre .0 .0;
+          found = s .pre .0 .1;
+          states-few = s .pre .3 .states-few;
+          plans-room = s .pre .1;
+          compiles = k .compile .ensures;
+        },
+      ),
+      k .compile .kept .1 .1 .1 .1 .1 .1 .1 .1 .1 .1 .1 .1 .1 .1 .1 .1 .1 .0,
+    )
+
+same-length : tie.Need-same-length
+same-length c = c .before .before .before .before .before .respond .kept .1 .1 .1 .1 .1 .1 .1 .1 .1 .1 .1 .1 .1 .1 .0
+
+same-length-2 : tie.Need-same-length-2
+same-length-2 c = c .before .before .before .before .before .before .before .before .before .before .before .before .before .before .before .before .before
+    .before .before .before .before .before .before .before .before .before .before .before .before .before .before .before .before .before .before .before
+    .before .before .before .before .before .before .before .before .compile .kept .1 .1 .0
+
+same-length-3 : tie.Need-same-length-3
+same-length-3 c = c .before .before .before .before .before .before .before .before .before .before .before .before .before .before .before .before .before
+    .before .before .before .before .before .before .before .before .before .before .before .before .before .before .before .before .before .before .before
+    .before .before .before .before .before .before .before .before .compile .kept .1 .1 .1 .1 .1 .1 .1 .0
+
+same-length-4 : tie.Need-same-length-4
+same-length-4 c = c .before .before .before .before .before .before .before .before .before .before .before .before .before .before .before .before .before
+    .before .before .before .before .before .before .before .before .before .before .before .before .before .before .before .before .before .before .before
+    .before .before .before .before .before .before .before .before .compile .kept .1 .1 .1 .1 .1 .1 .1 .1 .0
+
+same-length-5 : tie.Need-same-length-5
+same-length-5 c = c .before .before .before .before .before .before .before .before .before .before .before .before .before .before .before .before .before
+    .before .before .before .before .before .before .before .before .before .before .before .before .before .before .before .before .before .before .before
+    .before .before .before .before .before .before .before .before .compile .kept .1 .1 .1 .1 .1 .1 .1 .1 .1 .0
+
+same-length-6 : tie.Need-same-length-6
+same-length-6 c = c .before .before .before .before .before .before .before .before .before .before .before .before .before .before .before .before .before
+    .before .before .before .before .before .before .before .before .before .before .before .before .before .before .before .before .before .before .before
+    .before .before .before .before .before .before .before .before .compile .kept .1 .1 .1 .1 .1 .1 .1 .1 .1 .1 .1 .1 .1 .1 .0
+
+same-length-7 : tie.Need-same-length-7
+same-length-7 c = c .before .before .before .before .before .before .before .before .before .before .before .before .before .before .before .before .before
+    .before .before .before .before .before .before .before .before .before .before .before .before .before .before .before .before .before .before .before
+    .before .before .before .before .before .before .before .before .compile .kept .1 .1 .1 .1 .1 .1 .1 .1 .1 .1 .1 .1 .1 .1 .1 .0
+
+same-length-8 : tie.Need-same-length-8
+same-length-8 c = c .before .before .before .before .before .respond .kept .1 .1 .1 .1 .1 .1 .1 .1 .1 .1 .1 .1 .1 .1 .1 .1 .1 .0
+
+returns : tie.Need-returns
+returns c = let k = c .before .before .before .before .before .before .before .before .before .before .before .before .before .before .before .before
+    .before .before .before .before .before .before .before .before .before .before .before .before .before .before .before .before .before .before .before
+    .before .before .before .before .before .before .before .before .before in
+    let s = k .before .before .before .before .before .before .before .before .before .before .before .before .before .before .before .before .before
+    .before .before .before .before .before .before .before .before .before .before .before in c .before .before .before .before .before .respond
+    .ensures (s .args .room) (s .args .n) (record {
+      words = s .pre .0 .0;
+      found = s .pre .0 .1;
+      states-few = s .pre .3 .states-few;
+      plans-room = s .pre .1;
+      compiles = k .compile .ensures;
+    })
+
+pub attempt-spec : {M : Type 1} → statement M
+attempt-spec =
+    tie.close
+    (tie.spec
+    classes-requires
+    slice-reshare-prefix-compile
+    slice-aggregate-compile
+    slice-aggregate-compile-2
+    slice-aggregate-compile-3
+    slice-aggregate-compile-4
+    slice-aggregate-compile-5
+    slice-aggregate-compile-6
+    slice-aggregate-compile-7
+    slice-aggregate-compile-8
+    slice-aggregate-compile-9
+    slice-aggregate-compile-10
+    compile-requires
+    slice-aggregate-respond
+    slice-aggregate-respond-2
+    slice-aggregate-respond-3
+    slice-aggregate-respond-4
+    slice-aggregate-respond-5
+    slice-aggregate-respond-6
+    slice-aggregate-respond-7
+    slice-aggregate-respond-8
+    slice-aggregate-respond-9
+    respond-requires
+    same-length
+    same-length-2
+    same-length-3
+    same-length-4
+    same-length-5
+    same-length-6
+    same-length-7
+    same-length-8
+    returns)

@@ -1,0 +1,91 @@
+-- `evaluating::full` meets its contract: the arrays have as much room as is said. Assumes nothing.
+use mathlib.Core.Path.{ap}
+use lib.ListN.{length}
+use Rattle.grammar.specs.Format.Packing.{unpack}
+use lib.Seq.{take-all}
+use native.Mathlib.Omega.{arith}
+use borrow.Author.Tests.{not-true, not-false}
+use Rattle.engine.specs.Rooms.{zeros, full-arrays}
+use Rattle.engine.specs.Stored.{unfilled}
+use Rattle.engine.specs.Evaluations.{answers-none}
+use borrow.Author.Needs.{needs}
+use Rattle.engine.proofs.evaluating.full.Statement.{statement}
+use Rattle.engine.proofs.evaluating.full.Tie as tie
+
+slice-aggregate-text-in : tie.Need-slice-aggregate-text-in
+slice-aggregate-text-in c = search needs
+
+text-in-requires : tie.Need-text-in-requires
+text-in-requires c κs = let s = c .before .before .before .before in
+    let words = s .args .words .now in
+    (s .pre, omega (arith, s .pre), ap unpack (take-all (length words) words (omega arith)), omega (arith, s .pre, zeros 65536), omega (arith, zeros 65536))
+
+returns : tie.Need-returns
+returns c = answers-none _ _ _ (unfilled (c .before .before .before .text-in .ensures) (not-true _ (c .if1 .taken)))
+
+slice-aggregate-attempt : tie.Need-slice-aggregate-attempt
+slice-aggregate-attempt c = search needs
+
+slice-aggregate-attempt-2 : tie.Need-slice-aggregate-attempt-2
+slice-aggregate-attempt-2 c = search needs
+
+full-requires : tie.Need-full-requires
+full-requires c κs = search needs
+
+slice-aggregate-attempt-3 : tie.Need-slice-aggregate-attempt-3
+slice-aggregate-attempt-3 c = search needs
+
+slice-aggregate-attempt-4 : tie.Need-slice-aggregate-attempt-4
+slice-aggregate-attempt-4 c = search needs
+
+slice-aggregate-attempt-5 : tie.Need-slice-aggregate-attempt-5
+slice-aggregate-attempt-5 c = search needs
+
+slice-aggregate-attempt-6 : tie.Need-slice-aggregate-attempt-6
+slice-aggregate-attempt-6 c = search needs
+
+slice-aggregate-attempt-7 : tie.Need-slice-aggregate-attempt-7
+slice-aggregate-attempt-7 c = search needs
+
+attempt-requires : tie.Need-attempt-requires
+attempt-requires c κs = let k = c .before .before .before .before .before .before .before .before .before .before .before .before .before in
+    let e = c .before .before .before .before .before .before .before .full .ensures in (
+      (
+        c .before .before .before .before .before .before .before .before .before .before .before .before .before .before .before .before .before .before
+            .args .words .now,
+        rw (not-false (k .text-in .result .filled) (c .before .before .before .before .before .before .before .before .before .before
+            .if1 .left)) at (k .text-in .ensures),
+      ),
+      rw e (omega (arith, k .text-in .kept .1 .1 .0)),
+      omega (arith, k .text-in .ensures .inside, k .text-in .kept .1 .1 .0, zeros 13107),
+      rw e full-arrays,
+    )
+
+same-length : tie.Need-same-length
+same-length c = search needs
+
+returns-2 : tie.Need-returns-2
+returns-2 c = let a = c .before .before .before .before .before .before .before .before .before in
+    a .attempt .ensures .answers (a .attempt .ensures .all (a .before .before .before .before .before .before .before .before .full .ensures)) _ (rw
+    (not-false (a .before .before .before .before .before .before .before .before .before .before .before .before .before .before .text-in .result
+    .filled) (a .before .before .before .before .before .before .before .before .before .before .before .if1 .left)) at (a .before .before .before
+    .before .before .before .before .before .before .before .before .before .before .before .text-in .ensures))
+
+pub full-spec : {M : Type 1} → statement M
+full-spec =
+    tie.close
+    (tie.spec
+    slice-aggregate-text-in
+    text-in-requires
+    returns
+    slice-aggregate-attempt
+    slice-aggregate-attempt-2
+    full-requires
+    slice-aggregate-attempt-3
+    slice-aggregate-attempt-4
+    slice-aggregate-attempt-5
+    slice-aggregate-attempt-6
+    slice-aggregate-attempt-7
+    attempt-requires
+    same-length
+    returns-2)

@@ -1,0 +1,57 @@
+-- `reading::short` meets its contract: the arrays have as much room as is said. Assumes nothing.
+use native.Mathlib.Omega.{arith}
+use Rattle.engine.specs.Rooms.{zeros, short-arrays}
+use borrow.Author.Needs.{needs}
+use Rattle.engine.proofs.reading.short.Statement.{statement}
+use Rattle.engine.proofs.reading.short.Tie as tie
+
+slice-aggregate-attempt : tie.Need-slice-aggregate-attempt
+slice-aggregate-attempt c = search needs
+
+short-room-requires : tie.Need-short-room-requires
+short-room-requires c κs = search needs
+
+slice-aggregate-attempt-2 : tie.Need-slice-aggregate-attempt-2
+slice-aggregate-attempt-2 c = search needs
+
+slice-aggregate-attempt-3 : tie.Need-slice-aggregate-attempt-3
+slice-aggregate-attempt-3 c = search needs
+
+slice-aggregate-attempt-4 : tie.Need-slice-aggregate-attempt-4
+slice-aggregate-attempt-4 c = search needs
+
+slice-aggregate-attempt-5 : tie.Need-slice-aggregate-attempt-5
+slice-aggregate-attempt-5 c = search needs
+
+slice-aggregate-attempt-6 : tie.Need-slice-aggregate-attempt-6
+slice-aggregate-attempt-6 c = search needs
+
+attempt-requires : tie.Need-attempt-requires
+attempt-requires c κs = let s = c .before .before .before .before .before .before .before .before .before .before in (
+  omega (arith, s .pre .0),
+  s .pre .1,
+  omega (arith, s .pre .0, zeros 820),
+  rw (c .before .before .before .before .before .before .short-room .ensures) short-arrays,
+)
+
+same-length : tie.Need-same-length
+same-length c = search needs
+
+returns : tie.Need-returns
+returns c = let a = c .before .before .before .before .before .before .before .before in rw (a .before .before .before .before .before .before .before
+    .short-room .ensures) at (a .attempt .ensures)
+
+pub short-spec : {M : Type 1} → statement M
+short-spec =
+    tie.close
+    (tie.spec
+    slice-aggregate-attempt
+    short-room-requires
+    slice-aggregate-attempt-2
+    slice-aggregate-attempt-3
+    slice-aggregate-attempt-4
+    slice-aggregate-attempt-5
+    slice-aggregate-attempt-6
+    attempt-requires
+    same-length
+    returns)

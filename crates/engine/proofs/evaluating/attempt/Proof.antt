@@ -7,6 +7,25 @@ use borrow.Author.Needs.{needs}
 use Rattle.engine.proofs.evaluating.attempt.Statement.{statement}
 use Rattle.engine.proofs.evaluating.attempt.Tie as tie
 
+-- from the end back to the call of `respond`, from there to that of `compile`, and to the entry
+
+abbrev start : tie.After-compile → tie.Start
+start c =
+    c .before .before .before .before .before .before .before .before .before .before .before .before .before .before .before
+    .before .before .before .before .before .before .before .before .before .before .before .before .before
+
+abbrev compiled-at : tie.After-respond-arg8 → tie.After-compile
+compiled-at c =
+    c .before .before .before .before .before .before .before .before .before .before .before .before .before .before .before
+    .before .before .before .before .before .before .before .before .before .before .before .before .before .before .before
+    .before .before .before .before .before .before .before .before
+
+abbrev responded-at : tie.After-slice-known16 → tie.After-respond
+responded-at c = c .before .before .before .before .before
+
+abbrev compile-at : tie.After-slice-known16 → tie.After-compile
+compile-at c = compiled-at (responded-at c .before)
+
 classes-requires : tie.Need-classes-requires
 classes-requires c κs = search needs
 
@@ -88,11 +107,8 @@ slice-aggregate-respond-9 : tie.Need-slice-aggregate-respond-9
 slice-aggregate-respond-9 c = search needs
 
 respond-requires : tie.Need-respond-requires
-respond-requires c κs = let k = c .before .before .before .before .before .before .before .before .before .before .before .before .before .before .before
-    .before .before .before .before .before .before .before .before .before .before .before .before .before .before .before .before .before .before .before
-    .before .before .before .before in
-    let s = k .before .before .before .before .before .before .before .before .before .before .before .before .before .before .before .before .before
-    .before .before .before .before .before .before .before .before .before .before .before in (
+respond-requires c κs = let k = compiled-at c in
+    let s = start k in (
       (
         s .args .room,
         s .args .n,
@@ -108,48 +124,33 @@ respond-requires c κs = let k = c .before .before .before .before .before .befo
     )
 
 same-length : tie.Need-same-length
-same-length c = c .before .before .before .before .before .respond .kept .1 .1 .1 .1 .1 .1 .1 .1 .1 .1 .1 .1 .1 .1 .0
+same-length c = responded-at c .respond .kept .1 .1 .1 .1 .1 .1 .1 .1 .1 .1 .1 .1 .1 .1 .0
 
 same-length-2 : tie.Need-same-length-2
-same-length-2 c = c .before .before .before .before .before .before .before .before .before .before .before .before .before .before .before .before .before
-    .before .before .before .before .before .before .before .before .before .before .before .before .before .before .before .before .before .before .before
-    .before .before .before .before .before .before .before .before .compile .kept .1 .1 .0
+same-length-2 c = compile-at c .compile .kept .1 .1 .0
 
 same-length-3 : tie.Need-same-length-3
-same-length-3 c = c .before .before .before .before .before .before .before .before .before .before .before .before .before .before .before .before .before
-    .before .before .before .before .before .before .before .before .before .before .before .before .before .before .before .before .before .before .before
-    .before .before .before .before .before .before .before .before .compile .kept .1 .1 .1 .1 .1 .1 .1 .0
+same-length-3 c = compile-at c .compile .kept .1 .1 .1 .1 .1 .1 .1 .0
 
 same-length-4 : tie.Need-same-length-4
-same-length-4 c = c .before .before .before .before .before .before .before .before .before .before .before .before .before .before .before .before .before
-    .before .before .before .before .before .before .before .before .before .before .before .before .before .before .before .before .before .before .before
-    .before .before .before .before .before .before .before .before .compile .kept .1 .1 .1 .1 .1 .1 .1 .1 .0
+same-length-4 c = compile-at c .compile .kept .1 .1 .1 .1 .1 .1 .1 .1 .0
 
 same-length-5 : tie.Need-same-length-5
-same-length-5 c = c .before .before .before .before .before .before .before .before .before .before .before .before .before .before .before .before .before
-    .before .before .before .before .before .before .before .before .before .before .before .before .before .before .before .before .before .before .before
-    .before .before .before .before .before .before .before .before .compile .kept .1 .1 .1 .1 .1 .1 .1 .1 .1 .0
+same-length-5 c = compile-at c .compile .kept .1 .1 .1 .1 .1 .1 .1 .1 .1 .0
 
 same-length-6 : tie.Need-same-length-6
-same-length-6 c = c .before .before .before .before .before .before .before .before .before .before .before .before .before .before .before .before .before
-    .before .before .before .before .before .before .before .before .before .before .before .before .before .before .before .before .before .before .before
-    .before .before .before .before .before .before .before .before .compile .kept .1 .1 .1 .1 .1 .1 .1 .1 .1 .1 .1 .1 .1 .1 .0
+same-length-6 c = compile-at c .compile .kept .1 .1 .1 .1 .1 .1 .1 .1 .1 .1 .1 .1 .1 .1 .0
 
 same-length-7 : tie.Need-same-length-7
-same-length-7 c = c .before .before .before .before .before .before .before .before .before .before .before .before .before .before .before .before .before
-    .before .before .before .before .before .before .before .before .before .before .before .before .before .before .before .before .before .before .before
-    .before .before .before .before .before .before .before .before .compile .kept .1 .1 .1 .1 .1 .1 .1 .1 .1 .1 .1 .1 .1 .1 .1 .0
+same-length-7 c = compile-at c .compile .kept .1 .1 .1 .1 .1 .1 .1 .1 .1 .1 .1 .1 .1 .1 .1 .0
 
 same-length-8 : tie.Need-same-length-8
-same-length-8 c = c .before .before .before .before .before .respond .kept .1 .1 .1 .1 .1 .1 .1 .1 .1 .1 .1 .1 .1 .1 .1 .1 .1 .0
+same-length-8 c = responded-at c .respond .kept .1 .1 .1 .1 .1 .1 .1 .1 .1 .1 .1 .1 .1 .1 .1 .1 .1 .0
 
 returns : tie.Need-returns
-returns c = let k = c .before .before .before .before .before .before .before .before .before .before .before .before .before .before .before .before
-    .before .before .before .before .before .before .before .before .before .before .before .before .before .before .before .before .before .before .before
-    .before .before .before .before .before .before .before .before .before in
-    let s = k .before .before .before .before .before .before .before .before .before .before .before .before .before .before .before .before .before
-    .before .before .before .before .before .before .before .before .before .before .before in c .before .before .before .before .before .respond
-    .ensures (s .args .room) (s .args .n) (record {
+returns c = let k = compile-at c in
+    let s = start k in
+    let r = responded-at c in r .respond .ensures (s .args .room) (s .args .n) (record {
       words = s .pre .0 .0;
       found = s .pre .0 .1;
       states-few = s .pre .3 .states-few;

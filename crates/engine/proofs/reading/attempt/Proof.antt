@@ -6,6 +6,13 @@ use borrow.Author.Needs.{needs}
 use Rattle.engine.proofs.reading.attempt.Statement.{statement}
 use Rattle.engine.proofs.reading.attempt.Tie as tie
 
+-- from the end back to the call of `compile`
+
+abbrev compile-at : tie.After-slice-known14 → tie.After-compile
+compile-at c =
+    c .before .before .before .before .before .before .before .before .before .before .before .before .before .before .before
+    .before .before .before .before .before .before .before
+
 classes-requires : tie.Need-classes-requires
 classes-requires c κs = search needs
 
@@ -60,35 +67,28 @@ compile-requires c κs = let s = c .before .before .before .before .before .befo
     )
 
 same-length : tie.Need-same-length
-same-length c = c .before .before .before .before .before .before .before .before .before .before .before .before .before .before .before .before .before
-    .before .before .before .before .before .compile .kept .1 .1 .0
+same-length c = compile-at c .compile .kept .1 .1 .0
 
 same-length-2 : tie.Need-same-length-2
-same-length-2 c = c .before .before .before .before .before .before .before .before .before .before .before .before .before .before .before .before .before
-    .before .before .before .before .before .compile .kept .1 .1 .1 .1 .1 .1 .1 .0
+same-length-2 c = compile-at c .compile .kept .1 .1 .1 .1 .1 .1 .1 .0
 
 same-length-3 : tie.Need-same-length-3
-same-length-3 c = c .before .before .before .before .before .before .before .before .before .before .before .before .before .before .before .before .before
-    .before .before .before .before .before .compile .kept .1 .1 .1 .1 .1 .1 .1 .1 .0
+same-length-3 c = compile-at c .compile .kept .1 .1 .1 .1 .1 .1 .1 .1 .0
 
 same-length-4 : tie.Need-same-length-4
-same-length-4 c = c .before .before .before .before .before .before .before .before .before .before .before .before .before .before .before .before .before
-    .before .before .before .before .before .compile .kept .1 .1 .1 .1 .1 .1 .1 .1 .1 .0
+same-length-4 c = compile-at c .compile .kept .1 .1 .1 .1 .1 .1 .1 .1 .1 .0
 
 same-length-5 : tie.Need-same-length-5
-same-length-5 c = c .before .before .before .before .before .before .before .before .before .before .before .before .before .before .before .before .before
-    .before .before .before .before .before .compile .kept .1 .1 .1 .1 .1 .1 .1 .1 .1 .1 .1 .1 .1 .1 .0
+same-length-5 c = compile-at c .compile .kept .1 .1 .1 .1 .1 .1 .1 .1 .1 .1 .1 .1 .1 .1 .0
 
 same-length-6 : tie.Need-same-length-6
-same-length-6 c = c .before .before .before .before .before .before .before .before .before .before .before .before .before .before .before .before .before
-    .before .before .before .before .before .compile .kept .1 .1 .1 .1 .1 .1 .1 .1 .1 .1 .1 .1 .1 .1 .1 .0
+same-length-6 c = compile-at c .compile .kept .1 .1 .1 .1 .1 .1 .1 .1 .1 .1 .1 .1 .1 .1 .1 .0
 
 same-length-7 : tie.Need-same-length-7
 same-length-7 c = search needs
 
 returns : tie.Need-returns
-returns c = let k = c .before .before .before .before .before .before .before .before .before .before .before .before .before .before .before .before
-    .before .before .before .before .before .before in record { all = λ e. compiled-whole e (k .compile .ensures); told = λ w. k .compile .ensures .told w }
+returns c = let k = compile-at c in record { all = λ e. compiled-whole e (k .compile .ensures); told = λ w. k .compile .ensures .told w }
 
 pub attempt-spec : {M : Type 1} → statement M
 attempt-spec =

@@ -1,16 +1,7 @@
-// Reading a book's text into arrays: condition 2, and what the arrays then hold.
-pub mod definitions;
-pub mod ended;
-pub mod expression;
-pub mod goes;
+// A book in arrays: its numbers, what its lines have in common, and the lines that declare: the first one, attributes and rules.
 pub mod header;
-pub mod kernels;
-pub mod known;
-pub mod lookahead;
-pub mod lookaheads;
 pub mod order;
 pub mod owners;
-pub mod reading;
 pub mod rooms;
 pub mod rules;
 pub mod short;

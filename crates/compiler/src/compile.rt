@@ -7,7 +7,7 @@ ghost use lib.ListN.{length};
 ghost use Rattle.text.specs.Reading.{Lent};
 ghost use Rattle.grammar.specs.Limits.{MAX-INHERITED};
 ghost use Rattle.grammar.specs.Data.Book.{Book as Lines};
-ghost use Rattle.book.specs.Expressions.{WaitsRoom};
+ghost use Rattle.definitions.specs.Expressions.{WaitsRoom};
 ghost use Rattle.book.specs.Held.{OwnersIn};
 ghost use Rattle.book.specs.Spelling.{arrays, Roomy};
 ghost use Rattle.conditions.specs.Answers.{Some};
@@ -21,12 +21,12 @@ use super::states::tables;
 use attributes::one_formula::one_formula;
 use book::Book;
 use book::Room;
-use book::reading::spelling;
 use book::rooms::complete;
 use conditions::declared::declared;
 use conditions::defined::defined;
 use conditions::limits::within_limits;
 use conditions::owned::owned;
+use reading::spelling;
 
 // The first of 3, 4, 5 and 6 that applies, or 0.
 fn conditions(

@@ -5,7 +5,7 @@ ghost use lib.ListN.{length};
 ghost use Rattle.grammar.specs.Limits.{MAX-TEXT, BOOK-WORDS};
 ghost use Rattle.grammar.specs.Refusal.{refusal};
 ghost use Rattle.grammar.specs.Engine.{readBook};
-ghost use Rattle.book.specs.Expressions.{WaitsRoom};
+ghost use Rattle.definitions.specs.Expressions.{WaitsRoom};
 ghost use Rattle.engine.specs.Rooms.{shortRoom, ArraysLent};
 ghost use Rattle.engine.specs.Readings.{Attempted, Reads, readNumber};
 use super::rooms::short_room;

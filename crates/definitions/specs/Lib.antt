@@ -1,0 +1,12 @@
+pub mod Both
+pub mod Definitions
+pub mod DefinitionsHeld
+pub mod DefinitionsLaws
+pub mod DefinitionsLine
+pub mod DefinitionsLoop
+pub mod DefinitionsShort
+pub mod Ended
+pub mod Expressions
+pub mod ExpressionsLaws
+pub mod ExpressionsLoop
+pub mod ExpressionsShort

@@ -1,0 +1,4 @@
+pub mod GoLines
+pub mod KernelLines
+pub mod KnownLookaheads
+pub mod Lookahead

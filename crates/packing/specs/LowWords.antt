@@ -1,6 +1,6 @@
 -- Words whose bytes are below 128: 127 more in each byte sets the highest bit of those that are not 0, and no byte carries into the next. So the bits of many
 -- words, gathered, tell that all of them are full. Assumes nothing.
-use Prim.Native.Nat.{ℕ, _+_, _*_, _/_, _%_, _^_, _<_}
+use Prim.Native.Nat.{ℕ, _+_, _*_, _/_, _%_, _^_, _<_, _≤_}
 use native.Mathlib.Omega.{arith}
 use native.Mathlib.Nat.{mod-eq-of-lt}
 use mathlib.Core.Path.{_≡_, refl, sym, ap, _∙_}
@@ -98,6 +98,12 @@ low-full w fits none all =
 -- some words from a place on are full
 pub record AllFull (words : List ℕ) (from n : ℕ) : Type 0 where
   pub each : (i : ℕ) → i < n → full (getD words (from + i) 0) ≡ true
+
+-- a part of them
+pub part-full : {words : List ℕ} {from n : ℕ} (i m : ℕ) → i + m ≤ n → AllFull words from n → AllFull words (from + i) m
+part-full {words} {from} i m h whole = record {
+  each = λ j l. let e : from + i + j ≡ from + (i + j) = omega arith in rw e (whole .each (i + j) (omega arith));
+}
 
 -- the bits that are in some of n words, and those that are in all of them with 127 more in each byte
 pub record Bits (words : List ℕ) (from n some all : ℕ) : Type 0 where

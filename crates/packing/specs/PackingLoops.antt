@@ -14,6 +14,7 @@ use Rattle.grammar.specs.Automaton.Fixpoint.{sameSets}
 use Rattle.grammar.specs.Format.Packing.{wordOf, pack, unpack, pack-length}
 use Rattle.packing.specs.Words.{bytesOf, full, gathered, partFrom, Placed}
 use Rattle.packing.specs.WordsLaws.{part-drop, pack-append, pack-nothing, word-at, full-goes-on, full-ends, gathered-none}
+use Rattle.packing.specs.LowWords.{AllFull}
 use Rattle.packing.specs.PlacedLaws.{placed-more, placed-length}
 
 -- ---- packing
@@ -133,6 +134,29 @@ module _ {words old text new : List ℕ} {i : ℕ} (u : Unpacking words old text
 pub unpacking-end : {words old text : List ℕ} {i : ℕ} → Unpacking words old text i → length words ≤ i → Placed (unpack words) 0 old text (4 * i)
 unfolding unpack
 unpacking-end {words} {old} {text} {i} u h = rw (u .split, drop-of-length-le words h, append-nil (u .bytes)) (u .placed)
+
+-- four words more
+pub unpacking-four : {words old text one two three new : List ℕ} {i at : ℕ} → i + 4 ≤ length words → 4 * length words ≤ length text → AllFull words i 4
+    → at ≡ 4 * i
+    → Placed (bytesOf (getD words i 0)) at text one (at + 4)
+    → Placed (bytesOf (getD words (i + 1) 0)) (at + 4) one two (at + 4 + 4)
+    → Placed (bytesOf (getD words (i + 2) 0)) (at + 8) two three (at + 8 + 4)
+    → Placed (bytesOf (getD words (i + 3) 0)) (at + 12) three new (at + 12 + 4)
+    → Unpacking words old text i → Unpacking words old new (i + 4)
+unpacking-four {words} {old} {text} {one} {two} {three} {new} {i} {at} within room whole e a b c d u =
+    let s : at + 4 ≡ 4 * (i + 1) = omega arith in
+    let t : at + 8 ≡ 4 * (i + 2) = omega arith in
+    let v : at + 12 ≡ 4 * (i + 3) = omega arith in
+    let zero : i + 0 ≡ i = omega arith in
+    let long : 4 * length words ≤ length old = omega (arith, u .long) in
+    let first : Unpacking words old one (i + 1) = unpacking-turn u (omega arith) long (rw zero at (whole .each 0 (omega arith))) (rw e at a) in
+    let second : Unpacking words old two (i + 1 + 1) = unpacking-turn first (omega arith) long (whole .each 1 (omega arith)) (rw s at b) in
+    let m : i + 1 + 1 ≡ i + 2 = omega arith in
+    let third : Unpacking words old three (i + 2 + 1) = unpacking-turn (rw m at second) (omega arith) long (whole .each 2 (omega arith)) (rw t at c) in
+    let n : i + 2 + 1 ≡ i + 3 = omega arith in
+    let fourth : Unpacking words old new (i + 3 + 1) = unpacking-turn (rw n at third) (omega arith) long (whole .each 3 (omega arith)) (rw v at d) in
+    let k : i + 3 + 1 ≡ i + 4 = omega arith in
+    rw k at fourth
 
 -- ---- bits that are set
 

@@ -89,17 +89,33 @@ fn block_full(words: &[u32], from: usize) -> bool
     (some & HIGH == 0) & (all & HIGH == HIGH)
 }
 
-// The bytes of a block whose words are full.
+// The bytes of four words that are full. All are loaded before the first is put, so that compilers move them as one.
+fn put_four(words: &[u32], at: usize, text: &mut [u8])
+    requires { ⌜ (at + 4 ≤ length (now words)) × (4 * length (now words) ≤ length (now text)) × AllFull (now words) at 4 ⌝ }
+    ensures { λ _. ⌜ ((old : List ℕ) → Unpacking (now (words .entry)) old (now (text .entry)) at
+        → Unpacking (now (words .entry)) old (now (text .exit)) (at + 4)) ⌝ }
+{
+    let first = words[at];
+    let second = words[at + 1];
+    let third = words[at + 2];
+    let fourth = words[at + 3];
+    let from = 4 * at;
+    put_whole(text, from, first);
+    put_whole(text, from + 4, second);
+    put_whole(text, from + 8, third);
+    put_whole(text, from + 12, fourth);
+}
+
+// The bytes of a block whose words are full, by fours.
 fn put_block(words: &[u32], from: usize, text: &mut [u8])
     requires { ⌜ (from + 32 ≤ length (now words)) × (4 * length (now words) ≤ length (now text)) × AllFull (now words) from 32 ⌝ }
     ensures { λ _. ⌜ ((old : List ℕ) → Unpacking (now (words .entry)) old (now (text .entry)) from
         → Unpacking (now (words .entry)) old (now (text .exit)) (from + 32)) ⌝ }
 {
-    let end = from + BLOCK;
-    let mut i = from;
-    while i < end {
-        put_whole(text, 4 * i, words[i]);
-        i += 1;
+    let mut k = 0;
+    while k < 8 {
+        put_four(words, from + 4 * k, text);
+        k += 1;
     }
 }
 

@@ -11,7 +11,7 @@ use Rattle.grammar.specs.Evaluator.Tree.{Token}
 use Rattle.grammar.specs.Engine.{tokensOf}
 use Rattle.book.specs.declared.Book.{Book}
 use Rattle.conditions.specs.AskedLaws.{counted}
-use Rattle.plans.specs.Plans.{PlansIn}
+use Rattle.plans.specs.Plans.{PlansIn, StatesHeld}
 use Rattle.plans.specs.PlansLaws.{plans-none}
 use Rattle.machine.specs.Moving.{Rooms, Driven}
 use Rattle.machine.specs.Running.{RunIn}
@@ -41,6 +41,17 @@ module _ {numbers : Book} {inherited synthesized rules definitions kernels goes 
       formulas-held = asked-formulas (h .ready);
       owned-in = s .owned-in;
     };
+  }
+
+  -- as the plans of idle states ask for it
+  pub states-held : StatesHeld b definitions (numbers .«inherited_definitions») rules kernels starts closures (numbers .states)
+  states-held = record {
+    count = numbers .rules;
+    owned = own;
+    nulls = vanishes;
+    reaches = reached;
+    plans-held = driven .plans-held;
+    states-are = asked-formulas (h .ready) .states-are;
   }
 
   pub run-in : {tokens : List ℕ} {ks : List Token} → tokensOf tokens ≡ some ks

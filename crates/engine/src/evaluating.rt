@@ -26,6 +26,7 @@ use compiler::compile::compile;
 use machine::run::Outcome;
 use machine::run::run;
 use packing::packing::clear;
+use plans::memory::plan_idle;
 use text::classes;
 
 // Words of all rows.
@@ -103,6 +104,16 @@ fn message(
     );
     let mut sets = [0u32; 576];
     let mut counts = [0u8; 4096];
+    plan_idle(
+        definitions,
+        book.inherited_definitions as usize,
+        rules,
+        kernels,
+        starts,
+        lookaheads,
+        book.states as usize,
+        &mut counts,
+    );
     let mut states = [0u32; 129];
     let mut cells = [0u32; 2064];
     let mut bounds = [0u32; 128];

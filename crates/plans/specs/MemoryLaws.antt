@@ -2,23 +2,25 @@
 -- Assumes nothing.
 use Prim.Native.Nat.{ℕ, _+_, _*_, _-_, _<_, _≤_}
 use native.Mathlib.Omega.{arith}
-use mathlib.Core.Path.{_≡_, refl, sym, _∙_}
+use mathlib.Core.Path.{_≡_}
 use mathlib.Core.Bool.{Bool}
-use mathlib.Core.List.{List, []}
-use lib.ListN.{length, getD, set}
+use mathlib.Core.List.{List}
+use lib.ListN.{length, getD, set, replicate, length-replicate}
 use Rattle.grammar.specs.Limits.{MAX-INHERITED}
 use Rattle.grammar.specs.Data.Book.{Book}
+use Rattle.grammar.specs.Format.Ordered.{Ordered}
+use Rattle.grammar.specs.Automaton.FirstSets.{setsOf}
+use Rattle.automaton.specs.StatesIn.{ItemsIn}
 use Rattle.attributes.specs.Checking.{memberOf, CheckHeld}
+use Rattle.attributes.specs.Idle.{Idle}
 use Rattle.attributes.specs.OneFormula as OneFormula
 use Rattle.attributes.specs.OneFormula.{held-check}
-use Rattle.attributes.specs.Skips.{Skip}
 use Rattle.attributes.specs.StateMarks.{StateMarksIn}
 use Rattle.plans.specs.Planning.{plan}
 use Rattle.plans.specs.PlanningLaws.{plan-short}
 use Rattle.plans.specs.PlanRows.{PlanRow, Elsewhere}
-use Rattle.plans.specs.PlanSkips.{plan-skipped}
-use Rattle.plans.specs.Plans.{planOf, PlansIn, PlansHeld, NoLines}
-use Rattle.plans.specs.PlansLaws.{plan-marked, plans-more, plans-nothing}
+use Rattle.plans.specs.Plans.{planOf, PlansIn, PlansHeld, StatesHeld, NoLines}
+use Rattle.plans.specs.PlansLaws.{plan-marked, plan-idle, plans-more, plans-nothing}
 
 -- a plan has few lines
 pub row-short : (b : Book) (member : ℕ → ℕ → Bool) {row : List ℕ} {from n : ℕ} → PlanRow (plan b member) row from n → n ≤ MAX-INHERITED
@@ -28,9 +30,6 @@ module _ {b : Book} {rules : List ℕ} {count : ℕ} {definitions : List ℕ} {l
     (H : PlansHeld b rules count definitions lines owned kernels starts closures nulls reaches) where
   pub few-states : b .states ≤ 128
   few-states = OneFormula.limits (H .formulas-held) .states-limit .high
-
-  pub few-lines : lines ≤ 128
-  few-lines = omega (arith, H .formulas-held .definitions-counted, OneFormula.limits (H .formulas-held) .definitions-limit)
 
   pub place-low : {S a : ℕ} → S < b .states → a < 32 → 32 * S + a < 4096
   place-low s low = omega (arith, few-states)
@@ -55,15 +54,18 @@ module _ {b : Book} {rules : List ℕ} {count : ℕ} {definitions : List ℕ} {l
         let R′ : PlanRow (planOf b S a) new (16 * (32 * S + a)) n = rw is at R in
         (plans-more M few-states s low E R′, R′)
 
-  -- where no definition's item is in the state
-  pub plans-none-due : {counts lists new : List ℕ} → PlansIn b counts lists → (S : ℕ) {masks : List ℕ} → StateMarksIn b S masks
-      → Skip definitions masks lines 0 lines → NoLines S 32 counts new → (a : ℕ) → a < 32
-      → PlansIn b new lists × PlanRow (planOf b S a) lists (16 * (32 * S + a)) 0
-  plans-none-due {lists = lists} M S {masks} marks skip none a low =
-      (plans-nothing M S empty none, rw (empty a low) (record { count-is = refl; line-is = λ i l. absurd (omega arith) }))
-    where
-      empty : (c : ℕ) → c < 32 → planOf b S c ≡ []
-      empty c l =
-          let H′ = H .formulas-held in
-          sym (plan-marked (H′ .ordered) (OneFormula.limits H′) (OneFormula.declared H′) S c marks l)
-          ∙ plan-skipped (plans-check (marks .long)) (H′ .definitions-counted) c skip
+-- what is asked to find the states at whose items nothing is defined
+module _ {b : Book} {definitions : List ℕ} {lines : ℕ} {rules kernels starts closures : List ℕ} {states : ℕ}
+    (H : StatesHeld b definitions lines rules kernels starts closures states) where
+  pub states-check : CheckHeld b definitions rules (H .owned) (replicate 576 0)
+  states-check = plans-check (H .plans-held) (length-replicate {A = ℕ} 576 0)
+
+  pub states-items : ItemsIn b (setsOf (b .rules)) rules kernels starts closures
+  states-items = H .plans-held .formulas-held .marks-held .items-in
+
+-- the plans of a state at whose items nothing is defined
+pub plans-idle : {b : Book} {rules kernels starts closures : List ℕ} → Ordered b → ItemsIn b (setsOf (b .rules)) rules kernels starts closures
+    → (S : ℕ) → Idle b S → {counts new lists : List ℕ} → NoLines S 32 counts new → PlansIn b counts lists → PlansIn b new lists
+plans-idle ordered I S idle none M =
+    let G = I .states-in .grammar-in in
+    plans-nothing M S (λ a l. plan-idle ordered (G .limits) (G .declared) S a idle) none

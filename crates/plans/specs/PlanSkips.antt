@@ -4,7 +4,7 @@ use Prim.Native.Nat.{ℕ, _<_, _≤_}
 use native.Mathlib.Omega.{arith}
 use mathlib.Core.Path.{_≡_, sym, ap, _∙_}
 use mathlib.Core.Bool.{false}
-use mathlib.Core.List.{List, []}
+use mathlib.Core.List.{List}
 use Rattle.sets.specs.Sets.{bit, empty}
 use Rattle.sets.specs.SetsLaws.{bit-empty}
 use Rattle.grammar.specs.Data.Book.{Book}
@@ -12,8 +12,8 @@ use Rattle.grammar.specs.Formulas.Passes.{visits}
 use Rattle.grammar.specs.Formulas.FormulaCheck.{dotOf, definitions, lineAt}
 use Rattle.attributes.specs.Checking.{memberOf, CheckHeld}
 use Rattle.attributes.specs.Skips.{Skip, visits-on, item-word}
-use Rattle.plans.specs.Planning.{Planning, planLine, plan}
-use Rattle.plans.specs.PlanningLaws.{planLine-absent, plan-none}
+use Rattle.plans.specs.Planning.{Planning, planLine}
+use Rattle.plans.specs.PlanningLaws.{planLine-absent}
 
 module _ {b : Book} {words rules owned masks : List ℕ} (H : CheckHeld b words rules owned masks) {lines : ℕ} (e : lines ≡ definitions b) (a : ℕ) where
   absent : {i j : ℕ} → Skip words masks lines i j → (d : ℕ) → i ≤ d → d < j → memberOf masks a (lineAt b d .rule) (dotOf (lineAt b d)) ≡ false
@@ -26,7 +26,3 @@ module _ {b : Book} {words rules owned masks : List ℕ} (H : CheckHeld b words 
       → visits (planLine b (memberOf masks a)) i s ≡ visits (planLine b (memberOf masks a)) j s
   planning-skip {i} {j} S s =
       sym (visits-on (planLine b (memberOf masks a)) i j s (S .low) λ d l h. planLine-absent b (memberOf masks a) d (absent S d l h))
-
-  -- past all lines
-  pub plan-skipped : Skip words masks lines 0 lines → plan b (memberOf masks a) ≡ []
-  plan-skipped S = plan-none b (memberOf masks a) λ d l. absent S d (omega arith) (omega arith)

@@ -44,3 +44,12 @@ pub record PlansHeld (b : Book) (rules : List ℕ) (count : ℕ) (definitions : 
     pub states : ℕ
     pub formulas-held : FormulasHeld b rules count definitions lines kernels starts closures nulls firsts reaches terminals states
     pub owned-in : OwnedIn (b .inheritedOwners) (attributes b) owned
+
+-- the same for the states, whatever the other arrays are
+pub record StatesHeld (b : Book) (definitions : List ℕ) (lines : ℕ) (rules kernels starts closures : List ℕ) (states : ℕ) : Type 0 where
+  pub count : ℕ
+  pub owned : List ℕ
+  pub nulls : List ℕ
+  pub reaches : List ℕ
+  pub plans-held : PlansHeld b rules count definitions lines owned kernels starts closures nulls reaches
+  pub states-are : states ≡ b .states

@@ -10,6 +10,7 @@ use lib.Seq.{getD-set-same, getD-set-other}
 use Rattle.grammar.specs.Limits.{MAX-INHERITED}
 use Rattle.grammar.specs.Data.Book.{Book}
 use Rattle.grammar.specs.Format.Ordered.{Ordered, Spelled}
+use Rattle.grammar.specs.Conditions.Decides.{false-of}
 use Rattle.grammar.specs.Conditions.Meaning.{WithinLimits, Declared}
 use Rattle.grammar.specs.BookFacts.{small-book}
 use Rattle.grammar.specs.Refusal.{Sound}
@@ -19,14 +20,15 @@ use Rattle.grammar.specs.Automaton.ReachSets.{reachSets}
 use Rattle.grammar.specs.Automaton.ItemsRightLaws.{book-items-right}
 use Rattle.grammar.specs.Evaluator.Machine.{Frame, cell}
 use Rattle.grammar.specs.Formulas.PartialLaws.{partialAt, partial-items}
-use Rattle.grammar.specs.Formulas.FormulaCheck.{listed}
+use Rattle.grammar.specs.Formulas.FormulaCheck.{dotOf, lineAt, listed}
 use Rattle.grammar.specs.Formulas.FormulaCheckLaws.{Tells}
 use Rattle.grammar.specs.Formulas.FormulaCheckAll.{listed-tells}
 use Rattle.attributes.specs.Checking.{memberOf}
+use Rattle.attributes.specs.Idle.{Idle}
 use Rattle.attributes.specs.StateMarks.{StateMarksIn}
 use Rattle.attributes.specs.Telling.{marks-tell}
 use Rattle.plans.specs.Planning.{applied, plan}
-use Rattle.plans.specs.PlanningLaws.{plan-short, plan-same}
+use Rattle.plans.specs.PlanningLaws.{plan-short, plan-none, plan-same}
 use Rattle.plans.specs.PlanCell.{planned-cell}
 use Rattle.plans.specs.PlanRows.{PlanRow, Elsewhere}
 use Rattle.plans.specs.Plans.{planOf, PlanAt, PlansIn, NoLines}
@@ -40,6 +42,10 @@ module _ {b : Book} (ordered : Ordered b) (limits : WithinLimits b) (declared : 
   -- the sets of terminals of the state's items give the plan
   pub plan-marked : {masks : List ℕ} → StateMarksIn b S masks → a < 32 → plan b (memberOf masks a) ≡ planOf b S a
   plan-marked {masks} H low = plan-same b (memberOf masks a) _ (marks-tell limits declared ordered S H a low listed-tell)
+
+  -- where no item of the state is that of a definition, it has no lines
+  pub plan-idle : Idle b S → planOf b S a ≡ []
+  plan-idle idle = plan-none b _ λ d l. false-of (listed-tell (lineAt b d .rule) (dotOf (lineAt b d))) λ (c, there). idle d c l (there .0)
 
 -- "Set the top cell's inherited values by the partial state's formulas, 0 where there is none"
 pub plan-sets-cell : {b : Book} → Spelled b → Sound b → (S a : ℕ) (st : List Frame) (K : ℕ)

@@ -1,12 +1,20 @@
-// The plans of partial states, each worked out when it is first asked for.
+// The plans of partial states: those of states at whose items nothing is defined are noted before the run, any other is worked out when it is first asked for.
 // A contract asks that the arrays hold some book, and says its statement of every book that they hold.
 ghost use mathlib.Core.Path.{_≡_};
-ghost use Prim.Native.Nat.{_+_, _*_, _<_};
+ghost use mathlib.Core.List.{List};
+ghost use Prim.Native.Nat.{ℕ, _+_, _*_, _<_};
 ghost use lib.ListN.{length};
 ghost use Rattle.grammar.specs.Data.Book.{Book};
+ghost use Rattle.grammar.specs.Format.Ordered.{Ordered};
+ghost use Rattle.grammar.specs.Automaton.FirstSets.{setsOf};
+ghost use Rattle.grammar.specs.Formulas.FormulaCheck as grammar;
+ghost use Rattle.automaton.specs.StatesIn.{ItemsIn};
+ghost use Rattle.attributes.specs.Idle.{PlacesIn};
 ghost use Rattle.plans.specs.PlanRows.{PlanRow};
-ghost use Rattle.plans.specs.Plans.{planOf, PlansIn, PlansHeld, NoLines};
+ghost use Rattle.plans.specs.Plans.{planOf, PlansIn, PlansHeld, StatesHeld, NoLines};
 use super::planning::plan;
+use attributes::idle::idle;
+use attributes::idle::mark_places;
 use attributes::masks::masks;
 use attributes::skips::skip;
 
@@ -19,6 +27,54 @@ fn plan_nothing(counts: &mut [u8], state: usize)
     while a < 32 {
         counts[32 * state + a] = 1;
         a += 1;
+    }
+}
+
+// The same of a state at whose items nothing is defined; of any other nothing is noted.
+fn plan_if_idle(
+    kernels: &[u32],
+    starts: &[u32],
+    closures: &[u32],
+    state: usize,
+    places: &[u32],
+    counts: &mut [u8],
+)
+    requires { ⌜ ((b : Book) × (rules : List ℕ) × ItemsIn b (setsOf (b .rules)) rules (now kernels) (now starts) (now closures) × (state < b .states))
+        × (length (now places) ≡ 608) × (length (now counts) ≡ 4096) ⌝ }
+    ensures { λ _. ⌜ ((b : Book) (rules lists : List ℕ) → Ordered b
+        → ItemsIn b (setsOf (b .rules)) rules (now (kernels .entry)) (now (starts .entry)) (now (closures .entry))
+        → PlacesIn b (grammar.definitions b) (now (places .entry)) → state < b .states
+        → PlansIn b (now (counts .entry)) lists → PlansIn b (now (counts .exit)) lists) ⌝ }
+{
+    if !idle(kernels, starts, closures, state, places) {
+        return;
+    }
+    plan_nothing(counts, state);
+}
+
+// The plans of all states at whose items nothing is defined.
+pub fn plan_idle(
+    definitions: &[u32],
+    lines: usize,
+    rules: &[u32],
+    kernels: &[u32],
+    starts: &[u32],
+    closures: &[u32],
+    states: usize,
+    counts: &mut [u8],
+)
+    requires { ⌜ ((b : Book) × StatesHeld b (now definitions) lines (now rules) (now kernels) (now starts) (now closures) states)
+        × (length (now counts) ≡ 4096) ⌝ }
+    ensures { λ _. ⌜ ((b : Book) (lists : List ℕ) → StatesHeld b (now (definitions .entry)) lines (now (rules .entry)) (now (kernels .entry))
+        (now (starts .entry)) (now (closures .entry)) states
+        → PlansIn b (now (counts .entry)) lists → PlansIn b (now (counts .exit)) lists) ⌝ }
+{
+    let mut places = [0u32; 608];
+    mark_places(definitions, lines, rules, &mut places);
+    let mut state = 0;
+    while state < states {
+        plan_if_idle(kernels, starts, closures, state, &places, counts);
+        state += 1;
     }
 }
 
@@ -67,10 +123,6 @@ pub fn planned(
     );
     let mut skips = [0u8; 129];
     skip(definitions, lines as usize, sets, &mut skips);
-    if skips[0] as u32 == lines {
-        plan_nothing(counts, state);
-        return 0;
-    }
     let n = plan(
         definitions,
         lines as usize,

@@ -1,7 +1,7 @@
--- `evaluating::message` meets its contract: the machine is asked with empty stacks. Assumes nothing.
+-- `evaluating::message` meets its contract: the machine is asked with empty stacks, and the plans of idle states. Assumes nothing.
 use mathlib.Core.Path.{refl}
 use Rattle.engine.specs.Sides.{asked-sides}
-use Rattle.engine.specs.Driving.{run-in, tokens-of, plans-of, run-room}
+use Rattle.engine.specs.Driving.{states-held, run-in, tokens-of, plans-of, run-room}
 use borrow.Author.Needs.{needs}
 use Rattle.engine.proofs.evaluating.message.Statement.{statement}
 use Rattle.engine.proofs.evaluating.message.Tie as tie
@@ -13,8 +13,11 @@ sides-start c =
     c .before .before .before .before .before .before .before .before .before .before .before
     .before .before .before .before .before .before .before .before .before .before
 
-abbrev sides-at : tie.After-run-arg3 → tie.After-fill-sides
-sides-at c = c .before .before .before .before .before .before .before .before .before .before .before .before .before .before .before .before
+abbrev sides-at : tie.After-counts → tie.After-fill-sides
+sides-at c = c .before .before .before .before .before .before .before
+
+abbrev planned-at : tie.After-run-arg3 → tie.After-plan-idle
+planned-at c = c .before .before .before .before .before .before .before .before .before .before .before .before .before
 
 slice-aggregate-fill-sides : tie.Need-slice-aggregate-fill-sides
 slice-aggregate-fill-sides c = search needs
@@ -31,6 +34,20 @@ slice-aggregate-fill-sides-4 c = search needs
 fill-sides-requires : tie.Need-fill-sides-requires
 fill-sides-requires c κs = let s = sides-start c in
     ((s .pre .0 .0, asked-sides (s .pre .0 .1 .ready)), (refl, refl, refl, refl))
+
+cast-plan-idle : tie.Need-cast-plan-idle
+cast-plan-idle c = search needs
+
+cast-plan-idle-2 : tie.Need-cast-plan-idle-2
+cast-plan-idle-2 c = search needs
+
+slice-aggregate-plan-idle : tie.Need-slice-aggregate-plan-idle
+slice-aggregate-plan-idle c = search needs
+
+plan-idle-requires : tie.Need-plan-idle-requires
+plan-idle-requires c κs = let o = sides-at c in
+    let (b, t) = sides-start (o .before) .pre .0 in
+    ((b, states-held t (o .fill-sides .ensures b (asked-sides (t .ready)))), refl)
 
 slice-aggregate-run : tie.Need-slice-aggregate-run
 slice-aggregate-run c = search needs
@@ -60,18 +77,14 @@ slice-aggregate-run-9 : tie.Need-slice-aggregate-run-9
 slice-aggregate-run-9 c = search needs
 
 run-requires : tie.Need-run-requires
-run-requires c κs = let o = sides-at c in
+run-requires c κs = let p = planned-at c in
+    let o = sides-at (p .before) in
     let s = sides-start (o .before) in
-    let t = s .pre .0 .1 in
-    let m = s .pre .1 .0 in (
+    let (b, t) = s .pre .0 in
+    let m = s .pre .1 .0 in
+    let sides = o .fill-sides .ensures b (asked-sides (t .ready)) in (
       (run-room (s .pre .1 .1) (s .pre .1 .3), s .pre .1 .1),
-      (
-        s .pre .0 .0,
-        m .list,
-        run-in t (o .fill-sides .ensures (s .pre .0 .0) (asked-sides (t .ready))) (m .tokens-are),
-        tokens-of t m,
-        plans-of t (s .pre .1 .2),
-      ),
+      (b, m .list, run-in t sides (m .tokens-are), tokens-of t m, p .plan-idle .ensures b _ (states-held t sides) (plans-of t (s .pre .1 .2))),
     )
 
 same-length : tie.Need-same-length
@@ -85,9 +98,11 @@ same-length-3 c = search needs
 
 returns : tie.Need-returns
 returns c = λ b t m. let k = c .before .before .before .before .before .before .before .before .before .before .before in
-    let o = sides-at (k .before) in
-    k .run .ensures b (m .list) (run-in t (o .fill-sides .ensures b (asked-sides (t .ready))) (m .tokens-are)) (tokens-of t m)
-    (plans-of t (sides-start (o .before) .pre .1 .2))
+    let p = planned-at (k .before) in
+    let o = sides-at (p .before) in
+    let sides = o .fill-sides .ensures b (asked-sides (t .ready)) in
+    k .run .ensures b (m .list) (run-in t sides (m .tokens-are)) (tokens-of t m)
+    (p .plan-idle .ensures b _ (states-held t sides) (plans-of t (sides-start (o .before) .pre .1 .2)))
 
 pub message-spec : {M : Type 1} → statement M
 message-spec =
@@ -98,6 +113,10 @@ message-spec =
     slice-aggregate-fill-sides-3
     slice-aggregate-fill-sides-4
     fill-sides-requires
+    cast-plan-idle
+    cast-plan-idle-2
+    slice-aggregate-plan-idle
+    plan-idle-requires
     slice-aggregate-run
     slice-aggregate-run-2
     slice-aggregate-run-3

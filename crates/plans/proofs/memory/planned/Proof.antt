@@ -5,7 +5,7 @@ use native.Mathlib.Omega.{arith}
 use mathlib.Core.Path.{refl}
 use borrow.Author.Needs.{needs}
 use Rattle.grammar.specs.Limits.{MAX-INHERITED}
-use Rattle.plans.specs.MemoryLaws.{row-short, place-low, few-states, few-lines, plans-check, plan-known, plan-new, plans-none-due}
+use Rattle.plans.specs.MemoryLaws.{row-short, place-low, plans-check, plan-known, plan-new}
 use Rattle.plans.proofs.memory.planned.Statement.{statement}
 use Rattle.plans.proofs.memory.planned.Tie as tie
 
@@ -22,7 +22,7 @@ abbrev marked : tie.After-skip → tie.After-masks
 marked c = c .before .before .before .before .before
 
 abbrev skipped : tie.After-plan → tie.After-skip
-skipped c = c .before .before .before .before .before .before
+skipped c = c .before .before .before .before .before
 
 place : (c : tie.After-slice-known4) → 32 * entry c .args .state + entry c .args .terminal < 4096
 place c = let s = entry c in place-low (s .pre .0 .1) (s .pre .0 .2) (s .pre .1)
@@ -72,47 +72,16 @@ skip-requires c κs =
     let marks = m .masks .ensures b (H .firsts) _ (F .marks-held) (plans-check H (entry (asked m) .pre .2)) (F .definitions-counted) l in
     ((b, _, _, plans-check H (marks .long), F .definitions-counted), refl)
 
-array-read-if2 : tie.Need-array-read-if2
-array-read-if2 c = search needs
-
-cast-if2 : tie.Need-cast-if2
-cast-if2 c =
-    let v = c .before in
-    let (b, H, l, M) = entry (asked (marked v)) .pre .0 in
-    omega (arith, v .skip .ensures .skip 0 (omega arith) (omega arith) .high, few-lines H)
-
-plan-nothing-requires : tie.Need-plan-nothing-requires
-plan-nothing-requires c κs =
-    let (b, H, l, M) = entry (asked (marked (c .before .before .before))) .pre .0 in
-    (omega (arith, l, few-states H), M .counts-long)
-
-same-length : tie.Need-same-length
-same-length c = search needs
-
-same-length-2 : tie.Need-same-length-2
-same-length-2 c = search needs
-
-returns-2 : tie.Need-returns-2
-returns-2 c =
-    λ b H l M.
-    let n = c .before .before in
-    let v = n .before .before .before .before in
-    let m = marked v in
-    let F = H .formulas-held in
-    let marks = m .masks .ensures b (H .firsts) _ (F .marks-held) (plans-check H (entry (asked m) .pre .2)) (F .definitions-counted) l in
-    let skip = v .skip .ensures .skip 0 (omega arith) (omega arith) in
-    plans-none-due H M _ marks (rw (n .before .before .if2 .taken) at skip) (n .plan-nothing .ensures) _ (entry (asked m) .pre .1)
-
 slice-aggregate-plan : tie.Need-slice-aggregate-plan
 slice-aggregate-plan c = search needs
 
 mul-plan : tie.Need-mul-plan
 mul-plan c =
-    omega (arith, place (asked (marked (c .before .before .before .before .before))))
+    omega (arith, place (asked (marked (c .before .before .before .before))))
 
 plan-requires : tie.Need-plan-requires
 plan-requires c κs =
-    let v = c .before .before .before .before .before in
+    let v = c .before .before .before .before in
     let m = marked v in
     let s = entry (asked m) in
     let (b, H, l, M) = s .pre .0 in
@@ -137,17 +106,17 @@ slice-write-counts c =
     let e = asked (marked (skipped (c .before .before))) in
     omega (arith, place e, entry e .pre .0 .3 .counts-long)
 
+same-length : tie.Need-same-length
+same-length c = search needs
+
+same-length-2 : tie.Need-same-length-2
+same-length-2 c = search needs
+
 same-length-3 : tie.Need-same-length-3
 same-length-3 c = search needs
 
-same-length-4 : tie.Need-same-length-4
-same-length-4 c = search needs
-
-same-length-5 : tie.Need-same-length-5
-same-length-5 c = search needs
-
-returns-3 : tie.Need-returns-3
-returns-3 c =
+returns-2 : tie.Need-returns-2
+returns-2 c =
     λ b H l M.
     let p = c .before .before in
     let m = marked (skipped p) in
@@ -168,19 +137,13 @@ planned-spec =
     masks-requires
     slice-aggregate-skip
     skip-requires
-    array-read-if2
-    cast-if2
-    plan-nothing-requires
-    same-length
-    same-length-2
-    returns-2
     slice-aggregate-plan
     mul-plan
     plan-requires
     cast-counts
     add-counts
     slice-write-counts
+    same-length
+    same-length-2
     same-length-3
-    same-length-4
-    same-length-5
-    returns-3)
+    returns-2)

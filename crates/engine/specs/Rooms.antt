@@ -14,6 +14,9 @@ use Rattle.book.specs.Spelling.{arrays, Roomy, Complete}
 use Rattle.compiler.specs.States.{TablesLent}
 use Rattle.compiler.specs.Compiling.{Compiles}
 
+abbrev pub tinyRoom : Room
+tinyRoom = record { definitions = 16; kernels = 16; goes = 16; states = 8 }
+
 abbrev pub shortRoom : Room
 shortRoom = record { definitions = 48; kernels = 64; goes = 64; states = 32 }
 
@@ -32,31 +35,30 @@ pub record ArraysLent (room : Room) (definitions kernels goes closures table : L
   pub goes-few : room .goes ≤ MAX-GOES
   pub states-few : room .states ≤ MAX-STATES
 
-pub short-arrays : ArraysLent shortRoom (replicate 2352 0) (replicate 320 0) (replicate 192 0) (replicate 1024 0) (replicate 2048 0)
-short-arrays = record {
-  definitions-long = zeros 2352;
-  kernels-long = zeros 320;
-  goes-long = zeros 192;
+-- arrays of zeros
+arrays-lent : (room : Room) → room .definitions ≤ MAX-DEFINITIONS → room .kernels ≤ MAX-KERNELS → room .goes ≤ MAX-GOES → room .states ≤ MAX-STATES
+    → ArraysLent room (replicate (49 * room .definitions) 0) (replicate (5 * room .kernels) 0) (replicate (3 * room .goes) 0)
+    (replicate (32 * room .states) 0) (replicate (64 * room .states) 0)
+arrays-lent room definitions kernels goes states = record {
+  definitions-long = zeros (49 * room .definitions);
+  kernels-long = zeros (5 * room .kernels);
+  goes-long = zeros (3 * room .goes);
   closures-none = refl;
-  table-long = zeros 2048;
-  definitions-few = omega arith;
-  kernels-few = omega arith;
-  goes-few = omega arith;
-  states-few = omega arith;
+  table-long = zeros (64 * room .states);
+  definitions-few = definitions;
+  kernels-few = kernels;
+  goes-few = goes;
+  states-few = states;
 }
 
+pub tiny-arrays : ArraysLent tinyRoom (replicate 784 0) (replicate 80 0) (replicate 48 0) (replicate 256 0) (replicate 512 0)
+tiny-arrays = arrays-lent tinyRoom (omega arith) (omega arith) (omega arith) (omega arith)
+
+pub short-arrays : ArraysLent shortRoom (replicate 2352 0) (replicate 320 0) (replicate 192 0) (replicate 1024 0) (replicate 2048 0)
+short-arrays = arrays-lent shortRoom (omega arith) (omega arith) (omega arith) (omega arith)
+
 pub full-arrays : ArraysLent fullRoom (replicate 6272 0) (replicate 2560 0) (replicate 3072 0) (replicate 4096 0) (replicate 8192 0)
-full-arrays = record {
-  definitions-long = zeros 6272;
-  kernels-long = zeros 2560;
-  goes-long = zeros 3072;
-  closures-none = refl;
-  table-long = zeros 8192;
-  definitions-few = omega arith;
-  kernels-few = omega arith;
-  goes-few = omega arith;
-  states-few = omega arith;
-}
+full-arrays = arrays-lent fullRoom (omega arith) (omega arith) (omega arith) (omega arith)
 
 -- where there is room for all that the limits allow, nothing is left out
 full-complete : (numbers : Book) → Complete fullRoom numbers

@@ -16,6 +16,7 @@ ghost use Rattle.engine.specs.Evaluations.{Asked, Answers, Evaluates, Me
 ghost use Rattle.engine.specs.Attempts.{Read, Attempts};
 ghost use Rattle.book.specs.declared.Room.{Room};
 use super::rooms::short_room;
+use super::rooms::tiny_room;
 use super::sides::fill_sides;
 use super::stored::text_in;
 use super::tokens::kinds_right;
@@ -35,7 +36,9 @@ const PAGE_WORDS: usize = 5120;
 // Numbers of the most tokens.
 const TOKEN_WORDS: usize = 510;
 
-// The first words, in which the text of a short book stands.
+// The first words, in which the text of a tiny book, and of a short one, stands.
+const TINY_WORDS: usize = 256;
+
 const SHORT_WORDS: usize = 1024;
 
 // The first of 12, 13 and 14 that applies to the room for rows and the tokens, or 0.
@@ -305,6 +308,42 @@ fn attempt(
     )
 }
 
+// By arrays for a tiny book, where the text ends before the last of the first words.
+fn tiny(words: &[u32], tokens: &[u32], rows: &mut [u32], count: &mut u32) -> Answer
+    requires { ⌜ (length (now words) ≡ BOOK-WORDS) × (getD (now words) 255 0 ≡ 0) ⌝ }
+    ensures { λ r. ⌜ (r .complete ≡ true → Answers (evaluateWords (now (words .entry)) (now (tokens .entry)) (length (now (rows .entry))))
+        (length (now (rows .entry))) (r .number) (now (rows .exit)) (now (count .exit))) ⌝ }
+{
+    let mut text = [0u8; 4096];
+    let found = text_in(words, TINY_WORDS, &mut text);
+    if !found.filled {
+        return Answer {
+            complete: true,
+            number: 11,
+        };
+    }
+    let mut waits = [0u8; 820];
+    let mut definitions = [0u32; 784];
+    let mut kernels = [0u32; 80];
+    let mut goes = [0u32; 48];
+    let mut lookaheads = [0u32; 256];
+    let mut table = [0u8; 512];
+    attempt(
+        &mut text,
+        found.count,
+        &mut waits,
+        tiny_room(),
+        &mut definitions,
+        &mut kernels,
+        &mut goes,
+        &mut lookaheads,
+        &mut table,
+        tokens,
+        rows,
+        count,
+    )
+}
+
 // By arrays for a short book, where the text ends before the last of the first words.
 fn short(words: &[u32], tokens: &[u32], rows: &mut [u32], count: &mut u32) -> Answer
     requires { ⌜ (length (now words) ≡ BOOK-WORDS) × (getD (now words) 1023 0 ≡ 0) ⌝ }
@@ -374,14 +413,12 @@ fn full(words: &[u32], tokens: &[u32], rows: &mut [u32], count: &mut u32) -> u32
     ).number
 }
 
-// The number that is answered; where it is 0, the rows and their count are in place.
-fn number(words: &[u32], tokens: &[u32], rows: &mut [u32], count: &mut u32) -> u32
+// By arrays for a short book, or for any where those have no room.
+fn longer(words: &[u32], tokens: &[u32], rows: &mut [u32], count: &mut u32) -> u32
+    requires { ⌜ length (now words) ≡ BOOK-WORDS ⌝ }
     ensures { λ r. ⌜ Answers (evaluateWords (now (words .entry)) (now (tokens .entry)) (length (now (rows .entry)))) (length (now (rows .entry))) r
         (now (rows .exit)) (now (count .exit)) ⌝ }
 {
-    if words.len() != Book::BOOK_WORDS {
-        return 11;
-    }
     if words[SHORT_WORDS - 1] != 0 {
         return full(words, tokens, rows, count);
     }
@@ -390,6 +427,24 @@ fn number(words: &[u32], tokens: &[u32], rows: &mut [u32], count: &mut u32) -> u
         return first.number;
     }
     full(words, tokens, rows, count)
+}
+
+// The number that is answered, by the shortest arrays that have room; where it is 0, the rows and their count are in place.
+fn number(words: &[u32], tokens: &[u32], rows: &mut [u32], count: &mut u32) -> u32
+    ensures { λ r. ⌜ Answers (evaluateWords (now (words .entry)) (now (tokens .entry)) (length (now (rows .entry)))) (length (now (rows .entry))) r
+        (now (rows .exit)) (now (count .exit)) ⌝ }
+{
+    if words.len() != Book::BOOK_WORDS {
+        return 11;
+    }
+    if words[TINY_WORDS - 1] != 0 {
+        return longer(words, tokens, rows, count);
+    }
+    let first = tiny(words, tokens, rows, count);
+    if first.complete {
+        return first.number;
+    }
+    longer(words, tokens, rows, count)
 }
 
 // 0 where the message is accepted, and its rows and their count; else the refusal, and zeros.

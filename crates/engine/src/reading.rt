@@ -1,14 +1,16 @@
 // Reading: the text of a book to the words of a stored book.
 ghost use mathlib.Core.Path.{_≡_};
+ghost use mathlib.Core.Bool.{true};
 ghost use Prim.Native.Nat.{_≤_};
 ghost use lib.ListN.{length};
 ghost use Rattle.grammar.specs.Limits.{MAX-TEXT, BOOK-WORDS};
 ghost use Rattle.grammar.specs.Refusal.{refusal};
 ghost use Rattle.grammar.specs.Engine.{readBook};
 ghost use Rattle.definitions.specs.Expressions.{WaitsRoom};
-ghost use Rattle.engine.specs.Rooms.{shortRoom, ArraysLent};
+ghost use Rattle.engine.specs.Rooms.{ArraysLent};
 ghost use Rattle.engine.specs.Readings.{Attempted, Reads, readNumber};
 use super::rooms::short_room;
+use super::rooms::tiny_room;
 use book::Book;
 use book::Room;
 use compiler::compile::compile;
@@ -16,7 +18,9 @@ use packing::packing::clear;
 use packing::packing::pack;
 use text::classes;
 
-// The longest text for which arrays for a short book are tried.
+// The longest texts for which arrays for a tiny book, and for a short one, are tried.
+const TINY_TEXT: usize = 1024;
+
 const SHORT_TEXT: usize = 4096;
 
 // The refusal of a text, or 0; nothing is said where arrays have no room for what the text has.
@@ -76,10 +80,34 @@ fn attempt(
     }
 }
 
+// By arrays for a tiny book.
+fn tiny(text: &[u8], words: &mut [u32]) -> Answer
+    requires { ⌜ (length (now text) ≤ 1024) × (length (now words) ≡ BOOK-WORDS) ⌝ }
+    ensures { λ r. ⌜ (r .complete ≡ true → r .refusal ≡ refusal (now (text .entry))) ⌝ }
+{
+    let mut waits = [0u8; 205];
+    let mut definitions = [0u32; 784];
+    let mut kernels = [0u32; 80];
+    let mut goes = [0u32; 48];
+    let mut lookaheads = [0u32; 256];
+    let mut table = [0u8; 512];
+    attempt(
+        text,
+        &mut waits,
+        tiny_room(),
+        &mut definitions,
+        &mut kernels,
+        &mut goes,
+        &mut lookaheads,
+        &mut table,
+        words,
+    )
+}
+
 // By arrays for a short book.
 fn short(text: &[u8], words: &mut [u32]) -> Answer
     requires { ⌜ (length (now text) ≤ 4096) × (length (now words) ≡ BOOK-WORDS) ⌝ }
-    ensures { λ r. ⌜ Attempted shortRoom (now (text .entry)) (r .complete) (r .refusal) ⌝ }
+    ensures { λ r. ⌜ (r .complete ≡ true → r .refusal ≡ refusal (now (text .entry))) ⌝ }
 {
     let mut waits = [0u8; 820];
     let mut definitions = [0u32; 2352];
@@ -124,8 +152,8 @@ fn full(text: &[u8], words: &mut [u32]) -> u32
     ).refusal
 }
 
-// The first of 2 to 10 that applies to a text, or 0.
-fn refusal(text: &[u8], words: &mut [u32]) -> u32
+// The first of 2 to 10 that applies to a text, or 0, by arrays for a short book, or for any where those have no room.
+fn longer(text: &[u8], words: &mut [u32]) -> u32
     requires { ⌜ (length (now text) ≤ MAX-TEXT) × (length (now words) ≡ BOOK-WORDS) ⌝ }
     ensures { λ r. ⌜ r ≡ refusal (now (text .entry)) ⌝ }
 {
@@ -137,6 +165,21 @@ fn refusal(text: &[u8], words: &mut [u32]) -> u32
         return first.refusal;
     }
     full(text, words)
+}
+
+// The first of 2 to 10 that applies to a text, or 0, by the shortest arrays that have room.
+fn refusal(text: &[u8], words: &mut [u32]) -> u32
+    requires { ⌜ (length (now text) ≤ MAX-TEXT) × (length (now words) ≡ BOOK-WORDS) ⌝ }
+    ensures { λ r. ⌜ r ≡ refusal (now (text .entry)) ⌝ }
+{
+    if TINY_TEXT < text.len() {
+        return longer(text, words);
+    }
+    let first = tiny(text, words);
+    if first.complete {
+        return first.refusal;
+    }
+    longer(text, words)
 }
 
 // 1 for the lengths, else the number of the text. What is in the words afterwards is not said.

@@ -1,7 +1,19 @@
-// How much room a short book has.
+// How much room a short book has, and a tiny one.
 ghost use mathlib.Core.Path.{_≡_};
-ghost use Rattle.engine.specs.Rooms.{shortRoom};
+ghost use Rattle.engine.specs.Rooms.{tinyRoom, shortRoom};
 use book::Room;
+
+// Room for a few lines of each kind.
+pub fn tiny_room() -> Room
+    ensures { λ r. ⌜ r ≡ tinyRoom ⌝ }
+{
+    Room {
+        definitions: 16,
+        kernels: 16,
+        goes: 16,
+        states: 8,
+    }
+}
 
 // Room for most books that advisers write.
 pub fn short_room() -> Room

@@ -1,5 +1,4 @@
--- `evaluating::number` meets its contract: arrays for any book are taken where those for a short one have no room. Assumes nothing.
-use native.Mathlib.Omega.{arith}
+-- `evaluating::number` meets its contract: longer arrays are taken where those for a tiny book have no room. Assumes nothing.
 use Rattle.engine.specs.Stored.{unfit-none}
 use Rattle.engine.specs.Evaluations.{answers-none}
 use borrow.Author.Needs.{needs}
@@ -16,10 +15,10 @@ mul-if2 : tie.Need-mul-if2
 mul-if2 c = search needs
 
 shared-slice-read-if2 : tie.Need-shared-slice-read-if2
-shared-slice-read-if2 c = omega (arith, c .before .if1 .left)
+shared-slice-read-if2 c = search needs
 
-full-requires : tie.Need-full-requires
-full-requires c κs = c .before .before .before .before .if1 .left
+longer-requires : tie.Need-longer-requires
+longer-requires c κs = search needs
 
 same-length : tie.Need-same-length
 same-length c = search needs
@@ -27,23 +26,23 @@ same-length c = search needs
 returns-2 : tie.Need-returns-2
 returns-2 c = search needs
 
-short-requires : tie.Need-short-requires
-short-requires c κs = (c .before .before .before .before .if1 .left, c .before .before .if2 .left)
+tiny-requires : tie.Need-tiny-requires
+tiny-requires c κs = search needs
 
 same-length-2 : tie.Need-same-length-2
 same-length-2 c = search needs
 
 returns-3 : tie.Need-returns-3
-returns-3 c = c .before .before .before .short .ensures (c .if3 .taken)
+returns-3 c = c .before .before .before .tiny .ensures (c .if3 .taken)
 
-full-requires-2 : tie.Need-full-requires-2
-full-requires-2 c κs = c .before .before .before .before .before .before .before .before .before .before .if1 .left
+longer-requires-2 : tie.Need-longer-requires-2
+longer-requires-2 c κs = search needs
 
 same-length-3 : tie.Need-same-length-3
 same-length-3 c = search needs
 
 returns-4 : tie.Need-returns-4
-returns-4 c = rw (c .before .before .before .before .before .before .before .before .short .kept .1 .1 .0) at (c .before .before .full2 .ensures)
+returns-4 c = rw (c .before .before .before .before .before .before .before .before .tiny .kept .1 .1 .0) at (c .before .before .longer2 .ensures)
 
 pub number-spec : {M : Type 1} → statement M
 number-spec =
@@ -53,12 +52,12 @@ number-spec =
     sub-if2
     mul-if2
     shared-slice-read-if2
-    full-requires
+    longer-requires
     same-length
     returns-2
-    short-requires
+    tiny-requires
     same-length-2
     returns-3
-    full-requires-2
+    longer-requires-2
     same-length-3
     returns-4)

@@ -38,8 +38,7 @@ same-length : tie.Need-same-length
 same-length c = search needs
 
 returns : tie.Need-returns
-returns c = let a = c .before .before .before .before .before .before .before .before in rw (a .before .before .before .before .before .before .before
-    .short-room .ensures) at (a .attempt .ensures)
+returns c = c .before .before .before .before .before .before .before .before .attempt .ensures .told
 
 pub short-spec : {M : Type 1} → statement M
 short-spec =

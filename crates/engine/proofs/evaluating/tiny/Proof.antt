@@ -1,0 +1,93 @@
+-- `evaluating::tiny` meets its contract: the arrays have as much room as is said. Assumes nothing.
+use Rattle.packing.specs.FrontLaws.{unpack-front}
+use native.Mathlib.Omega.{arith}
+use borrow.Author.Tests.{not-true, not-false}
+use Rattle.engine.specs.Rooms.{zeros, tiny-arrays}
+use Rattle.engine.specs.Stored.{unfilled}
+use Rattle.engine.specs.Evaluations.{answers-none}
+use borrow.Author.Needs.{needs}
+use Rattle.engine.proofs.evaluating.tiny.Statement.{statement}
+use Rattle.engine.proofs.evaluating.tiny.Tie as tie
+
+slice-aggregate-text-in : tie.Need-slice-aggregate-text-in
+slice-aggregate-text-in c = search needs
+
+text-in-requires : tie.Need-text-in-requires
+text-in-requires c κs = let s = c .before .before .before .before in (
+  s .pre .0,
+  omega arith,
+  unpack-front 255 (s .args .words .now) (omega (arith, s .pre .0)) (s .pre .1),
+  omega (arith, zeros 4096),
+  omega (
+    arith,
+    zeros 4096,
+  ),
+)
+
+returns : tie.Need-returns
+returns c = λ _. answers-none _ _ _ (unfilled (c .before .before .before .text-in .ensures) (not-true _ (c .if1 .taken)))
+
+slice-aggregate-attempt : tie.Need-slice-aggregate-attempt
+slice-aggregate-attempt c = search needs
+
+slice-aggregate-attempt-2 : tie.Need-slice-aggregate-attempt-2
+slice-aggregate-attempt-2 c = search needs
+
+tiny-room-requires : tie.Need-tiny-room-requires
+tiny-room-requires c κs = search needs
+
+slice-aggregate-attempt-3 : tie.Need-slice-aggregate-attempt-3
+slice-aggregate-attempt-3 c = search needs
+
+slice-aggregate-attempt-4 : tie.Need-slice-aggregate-attempt-4
+slice-aggregate-attempt-4 c = search needs
+
+slice-aggregate-attempt-5 : tie.Need-slice-aggregate-attempt-5
+slice-aggregate-attempt-5 c = search needs
+
+slice-aggregate-attempt-6 : tie.Need-slice-aggregate-attempt-6
+slice-aggregate-attempt-6 c = search needs
+
+slice-aggregate-attempt-7 : tie.Need-slice-aggregate-attempt-7
+slice-aggregate-attempt-7 c = search needs
+
+attempt-requires : tie.Need-attempt-requires
+attempt-requires c κs = let k = c .before .before .before .before .before .before .before .before .before .before .before .before .before in
+    let e = c .before .before .before .before .before .before .before .tiny-room .ensures in (
+      (
+        c .before .before .before .before .before .before .before .before .before .before .before .before .before .before .before .before .before .before
+            .args .words .now,
+        rw (not-false (k .text-in .result .filled) (c .before .before .before .before .before .before .before .before .before .before
+            .if1 .left)) at (k .text-in .ensures),
+      ),
+      rw e (omega (arith, k .text-in .kept .1 .1 .0)),
+      omega (arith, k .text-in .ensures .inside, k .text-in .kept .1 .1 .0, zeros 820),
+      rw e tiny-arrays,
+    )
+
+same-length : tie.Need-same-length
+same-length c = search needs
+
+returns-2 : tie.Need-returns-2
+returns-2 c = λ w. let a = c .before .before .before .before .before .before .before .before .before in let k = a .before .before .before .before .before
+    .before .before .before .before .before .before .before .before .before in a .attempt .ensures .answers w _ (rw (not-false (k .text-in .result .filled)
+    (a .before .before .before .before .before .before .before .before .before .before .before .if1 .left)) at (k .text-in .ensures))
+
+pub tiny-spec : {M : Type 1} → statement M
+tiny-spec =
+    tie.close
+    (tie.spec
+    slice-aggregate-text-in
+    text-in-requires
+    returns
+    slice-aggregate-attempt
+    slice-aggregate-attempt-2
+    tiny-room-requires
+    slice-aggregate-attempt-3
+    slice-aggregate-attempt-4
+    slice-aggregate-attempt-5
+    slice-aggregate-attempt-6
+    slice-aggregate-attempt-7
+    attempt-requires
+    same-length
+    returns-2)

@@ -1,0 +1,56 @@
+-- `reading::tiny` meets its contract: the arrays have as much room as is said. Assumes nothing.
+use native.Mathlib.Omega.{arith}
+use Rattle.engine.specs.Rooms.{zeros, tiny-arrays}
+use borrow.Author.Needs.{needs}
+use Rattle.engine.proofs.reading.tiny.Statement.{statement}
+use Rattle.engine.proofs.reading.tiny.Tie as tie
+
+slice-aggregate-attempt : tie.Need-slice-aggregate-attempt
+slice-aggregate-attempt c = search needs
+
+tiny-room-requires : tie.Need-tiny-room-requires
+tiny-room-requires c κs = search needs
+
+slice-aggregate-attempt-2 : tie.Need-slice-aggregate-attempt-2
+slice-aggregate-attempt-2 c = search needs
+
+slice-aggregate-attempt-3 : tie.Need-slice-aggregate-attempt-3
+slice-aggregate-attempt-3 c = search needs
+
+slice-aggregate-attempt-4 : tie.Need-slice-aggregate-attempt-4
+slice-aggregate-attempt-4 c = search needs
+
+slice-aggregate-attempt-5 : tie.Need-slice-aggregate-attempt-5
+slice-aggregate-attempt-5 c = search needs
+
+slice-aggregate-attempt-6 : tie.Need-slice-aggregate-attempt-6
+slice-aggregate-attempt-6 c = search needs
+
+attempt-requires : tie.Need-attempt-requires
+attempt-requires c κs = let s = c .before .before .before .before .before .before .before .before .before .before in (
+  omega (arith, s .pre .0),
+  s .pre .1,
+  omega (arith, s .pre .0, zeros 205),
+  rw (c .before .before .before .before .before .before .tiny-room .ensures) tiny-arrays,
+)
+
+same-length : tie.Need-same-length
+same-length c = search needs
+
+returns : tie.Need-returns
+returns c = c .before .before .before .before .before .before .before .before .attempt .ensures .told
+
+pub tiny-spec : {M : Type 1} → statement M
+tiny-spec =
+    tie.close
+    (tie.spec
+    slice-aggregate-attempt
+    tiny-room-requires
+    slice-aggregate-attempt-2
+    slice-aggregate-attempt-3
+    slice-aggregate-attempt-4
+    slice-aggregate-attempt-5
+    slice-aggregate-attempt-6
+    attempt-requires
+    same-length
+    returns)

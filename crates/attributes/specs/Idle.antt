@@ -1,40 +1,30 @@
 -- States at whose items no inherited attribute is defined: nothing is to be checked there. The places of the definitions stand in 608 words: word 9 * P + D
 -- is full if a definition is of the symbol behind the dot of the item (P, D), word 576 + A if one is of the first symbol of a rule of A. Assumes nothing.
-use Prim.Native.Nat.{ℕ, _+_, _*_, _-_, _^_, _<_, _≤_}
+use Prim.Native.Nat.{ℕ, _+_, _*_, _-_, _<_, _≤_}
 use native.Mathlib.Omega.{arith}
 use native.Mathlib.Decide.{ℕ-discrete}
-use mathlib.Core.Path.{_≡_, refl, sym, ap, _∙_}
-use mathlib.Core.Logic.{inl, inr}
+use mathlib.Core.Path.{_≡_, refl, ap, _∙_}
+use mathlib.Core.Logic.{_⊎_, inl, inr}
 use mathlib.Core.Bool.{Bool, true, false}
-use mathlib.Core.List.{List, List·Memᴰ as Mem}
+use mathlib.Core.List.{List}
 use lib.Bits.{bitAnd, bitOr, and-mask}
-use lib.ListN.{length, getD, set, take, replicate, length-set, length-replicate}
-use lib.Seq.{getD-set-same, getD-set-other, slice, length-slice, getD-take, getD-drop}
-use Rattle.sets.specs.Sets.{bit}
+use lib.ListN.{length, getD, set, replicate, length-set, length-replicate}
+use lib.Seq.{getD-set-same, getD-set-other}
 use Rattle.sets.specs.Bits.{below-suc}
 use Rattle.sets.specs.Operations.{full, or-none}
 use Rattle.grammar.specs.Data.Symbol.{leftOf}
-use Rattle.grammar.specs.Data.Book.{Book, Kernel}
+use Rattle.grammar.specs.Data.Book.{Book}
 use Rattle.grammar.specs.Format.Ordered.{Ordered}
-use Rattle.grammar.specs.BookFacts.{small-book}
-use Rattle.grammar.specs.Automaton.Members.{some-not-none}
-use Rattle.grammar.specs.Automaton.Fixpoint.{setAt}
 use Rattle.grammar.specs.Automaton.FirstSets.{setsOf}
-use Rattle.grammar.specs.Automaton.FirstSetsLaws.{sets-right}
-use Rattle.grammar.specs.Automaton.Items.{kernel-item, Closure}
-use Rattle.grammar.specs.Automaton.KernelLines.{in-state}
-use Rattle.grammar.specs.Automaton.ClosureSets.{closureSets}
-use Rattle.grammar.specs.Automaton.ClosureLaws.{Shape, closure-shape, closure-family}
-use Rattle.grammar.specs.Automaton.Small.{SmallBook}
+use Rattle.grammar.specs.Automaton.Items.{Closure}
 use Rattle.grammar.specs.Formulas.Passes.{passes-keep}
 use Rattle.grammar.specs.Formulas.FormulaCheck as grammar
 use Rattle.grammar.specs.Formulas.FormulaCheck.{Progress, dotOf, lineAt, advance, fresh, unsplit, visit, ended, check}
-use Rattle.grammar.specs.Data.ListLaws.{member-at}
-use Rattle.book.specs.Held.{noKernel, kernelAt}
-use Rattle.automaton.specs.StatesIn.{ItemsIn, Range, state-range}
+use Rattle.automaton.specs.StatesIn.{ItemsIn}
 use Rattle.attributes.specs.Checking.{CheckHeld}
 use Rattle.attributes.specs.CheckingLaws.{rule-low, position-high, position-word, left-word, left-below, place-is}
 use Rattle.attributes.specs.Skips.{visit-absent}
+use Rattle.attributes.specs.StateWords.{InLine, InFront, located}
 
 -- The places of the definitions
 
@@ -154,49 +144,26 @@ Idle b S = (d a : ℕ) → d < grammar.definitions b → Closure b S (lineAt b d
 module _ {b : Book} {rules kernels starts closures places : List ℕ} (ordered : Ordered b) (I : ItemsIn b (setsOf (b .rules)) rules kernels starts closures)
     (L : PlacesIn b (grammar.definitions b) places) {S first last : ℕ} (s : S < b .states) (first-is : first ≡ getD starts S 0)
     (last-is : last ≡ getD starts (S + 1) 0) where
-  small : SmallBook b
-  small = small-book ordered (I .states-in .grammar-in .limits) (I .states-in .grammar-in .declared)
+  line-free : LinesFree kernels first last places → (d : ℕ) → d < grammar.definitions b
+      → InLine kernels first last (lineAt b d .rule) (dotOf (lineAt b d)) → ⊥
+  line-free K d l i =
+      let none : getD places (9 * lineAt b d .rule + dotOf (lineAt b d)) 0 ≡ 0 = rw (i .rule-is, i .dot-is) at (K .free (i .line) (i .low) (i .high)) in
+      omega (arith, none, L .item-is d l)
 
-  range : Range b S first last
-  range = rw (first-is, last-is) (state-range (I .states-in) S s)
-
-  module _ (d : ℕ) (l : d < grammar.definitions b) where
-    abbrev P : ℕ
-    P = lineAt b d .rule
-
-    abbrev D : ℕ
-    D = dotOf (lineAt b d)
-
-    line-free : LinesFree kernels first last places → {k : Kernel} → Mem k (b .kernels) → k .state ≡ S → k .rule ≡ P → k .dot ≡ D → ⊥
-    line-free K {k} m of-state rule dot =
-        let part : Mem k (slice first last (b .kernels)) = rw (range .lines-are) at (in-state m of-state) in
-        let (j, h, e) = member-at (slice first last (b .kernels)) noKernel part in
-        let below : first + j < last = omega (arith, h, length-slice first last (b .kernels) (range .within)) in
-        let is : kernelAt (b .kernels) (first + j) ≡ k =
-        sym (getD-take last (b .kernels) (first + j) noKernel below) ∙ sym (getD-drop first (take last (b .kernels)) j noKernel) ∙ e in
-        let inside : first + j < length (b .kernels) = omega (arith, range .within) in
-        let words = I .states-in .kernels-in in
-        let rule-word : getD kernels (5 * (first + j) + 1) 0 ≡ P = words .rule-is (first + j) inside ∙ ap (λ (x : Kernel). x .rule) is ∙ rule in
-        let dot-word : getD kernels (5 * (first + j) + 2) 0 ≡ D = words .dot-is (first + j) inside ∙ ap (λ (x : Kernel). x .dot) is ∙ dot in
-        let none : getD places (9 * P + D) 0 ≡ 0 = rw (rule-word, dot-word) at (K .free (first + j) (omega arith) below) in
-        omega (arith, none, L .item-is d l)
-
-    rule-free : FrontFree closures (32 * S) places 32 → D ≡ 0 → P < length (b .rules) → (a : ℕ)
-        → bit (setAt (closureSets b (setsOf (b .rules)) S) (leftOf (b .rules) P)) a ≡ true → ⊥
-    rule-free F z h a e =
-        let A : ℕ = leftOf (b .rules) P in
-        let w : ℕ = setAt (closureSets b (setsOf (b .rules)) S) A in
-        let low : A < 32 = small .small-rules .left-low P h in
-        let fits : w < 2 ^ 32 = closure-family small (sets-right (b .rules) (small .small-rules)) S .low A in
-        let none : bitAnd w full ≡ 0 = rw (I .closures-in .set-is S A s low, L .front-is d l z) at (F .free A low) in
-        some-not-none w a e (omega (arith, fits, none, and-mask w 32))
+  rule-free : FrontFree closures (32 * S) places 32 → (d : ℕ) → d < grammar.definitions b → dotOf (lineAt b d) ≡ 0
+      → InFront closures (32 * S) (leftOf (b .rules) (lineAt b d .rule)) → ⊥
+  rule-free F d l z i =
+      let w : ℕ = getD closures (32 * S + leftOf (b .rules) (lineAt b d .rule)) 0 in
+      let none : bitAnd w full ≡ 0 = rw (L .front-is d l z) at (F .free (leftOf (b .rules) (lineAt b d .rule)) (i .below)) in
+      i .some (omega (arith, i .fits, none, and-mask w 32))
 
   pub idle-state : FrontFree closures (32 * S) places 32 → LinesFree kernels first last places → Idle b S
-  idle-state F K d a l c = by (closure-shape small (sets-right (b .rules) (small .small-rules)) c)
+  idle-state F K d a l c = by (located ordered I s first-is last-is c)
     where
-      by : Shape b (setsOf (b .rules)) S (lineAt b d .rule) (dotOf (lineAt b d)) a → ⊥
-      by (inl (kernel-item m q r t u)) = line-free d l K m q r t
-      by (inr (z, h, e)) = rule-free d l F z h a e
+      by : InLine kernels first last (lineAt b d .rule) (dotOf (lineAt b d))
+          ⊎ ((dotOf (lineAt b d) ≡ 0) × InFront closures (32 * S) (leftOf (b .rules) (lineAt b d .rule))) → ⊥
+      by (inl i) = line-free K d l i
+      by (inr (z, i)) = rule-free F d l z i
 
 -- no definition is visited in the check of its partial states
 pub check-idle : (b : Book) (member : ℕ → ℕ → Bool) → ((d : ℕ) → d < grammar.definitions b → member (lineAt b d .rule) (dotOf (lineAt b d)) ≡ false)

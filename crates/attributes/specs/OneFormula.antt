@@ -1,16 +1,17 @@
 -- The one-formula check (10) of all states over a book in arrays, and that it answers what the tables' check answers. Assumes nothing.
 use Prim.Native.Nat.{ℕ, zero, suc, _<_, _≤_}
 use native.Mathlib.Omega.{arith}
-use mathlib.Core.Path.{_≡_, refl, ap, _∙_}
+use mathlib.Core.Path.{_≡_, refl, sym, ap, _∙_}
 use mathlib.Core.Bool.{Bool, true, false}
 use mathlib.Core.List.{List}
-use lib.ListN.{length}
-use Rattle.grammar.specs.Conditions.Decides.{false-of, allBelow}
+use lib.ListN.{length, replicate, length-replicate}
+use Rattle.grammar.specs.Conditions.Decides.{allBelow}
 use Rattle.grammar.specs.Data.Book.{Book, ownerAt}
 use Rattle.grammar.specs.Format.Ordered.{Ordered}
 use Rattle.grammar.specs.Conditions.Meaning.{WithinLimits, Declared, Owned, Defined}
 use Rattle.grammar.specs.BookFacts.{small-book}
 use Rattle.grammar.specs.Automaton.States.{KernelRules}
+use Rattle.grammar.specs.Automaton.Items.{Closure}
 use Rattle.grammar.specs.Automaton.FirstSets.{setsOf}
 use Rattle.grammar.specs.Automaton.ReachSets.{reachSets}
 use Rattle.grammar.specs.Automaton.ItemsRightLaws.{book-items-right}
@@ -18,18 +19,19 @@ use Rattle.grammar.specs.Automaton.Compiled.{itemsTable, partsTable, oneFormula
 use Rattle.grammar.specs.Formulas.Slots.{attributes}
 use Rattle.grammar.specs.Formulas.PartialLaws.{partialAt, partial-items}
 use Rattle.grammar.specs.Formulas.FormulaCheck as grammar
-use Rattle.grammar.specs.Formulas.FormulaCheck.{dotOf, lineAt, check, checkAll, listed}
+use Rattle.grammar.specs.Formulas.FormulaCheck.{check, checkAll, listed}
 use Rattle.grammar.specs.Formulas.FormulaCheckLaws.{Tells}
 use Rattle.grammar.specs.Formulas.FormulaCheckAll.{listed-tells, book-checkAll}
 use Rattle.grammar.specs.Data.ListLaws.{at-member}
 use Rattle.book.specs.Held.{DefinitionsIn}
-use Rattle.attributes.specs.Owned.{OwnedIn}
+use Rattle.attributes.specs.Owned.{OwnedIn, owned-some}
 use Rattle.attributes.specs.Checking.{memberOf, CheckHeld}
 use Rattle.attributes.specs.CheckHeldLaws.{check-held}
 use Rattle.attributes.specs.StateMarks.{MarksHeld, StateMarksIn}
 use Rattle.attributes.specs.Telling.{check-told}
 use Rattle.attributes.specs.Wanted.{all-below}
-use Rattle.attributes.specs.Idle.{Idle, check-idle}
+use Rattle.attributes.specs.Givers.{check-once}
+use Rattle.attributes.specs.SingleState.{Single}
 
 -- in every partial state each attribute has one formula (10)
 abbrev pub formulasRight : Book → Bool
@@ -105,13 +107,24 @@ module _ {b : Book} {rules : List ℕ} {count : ℕ} {definitions : List ℕ} {l
       same-below (λ a. check b (memberOf masks a)) (λ a. check b (listedIn b S a)) (suc (b .terminals)) λ a l.
       check-told limits declared (H .ordered) S M a (omega (arith, limits .terminals-limit .high)) (listed-tell S a)
 
-  -- of a state where nothing is to be checked
-  pub state-idle : (S : ℕ) → Idle b S → true ≡ stateRight b S
-  state-idle S idle = all-below (λ a. check b (listedIn b S a)) (suc (b .terminals)) λ a l.
-      check-idle b (listedIn b S a) λ d h.
-      false-of (listed-tell S a (lineAt b d .rule) (dotOf (lineAt b d))) λ (c, there). idle d c h (there .0)
+  -- what the lines of the definitions are read by
+  pub held-lines : (sets : List ℕ) × CheckHeld b definitions rules sets (replicate 576 0)
+  held-lines =
+      let (sets, O) = owned-some (b .inheritedOwners) (attributes b) owner-low in
+      (sets, held-check O (length-replicate {A = ℕ} 576 0))
+
+  -- of a state where each attribute is given once
+  pub state-single : (S : ℕ) → Single b S → true ≡ stateRight b S
+  state-single S single = all-below (λ a. check b (listedIn b S a)) (suc (b .terminals)) λ a l.
+      let in-closure : (P D : ℕ) → listedIn b S a P D ≡ true → (c : ℕ) × Closure b S P D c = λ P D m.
+      let (c, there) = listed-tell S a P D .sound m in (c, there .0) in
+      check-once b (listedIn b S a) (held-lines .1 .premises) λ d e h k m n. single d e h k (in-closure _ _ m) (in-closure _ _ n)
 
   -- of all states
   pub states-told : allBelow (b .states) (stateRight b) ≡ formulasRight b
   unfolding checkAll
   states-told = book-checkAll (H .ordered) limits declared (H .owned) (H .defined) (H .kernel-rules) (listedIn b) (λ S a l m. listed-tell S a)
+
+  -- of all states, where each attribute is given once in each
+  pub states-single : ((S : ℕ) → S < b .states → Single b S) → true ≡ formulasRight b
+  states-single single = all-below (stateRight b) (b .states) (λ S l. sym (state-single S (single S l))) ∙ states-told

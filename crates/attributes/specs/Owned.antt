@@ -77,6 +77,13 @@ owned-turn {owners} {i} {sets} O A e h = record { long = length-set sets A (with
         let s : B ≡ A → ⊥ = eqb-false B A q in
         getD-set-other sets A B (with (getD sets A 0) i) 0 s ∙ O .set-is B l ∙ sym (owned-not owners B i (λ f. s (sym f ∙ e)))
 
+-- there are such sets
+pub owned-some : (owners : List ℕ) (n : ℕ) → ((K : ℕ) → K < n → ownerAt owners K < 32) → (sets : List ℕ) × OwnedIn owners n sets
+owned-some owners zero low = (replicate 32 0, owned-start refl)
+owned-some owners (suc n) low =
+    let (sets, O) = owned-some owners n (λ K l. low K (omega arith)) in
+    (_, rw (add-one n) at (owned-turn O (ownerAt owners n) refl (low n (omega arith))))
+
 -- What the sets have
 
 either : (s t : Bool) → (s || t) ≡ true → (s ≡ true) ⊎ (t ≡ true)

@@ -13,22 +13,22 @@ ghost use Rattle.book.specs.Held.{OwnersIn};
 ghost use Rattle.formulas.specs.Table.{ROOM};
 ghost use Rattle.attributes.specs.Owned.{OwnedIn};
 ghost use Rattle.attributes.specs.Checking.{Room};
-ghost use Rattle.attributes.specs.Idle.{PlacesIn};
+ghost use Rattle.attributes.specs.Given.{GivenIn};
 ghost use Rattle.attributes.specs.OneFormula.{FormulasHeld, stateRight, formulasRight};
 use super::check::check_state;
-use super::idle::idle;
-use super::idle::mark_places;
+use super::givers::mark_givers;
 use super::masks::masks;
 use super::owned::owned;
+use super::single::single;
 
-// 10, of the partial states of one state: nothing if it is idle, else their items, then the check.
+// 10, of the partial states of one state: nothing if each attribute is given once there, else their items, then the check.
 fn state_right(
     rules: &[u32],
     count: u32,
     definitions: &[u32],
     lines: u32,
     owned: &[u32],
-    places: &[u32],
+    given: &[u32],
     kernels: &[u32],
     starts: &[u32],
     closures: &[u32],
@@ -45,14 +45,14 @@ fn state_right(
 ) -> bool
     requires { ⌜ ((b : Book) × (firsts : List ℕ) × (states : ℕ) × FormulasHeld b (now rules) count (now definitions) lines (now kernels) (now starts)
         (now closures) (now nulls) firsts (now reaches) terminals states × OwnedIn (b .inheritedOwners) (attributes b) (now owned)
-        × PlacesIn b (grammar.definitions b) (now places) × (state < states))
+        × GivenIn b (grammar.definitions b) (now given) × (state < states))
         × (length (now sets) ≡ 576) × Room (now slots) (now done) (now table) (now heads) (now nexts) ⌝ }
     ensures { λ r. ⌜ ((b : Book) (firsts : List ℕ) (states : ℕ) → FormulasHeld b (now (rules .entry)) count (now (definitions .entry)) lines
         (now (kernels .entry)) (now (starts .entry)) (now (closures .entry)) (now (nulls .entry)) firsts (now (reaches .entry)) terminals states
-        → OwnedIn (b .inheritedOwners) (attributes b) (now (owned .entry)) → PlacesIn b (grammar.definitions b) (now (places .entry))
+        → OwnedIn (b .inheritedOwners) (attributes b) (now (owned .entry)) → GivenIn b (grammar.definitions b) (now (given .entry))
         → state < states → r ≡ stateRight b state) ⌝ }
 {
-    if idle(kernels, starts, closures, state, places) {
+    if single(kernels, starts, closures, state, given) {
         return true;
     }
     masks(
@@ -89,7 +89,7 @@ fn states_right(
     definitions: &[u32],
     lines: u32,
     owned: &[u32],
-    places: &[u32],
+    given: &[u32],
     kernels: &[u32],
     starts: &[u32],
     closures: &[u32],
@@ -106,11 +106,11 @@ fn states_right(
 ) -> bool
     requires { ⌜ ((b : Book) × (firsts : List ℕ) × FormulasHeld b (now rules) count (now definitions) lines (now kernels) (now starts) (now closures)
         (now nulls) firsts (now reaches) terminals states × OwnedIn (b .inheritedOwners) (attributes b) (now owned)
-        × PlacesIn b (grammar.definitions b) (now places))
+        × GivenIn b (grammar.definitions b) (now given))
         × (length (now sets) ≡ 576) × Room (now slots) (now done) (now table) (now heads) (now nexts) ⌝ }
     ensures { λ r. ⌜ ((b : Book) (firsts : List ℕ) → FormulasHeld b (now (rules .entry)) count (now (definitions .entry)) lines (now (kernels .entry))
         (now (starts .entry)) (now (closures .entry)) (now (nulls .entry)) firsts (now (reaches .entry)) terminals states
-        → OwnedIn (b .inheritedOwners) (attributes b) (now (owned .entry)) → PlacesIn b (grammar.definitions b) (now (places .entry))
+        → OwnedIn (b .inheritedOwners) (attributes b) (now (owned .entry)) → GivenIn b (grammar.definitions b) (now (given .entry))
         → r ≡ allBelow (b .states) (stateRight b)) ⌝ }
 {
     let n = states as usize;
@@ -122,7 +122,7 @@ fn states_right(
             definitions,
             lines,
             owned,
-            places,
+            given,
             kernels,
             starts,
             closures,
@@ -171,8 +171,8 @@ pub fn one_formula(
 {
     let mut own = [0u32; 32];
     owned(owners, attributes as usize, &mut own);
-    let mut places = [0u32; 608];
-    mark_places(definitions, lines as usize, rules, &mut places);
+    let mut given = [0u32; 608];
+    mark_givers(definitions, lines as usize, rules, &mut given);
     let mut sets = [0u32; 576];
     let mut slots = [0u32; 16];
     let mut done = [0u8; 128];
@@ -183,7 +183,7 @@ pub fn one_formula(
         definitions,
         lines,
         &own,
-        &places,
+        &given,
         kernels,
         starts,
         closures,

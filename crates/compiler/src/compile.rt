@@ -19,6 +19,7 @@ ghost use Rattle.compiler.specs.Prepared.{Prepared};
 ghost use Rattle.compiler.specs.Compiling.{Checked, Compiles};
 use super::states::tables;
 use attributes::one_formula::one_formula;
+use attributes::single::all_single;
 use book::Book;
 use book::Room;
 use book::rooms::complete;
@@ -121,7 +122,8 @@ fn prepare(
     )
 }
 
-// Whether each attribute has one formula in every partial state (10). `nodes` is room for the nodes of formulas, whatever it holds.
+// Whether each attribute has one formula in every partial state (10): most books give each once, and have nothing to compare.
+// `nodes` is room for the nodes of formulas, whatever it holds.
 fn formulas_right(
     book: Book,
     inherited: &[u32],
@@ -143,6 +145,17 @@ fn formulas_right(
         (now (reached .entry)) (book .terminals) (book .states)
         → OwnersIn MAX-INHERITED (b .inheritedOwners) (now (inherited .entry)) → book .inherited ≡ length (b .inheritedOwners) → r ≡ formulasRight b) ⌝ }
 {
+    if all_single(
+        rules,
+        definitions,
+        book.inherited_definitions,
+        kernels,
+        starts,
+        lookaheads,
+        book.states,
+    ) {
+        return true;
+    }
     let mut nexts = [0u32; 1920];
     one_formula(
         inherited,

@@ -1,9 +1,9 @@
--- `one_formula::state_right` meets its contract: an idle state is right, and the check by the sets is that of the state.
+-- `one_formula::state_right` meets its contract: a state where each attribute is given once is right, and the check by the sets is that of the state.
 -- Assumes nothing.
 use native.Mathlib.Omega.{arith}
 use mathlib.Core.Path.{_∙_}
 use borrow.Author.Needs.{needs}
-use Rattle.attributes.specs.OneFormula.{terminals-low, held-check, state-told, state-idle}
+use Rattle.attributes.specs.OneFormula.{terminals-low, held-check, state-told, state-single}
 use Rattle.attributes.proofs.one_formula.state_right.Statement.{statement}
 use Rattle.attributes.proofs.one_formula.state_right.Tie as tie
 
@@ -14,16 +14,16 @@ start c = c .before .before .before .before .before .before .before .before .bef
 abbrev entry : tie.After-masks-arg → tie.Start
 entry c = start (c .before .before .before)
 
-idle-requires : tie.Need-idle-requires
-idle-requires c κs =
+single-requires : tie.Need-single-requires
+single-requires c κs =
     let g = start c .pre .0 in
     ((g .0, _, g .3 .marks-held .items-in, omega (arith, g .6, g .3 .states-are)), g .5 .long)
 
 returns : tie.Need-returns
 returns c = λ b firsts states H O L l.
     let v = c .before in
-    state-idle H (start (v .before) .args .state)
-    (v .idle .ensures (c .if1 .taken) b _ (H .ordered) (H .marks-held .items-in) L (omega (arith, l, H .states-are)))
+    state-single H (start (v .before) .args .state)
+    (v .single .ensures (c .if1 .taken) b _ (H .ordered) (H .marks-held .items-in) L (omega (arith, l, H .states-are)))
 
 masks-requires : tie.Need-masks-requires
 masks-requires c κs =
@@ -74,7 +74,7 @@ pub state-right-spec : {M : Type 1} → statement M
 state-right-spec =
     tie.close
     (tie.spec
-    idle-requires
+    single-requires
     returns
     masks-requires
     check-state-requires

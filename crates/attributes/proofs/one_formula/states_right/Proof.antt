@@ -12,22 +12,22 @@ use Rattle.grammar.specs.Data.Book.{Book}
 use Rattle.grammar.specs.Formulas.Slots.{attributes}
 use Rattle.grammar.specs.Formulas.FormulaCheck as grammar
 use Rattle.attributes.specs.Owned.{OwnedIn}
-use Rattle.attributes.specs.Idle.{PlacesIn}
+use Rattle.attributes.specs.Given.{GivenIn}
 use Rattle.attributes.specs.CheckLaws.{all-start, all-turn, one-fails}
 use Rattle.attributes.specs.OneFormula.{FormulasHeld, stateRight, states-low}
 use Rattle.attributes.proofs.one_formula.states_right.Statement.{statement}
 use Rattle.attributes.proofs.one_formula.states_right.Tie as tie
 
 abbrev Inv-loop : tie.InvT-loop
-Inv-loop rules count definitions lines owned places kernels starts closures nulls reaches terminals states sets₀ slots₀ done₀ table₀ heads₀ nexts₀
+Inv-loop rules count definitions lines owned given kernels starts closures nulls reaches terminals states sets₀ slots₀ done₀ table₀ heads₀ nexts₀
     n state₀ sets slots done table heads nexts state =
     (state ≤ states) × (length sets ≡ length sets₀) × (length slots ≡ length slots₀) × (length done ≡ length done₀)
     × (length table ≡ length table₀) × (length heads ≡ length heads₀) × (length nexts ≡ length nexts₀)
     × ((b : Book) (firsts : List ℕ) → FormulasHeld b rules count definitions lines kernels starts closures nulls firsts reaches terminals states
-    → OwnedIn (b .inheritedOwners) (attributes b) owned → PlacesIn b (grammar.definitions b) places → allBelow state (stateRight b) ≡ true)
+    → OwnedIn (b .inheritedOwners) (attributes b) owned → GivenIn b (grammar.definitions b) given → allBelow state (stateRight b) ≡ true)
 
 abbrev μ-loop : tie.MeasureT-loop
-μ-loop rules count definitions lines owned places kernels starts closures nulls reaches terminals states sets₀ slots₀ done₀ table₀ heads₀ nexts₀
+μ-loop rules count definitions lines owned given kernels starts closures nulls reaches terminals states sets₀ slots₀ done₀ table₀ heads₀ nexts₀
     n state₀ sets slots done table heads nexts state =
     states - state
 

@@ -24,13 +24,13 @@ use Rattle.grammar.specs.Automaton.TestLaws.{by-test}
 use Rattle.grammar.specs.Automaton.Actions.{Cell, conflict, meld, completed, meldItem, cellFrom}
 use Rattle.book.specs.Layout.{symbolCode}
 use Rattle.book.specs.Held.{KernelsIn, kernelAt}
-use Rattle.items.specs.NoItems.{Nothing, no-items}
 use Rattle.items.specs.Arrays.{ClosuresIn}
 use Rattle.items.specs.SymbolCodes.{terminal-code, nonterminal-code}
 use Rattle.items.specs.GrammarIn.{GrammarIn, Next, after-none, after-some, right-symbol-low, set-word}
 use Rattle.automaton.specs.StatesIn.{StatesIn, Stands, Range, state-range, lines-next}
 use Rattle.automaton.specs.Advances.{kernel-stands}
-use Rattle.automaton.specs.Lefts.{Lefts, Gathered, Least, Rest, rest-first, rest-none, rest-there, rest-idle, rest-more, idle-rules}
+use Rattle.automaton.specs.Lefts.{Least}
+use Rattle.automaton.specs.Fronts.{FrontsIn, Rest, rest-first, rest-none, rest-there, rest-idle, rest-more, idle-rules}
 use Rattle.automaton.specs.Cells.{shifting, shift-code}
 use Rattle.automaton.specs.ActionRows.{Row, Clash, Melded, Given, meldAt, itemCells, melded-at, melded-same, melded-none, melded-then, melded-clash}
 
@@ -148,68 +148,65 @@ module _ {b : Book} {F : Sets} {rules closures : List ℕ} (g : GrammarIn b rule
       go (suc M) n m = unfold entered cellFrom in m
 
 -- the rules below `rule` are done, and the others that the closure has are among the bits of `rest`
-pub record RulesActing (rules closures lefts : List ℕ) (T S : ℕ) (old now : List ℕ) (rest rule : ℕ) : Type 0 where
+pub record RulesActing (rules closures fronts : List ℕ) (T S : ℕ) (old now : List ℕ) (rest rule : ℕ) : Type 0 where
   pub long : length now ≡ length old
-  pub walk : (count : ℕ) → Lefts rules count lefts → Rest rules closures S count rest rule
+  pub walk : (b : Book) → S < b .states → FrontsIn b rules closures fronts → Rest rules closures S (length (b .rules)) rest rule
   pub so-far : (b : Book) (F : Sets) → GrammarIn b rules → ClosuresIn b F closures → S < b .states → T ≡ b .terminals
-      → Lefts rules (length (b .rules)) lefts → Row T S (cellFrom (b .rules) []) old
+      → FrontsIn b rules closures fronts → Row T S (cellFrom (b .rules) []) old
       → Melded T S (cellFrom (b .rules) (ofRules (b .rules) (closureSets b F S) rule)) old now true
 
-pub acting-none : (rules : List ℕ) {closures lefts : List ℕ} (T : ℕ) {S mask : ℕ} (old : List ℕ) → Gathered closures (32 * S) lefts 32 mask
-    → RulesActing rules closures lefts T S old old mask 0
+pub acting-none : (rules closures fronts : List ℕ) (T S : ℕ) (old : List ℕ) → RulesActing rules closures fronts T S old old (getD fronts S 0) 0
 unfolding ofRules
-acting-none rules T old G = record { long = refl; walk = λ count L. rest-first L G; so-far = λ b F g k s t L row. melded-none row }
+acting-none rules closures fronts T S old = record {
+  long = refl;
+  walk = λ b s W. rest-first W s;
+  so-far = λ b F g k s t W row. melded-none row;
+}
 
--- a closure without items gives none
-pub acting-nothing : {b : Book} {F : Sets} {rules closures : List ℕ} → GrammarIn b rules → ClosuresIn b F closures → {T S : ℕ} → S < b .states
-    → Nothing closures (32 * S) 32 → {old : List ℕ} → Row T S (cellFrom (b .rules) []) old
-    → Melded T S (cellFrom (b .rules) (ofRules (b .rules) (closureSets b F S) (length (b .rules)))) old old true
-acting-nothing g k s idle row = rw (no-items g k s refl idle) (melded-none row)
-
-module _ {rules closures lefts : List ℕ} {T S : ℕ} {old now : List ℕ} {rest rule : ℕ} (k : RulesActing rules closures lefts T S old now rest rule) where
+module _ {rules closures fronts : List ℕ} {T S : ℕ} {old now : List ℕ} {rest rule : ℕ} (k : RulesActing rules closures fronts T S old now rest rule) where
   pub acting-all : rest ≡ 0 → (b : Book) (F : Sets) → GrammarIn b rules → ClosuresIn b F closures → S < b .states → T ≡ b .terminals
-      → Lefts rules (length (b .rules)) lefts → Row T S (cellFrom (b .rules) []) old
+      → FrontsIn b rules closures fronts → Row T S (cellFrom (b .rules) []) old
       → Melded T S (cellFrom (b .rules) (ofRules (b .rules) (closureSets b F S) (length (b .rules)))) old now true
-  acting-all z b F g h s t L row =
-      let R : Rest rules closures S (length (b .rules)) rest rule = k .walk (length (b .rules)) L in
-      rw (idle-rules g h s rule (length (b .rules)) (R .within) (omega arith) (rest-none R z)) (k .so-far b F g h s t L row)
+  acting-all z b F g h s t W row =
+      let R : Rest rules closures S (length (b .rules)) rest rule = k .walk b s W in
+      rw (idle-rules g h s rule (length (b .rules)) (R .within) (omega arith) (rest-none R z)) (k .so-far b F g h s t W row)
 
   -- the next rule
   module _ {gap : ℕ} (least : Least rest gap) where
-    pub acting-stands : (b : Book) → S < b .states → Lefts rules (length (b .rules)) lefts → Stands b S (rule + gap) 0
-    acting-stands b s L = record { state-there = s; rule-there = rest-there (k .walk (length (b .rules)) L) least; dot-there = zero-le }
+    pub acting-stands : (b : Book) → S < b .states → FrontsIn b rules closures fronts → Stands b S (rule + gap) 0
+    acting-stands b s W = record { state-there = s; rule-there = rest-there (k .walk b s W) least; dot-there = zero-le }
 
     module _ {new : List ℕ} {r : Bool}
         (f : (b : Book) (F : Sets) (items : List Core) → GrammarIn b rules → ClosuresIn b F closures → Stands b S (rule + gap) 0 → T ≡ b .terminals
         → Row T S (cellFrom (b .rules) items) now
         → Melded T S (cellFrom (b .rules) (entered (rule + gap) (setAt (closureSets b F S) (leftOf (b .rules) (rule + gap))) items)) now new r) where
       next-rule : (b : Book) (F : Sets) → GrammarIn b rules → ClosuresIn b F closures → S < b .states → T ≡ b .terminals
-          → Lefts rules (length (b .rules)) lefts → Row T S (cellFrom (b .rules) []) old
+          → FrontsIn b rules closures fronts → Row T S (cellFrom (b .rules) []) old
           → Melded T S (cellFrom (b .rules) (ofRules (b .rules) (closureSets b F S) (rule + gap + 1))) old new r
       unfolding ofRules
-      next-rule b F g h s t L row =
-          let R : Rest rules closures S (length (b .rules)) rest rule = k .walk (length (b .rules)) L in
+      next-rule b F g h s t W row =
+          let R : Rest rules closures S (length (b .rules)) rest rule = k .walk b s W in
           let left-out : ofRules (b .rules) (closureSets b F S) (rule + gap) ≡ ofRules (b .rules) (closureSets b F S) rule =
           idle-rules g h s rule (rule + gap) (omega arith) (omega (arith, rest-there R least)) (rest-idle R least) in
           let m : Melded T S (cellFrom (b .rules) (ofRules (b .rules) (closureSets b F S) (rule + gap))) old now true =
-          rw left-out (k .so-far b F g h s t L row) in
-          rw (add-one (rule + gap)) (melded-then m (f b F (ofRules (b .rules) (closureSets b F S) (rule + gap)) g h (acting-stands b s L) t (m .row refl)))
+          rw left-out (k .so-far b F g h s t W row) in
+          rw (add-one (rule + gap)) (melded-then m (f b F (ofRules (b .rules) (closureSets b F S) (rule + gap)) g h (acting-stands b s W) t (m .row refl)))
 
       pub acting-more : r ≡ true → length new ≡ length now → {next : ℕ} → ((i : ℕ) → bit next i ≡ bit rest (gap + 1 + i))
-          → RulesActing rules closures lefts T S old new next (rule + gap + 1)
+          → RulesActing rules closures fronts T S old new next (rule + gap + 1)
       acting-more q e next-is = record {
         long = e ∙ k .long;
-        walk = λ count L. rest-more (k .walk count L) least next-is;
-        so-far = λ b F g h s t L row. rw q at (next-rule b F g h s t L row);
+        walk = λ b s W. rest-more (k .walk b s W) least next-is;
+        so-far = λ b F g h s t W row. rw q at (next-rule b F g h s t W row);
       }
 
       pub acting-fail : r ≡ false → (b : Book) (F : Sets) → GrammarIn b rules → ClosuresIn b F closures → S < b .states → T ≡ b .terminals
-          → Lefts rules (length (b .rules)) lefts → Row T S (cellFrom (b .rules) []) old
+          → FrontsIn b rules closures fronts → Row T S (cellFrom (b .rules) []) old
           → Melded T S (cellFrom (b .rules) (ofRules (b .rules) (closureSets b F S) (length (b .rules)))) old new false
-      acting-fail q b F g h s t L row =
-          let there : rule + gap < length (b .rules) = rest-there (k .walk (length (b .rules)) L) least in
+      acting-fail q b F g h s t W row =
+          let there : rule + gap < length (b .rules) = rest-there (k .walk b s W) least in
           melded-clash (clash-rules (b .rules) (closureSets b F S) (length (b .rules)) (rule + gap + 1) (omega arith)
-          (next-rule b F g h s t L row .clash q))
+          (next-rule b F g h s t W row .clash q))
 
 -- ---- the kernel lines of a state, from the last on
 

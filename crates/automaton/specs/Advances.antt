@@ -24,11 +24,11 @@ use Rattle.grammar.specs.Automaton.ClosureSets.{setOf, kernelsIn, closureSets}
 use Rattle.grammar.specs.Automaton.CoreItems.{Core, core, ofKernels, entered, ofRules, coreItems}
 use Rattle.grammar.specs.Automaton.StatesCheck.{holdsItem, advancesTo, advances, allAdvance, statesAdvance}
 use Rattle.book.specs.Held.{KernelsIn, kernelAt}
-use Rattle.items.specs.NoItems.{Nothing, no-items}
 use Rattle.items.specs.Arrays.{targetCode}
 use Rattle.items.specs.GrammarIn.{Next, after-none, after-some, right-go, set-word}
 use Rattle.automaton.specs.StatesIn.{StatesIn, MovesIn, ItemsIn, AutomatonIn, Stands, Range, state-range, kernel-there, lines-next}
-use Rattle.automaton.specs.Lefts.{Lefts, Gathered, Least, Rest, rest-first, rest-none, rest-there, rest-idle, rest-more, idle-rules}
+use Rattle.automaton.specs.Lefts.{Least}
+use Rattle.automaton.specs.Fronts.{FrontsIn, Rest, rest-first, rest-none, rest-there, rest-idle, rest-more, idle-rules}
 
 -- ---- one item
 
@@ -251,43 +251,37 @@ rules-false b S looks (suc n) p l e =
         unfold ofRules in entered-item b S n M (ofRules (b .rules) looks n) t refl ∙ stays t q
 
 -- the rules below `rule` advance, and the others that the closure has are among the bits of `rest`
-pub record RulesAdvance (rules kernels starts closures table lefts : List ℕ) (S rest rule : ℕ) : Type 0 where
-  pub walk : (count : ℕ) → Lefts rules count lefts → Rest rules closures S count rest rule
-  pub so-far : (b : Book) (F : Sets) → AutomatonIn b F rules kernels starts closures table → S < b .states → Lefts rules (length (b .rules)) lefts
+pub record RulesAdvance (rules kernels starts closures table fronts : List ℕ) (S rest rule : ℕ) : Type 0 where
+  pub walk : (b : Book) → S < b .states → FrontsIn b rules closures fronts → Rest rules closures S (length (b .rules)) rest rule
+  pub so-far : (b : Book) (F : Sets) → AutomatonIn b F rules kernels starts closures table → S < b .states → FrontsIn b rules closures fronts
       → allAdvance b S (ofRules (b .rules) (closureSets b F S) rule) ≡ true
 
-pub rules-none : (rules kernels starts closures table : List ℕ) {lefts : List ℕ} {S mask : ℕ} → Gathered closures (32 * S) lefts 32 mask
-    → RulesAdvance rules kernels starts closures table lefts S mask 0
+pub rules-none : (rules kernels starts closures table fronts : List ℕ) (S : ℕ)
+    → RulesAdvance rules kernels starts closures table fronts S (getD fronts S 0) 0
 unfolding allAdvance ofRules
-rules-none rules kernels starts closures table G = record { walk = λ count L. rest-first L G; so-far = λ b F h s L. refl }
+rules-none rules kernels starts closures table fronts S = record { walk = λ b s W. rest-first W s; so-far = λ b F h s W. refl }
 
--- a closure without items has none to advance
-pub rules-nothing : {b : Book} {F : Sets} {rules kernels starts closures table : List ℕ} → AutomatonIn b F rules kernels starts closures table → {S : ℕ}
-    → S < b .states → Nothing closures (32 * S) 32 → true ≡ allAdvance b S (ofRules (b .rules) (closureSets b F S) (length (b .rules)))
-unfolding allAdvance
-rules-nothing {b} h {S} s idle = sym (ap (allAdvance b S) (no-items (h .states-in .grammar-in) (h .closures-in) s refl idle))
-
-module _ {rules kernels starts closures table lefts : List ℕ} {S rest rule : ℕ} (k : RulesAdvance rules kernels starts closures table lefts S rest rule) where
+module _ {rules kernels starts closures table fronts : List ℕ} {S rest rule : ℕ} (k : RulesAdvance rules kernels starts closures table fronts S rest rule) where
   pub rules-all : rest ≡ 0 → (b : Book) (F : Sets) → AutomatonIn b F rules kernels starts closures table → S < b .states
-      → Lefts rules (length (b .rules)) lefts → true ≡ allAdvance b S (ofRules (b .rules) (closureSets b F S) (length (b .rules)))
-  rules-all z b F h s L =
-      let R : Rest rules closures S (length (b .rules)) rest rule = k .walk (length (b .rules)) L in
+      → FrontsIn b rules closures fronts → true ≡ allAdvance b S (ofRules (b .rules) (closureSets b F S) (length (b .rules)))
+  rules-all z b F h s W =
+      let R : Rest rules closures S (length (b .rules)) rest rule = k .walk b s W in
       let left-out = idle-rules (h .states-in .grammar-in) (h .closures-in) s rule (length (b .rules)) (R .within) (omega arith) (rest-none R z) in
-      sym (ap (allAdvance b S) left-out ∙ k .so-far b F h s L)
+      sym (ap (allAdvance b S) left-out ∙ k .so-far b F h s W)
 
   -- the next rule
   module _ {gap : ℕ} (least : Least rest gap) where
-    pub rule-stands : (b : Book) → S < b .states → Lefts rules (length (b .rules)) lefts → Stands b S (rule + gap) 0
-    rule-stands b s L = record { state-there = s; rule-there = rest-there (k .walk (length (b .rules)) L) least; dot-there = zero-le }
+    pub rule-stands : (b : Book) → S < b .states → FrontsIn b rules closures fronts → Stands b S (rule + gap) 0
+    rule-stands b s W = record { state-there = s; rule-there = rest-there (k .walk b s W) least; dot-there = zero-le }
 
-    next-rule : (b : Book) (F : Sets) → AutomatonIn b F rules kernels starts closures table → S < b .states → Lefts rules (length (b .rules)) lefts
+    next-rule : (b : Book) (F : Sets) → AutomatonIn b F rules kernels starts closures table → S < b .states → FrontsIn b rules closures fronts
         → (t : Bool) → ruleAdvances b F S (rule + gap) ≡ t → allAdvance b S (ofRules (b .rules) (closureSets b F S) (rule + gap + 1)) ≡ t
     unfolding ofRules ruleAdvances
-    next-rule b F h s L t q =
-        let R : Rest rules closures S (length (b .rules)) rest rule = k .walk (length (b .rules)) L in
+    next-rule b F h s W t q =
+        let R : Rest rules closures S (length (b .rules)) rest rule = k .walk b s W in
         let left-out = idle-rules (h .states-in .grammar-in) (h .closures-in) s rule (rule + gap) (omega arith) (omega (arith, rest-there R least))
         (rest-idle R least) in
-        rw (add-one (rule + gap)) (entered-item b S (rule + gap) _ _ t q ∙ own t (ap (allAdvance b S) left-out ∙ k .so-far b F h s L))
+        rw (add-one (rule + gap)) (entered-item b S (rule + gap) _ _ t q ∙ own t (ap (allAdvance b S) left-out ∙ k .so-far b F h s W))
       where
         own : (t : Bool) {x : Bool} → x ≡ true → elim t [ true ↦ x | false ↦ false ] ≡ t
         own true e = e
@@ -295,20 +289,20 @@ module _ {rules kernels starts closures table lefts : List ℕ} {S rest rule : �
 
     pub rules-more : ((b : Book) (F : Sets) → AutomatonIn b F rules kernels starts closures table → Stands b S (rule + gap) 0
         → true ≡ ruleAdvances b F S (rule + gap)) → {next : ℕ} → ((i : ℕ) → bit next i ≡ bit rest (gap + 1 + i))
-        → RulesAdvance rules kernels starts closures table lefts S next (rule + gap + 1)
+        → RulesAdvance rules kernels starts closures table fronts S next (rule + gap + 1)
     rules-more e next-is = record {
-      walk = λ count L. rest-more (k .walk count L) least next-is;
-      so-far = λ b F h s L. next-rule b F h s L true (sym (e b F h (rule-stands b s L)));
+      walk = λ b s W. rest-more (k .walk b s W) least next-is;
+      so-far = λ b F h s W. next-rule b F h s W true (sym (e b F h (rule-stands b s W)));
     }
 
     pub rules-fail : ((b : Book) (F : Sets) → AutomatonIn b F rules kernels starts closures table → Stands b S (rule + gap) 0
         → false ≡ ruleAdvances b F S (rule + gap))
-        → (b : Book) (F : Sets) → AutomatonIn b F rules kernels starts closures table → S < b .states → Lefts rules (length (b .rules)) lefts
+        → (b : Book) (F : Sets) → AutomatonIn b F rules kernels starts closures table → S < b .states → FrontsIn b rules closures fronts
         → false ≡ allAdvance b S (ofRules (b .rules) (closureSets b F S) (length (b .rules)))
-    rules-fail e b F h s L =
-        let there : rule + gap < length (b .rules) = rest-there (k .walk (length (b .rules)) L) least in
+    rules-fail e b F h s W =
+        let there : rule + gap < length (b .rules) = rest-there (k .walk b s W) least in
         sym (rules-false b S (closureSets b F S) (length (b .rules)) (rule + gap + 1) (omega arith)
-        (next-rule b F h s L false (sym (e b F h (rule-stands b s L)))))
+        (next-rule b F h s W false (sym (e b F h (rule-stands b s W)))))
 
 -- ---- all items of a state
 
@@ -340,19 +334,19 @@ module _ (b : Book) (F : Sets) (S : ℕ) where
 -- ---- all states
 
 -- the states from `state` on advance
-pub record StatesAdvance (rules kernels starts closures table lefts : List ℕ) (states state : ℕ) : Type 0 where
+pub record StatesAdvance (rules kernels starts closures table fronts : List ℕ) (states state : ℕ) : Type 0 where
   pub within : state ≤ states
-  pub same : (b : Book) (F : Sets) → AutomatonIn b F rules kernels starts closures table → states ≡ b .states → Lefts rules (length (b .rules)) lefts
+  pub same : (b : Book) (F : Sets) → AutomatonIn b F rules kernels starts closures table → states ≡ b .states → FrontsIn b rules closures fronts
       → statesAdvance b (coreItems b F) state ≡ statesAdvance b (coreItems b F) states
 
-pub states-none : (rules kernels starts closures table lefts : List ℕ) (states : ℕ)
-    → StatesAdvance rules kernels starts closures table lefts states states
-states-none rules kernels starts closures table lefts states = record { within = omega arith; same = λ b F h s c. refl }
+pub states-none : (rules kernels starts closures table fronts : List ℕ) (states : ℕ)
+    → StatesAdvance rules kernels starts closures table fronts states states
+states-none rules kernels starts closures table fronts states = record { within = omega arith; same = λ b F h s c. refl }
 
-module _ {rules kernels starts closures table lefts : List ℕ} {states state : ℕ}
-    (k : StatesAdvance rules kernels starts closures table lefts states state) where
+module _ {rules kernels starts closures table fronts : List ℕ} {states state : ℕ}
+    (k : StatesAdvance rules kernels starts closures table fronts states state) where
   pub states-all : state ≤ 0 → (b : Book) (F : Sets) → AutomatonIn b F rules kernels starts closures table → states ≡ b .states
-      → Lefts rules (length (b .rules)) lefts → true ≡ statesAdvance b (coreItems b F) states
+      → FrontsIn b rules closures fronts → true ≡ statesAdvance b (coreItems b F) states
   unfolding statesAdvance
   states-all z b F h s c = let e : state ≡ 0 = omega arith in sym (rw e) ∙ k .same b F h s c
 
@@ -365,16 +359,16 @@ module _ {rules kernels starts closures table lefts : List ℕ} {states state : 
         ap (statesAdvance b (coreItems b F)) e ∙ ap (λ (x : Bool). elim x [ true ↦ statesAdvance b (coreItems b F) (state - 1) | false ↦ false ]) q
 
     pub states-more : ((b : Book) (F : Sets) → AutomatonIn b F rules kernels starts closures table → state - 1 < b .states
-        → Lefts rules (length (b .rules)) lefts → true ≡ allAdvance b (state - 1) (coreItems b F (state - 1)))
-        → StatesAdvance rules kernels starts closures table lefts states (state - 1)
+        → FrontsIn b rules closures fronts → true ≡ allAdvance b (state - 1) (coreItems b F (state - 1)))
+        → StatesAdvance rules kernels starts closures table fronts states (state - 1)
     states-more e = record {
       within = omega (arith, k .within);
       same = λ b F h s c. sym (next-state b F true (sym (e b F h (omega (arith, k .within)) c))) ∙ k .same b F h s c;
     }
 
     pub states-fail : ((b : Book) (F : Sets) → AutomatonIn b F rules kernels starts closures table → state - 1 < b .states
-        → Lefts rules (length (b .rules)) lefts → false ≡ allAdvance b (state - 1) (coreItems b F (state - 1)))
-        → (b : Book) (F : Sets) → AutomatonIn b F rules kernels starts closures table → states ≡ b .states → Lefts rules (length (b .rules)) lefts
+        → FrontsIn b rules closures fronts → false ≡ allAdvance b (state - 1) (coreItems b F (state - 1)))
+        → (b : Book) (F : Sets) → AutomatonIn b F rules kernels starts closures table → states ≡ b .states → FrontsIn b rules closures fronts
         → false ≡ statesAdvance b (coreItems b F) states
     states-fail e b F h s c = sym (next-state b F false (sym (e b F h (omega (arith, k .within)) c))) ∙ k .same b F h s c
 

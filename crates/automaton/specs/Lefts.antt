@@ -1,11 +1,10 @@
--- The rules by their left sides, as bits of numbers below 2 ^ 64, and a walk over those that have items in a closure: the others are left out.
+-- The rules by their left sides, as bits of numbers below 2 ^ 64: those that have items in a closure, and the first of them.
 -- Assumes nothing.
-use Prim.Native.Nat.{ℕ, zero, suc, _+_, _*_, _-_, _/_, _%_, _^_, _<_, _≤_}
+use Prim.Native.Nat.{ℕ, zero, suc, _+_, _*_, _/_, _%_, _^_, _<_, _≤_}
 use native.Mathlib.Omega.{arith}
 use native.Mathlib.Decide.{ℕ-discrete}
-use native.Mathlib.Nat.{pow-suc, eq-or-lt-of-le, le-of-suc-le-suc}
+use native.Mathlib.Nat.{pow-suc, le-of-suc-le-suc}
 use mathlib.Core.Path.{_≡_, refl, sym, ap, _∙_}
-use mathlib.Core.Logic.{⊎-elim}
 use mathlib.Core.Bool.{Bool, true, false, _||_, or-true}
 use mathlib.Core.List.{List}
 use lib.Dec.{eqb}
@@ -19,19 +18,12 @@ use Rattle.sets.specs.Sets.{bit, single}
 use Rattle.sets.specs.SetsLaws.{bit-empty, bit-single}
 use Rattle.sets.specs.Bits.{bit-first, bit-half, below-suc}
 use Rattle.sets.specs.Operations.{bit-or}
-use Rattle.grammar.specs.Data.Symbol.{Rule, leftOf}
-use Rattle.grammar.specs.Data.Book.{Book}
-use Rattle.grammar.specs.Automaton.Fixpoint.{setAt}
-use Rattle.grammar.specs.Automaton.FirstSets.{Sets}
-use Rattle.grammar.specs.Automaton.ClosureSets.{closureSets}
-use Rattle.grammar.specs.Automaton.CoreItems.{entered, ofRules}
 use Rattle.grammar.specs.Automaton.TestLaws.{true-false}
-use Rattle.items.specs.Arrays.{ClosuresIn}
-use Rattle.items.specs.GrammarIn.{GrammarIn, rule-low, set-word}
+use Rattle.items.specs.NoItems.{Nothing}
 
 -- ---- bits
 
-none-bit : (i : ℕ) → bit 0 i ≡ false
+pub none-bit : (i : ℕ) → bit 0 i ≡ false
 none-bit i = unfold Rattle.sets.specs.Sets.empty in bit-empty i
 
 -- ---- the rules by their left sides
@@ -55,12 +47,6 @@ filled-none rules count low {lefts} e = record {
   held = λ P l. absurd (omega arith);
   low = λ B P l q. true-false q (rw (e, getD-replicate {A = ℕ} 32 B 0 0 l) (none-bit P));
 }
-
--- what filling asks, of a book's rules
-pub fill-asked : {b : Book} {rules : List ℕ} → GrammarIn b rules → {count : ℕ} → count ≡ length (b .rules) → {lefts : List ℕ} → lefts ≡ replicate 32 0
-    → (10 * count ≤ length rules) × (count ≤ 64) × ((P : ℕ) → P < count → getD rules (10 * P) 0 < 32) × (lefts ≡ replicate 32 0)
-fill-asked g c e =
-    (omega (arith, g .rules-in .long, g .rules-in .fits), omega (arith, g .rules-in .fits), λ P l. rule-low g P (omega arith) .left-low, e)
 
 either : {C : Type 0} (s t : Bool) → (s || t) ≡ true → (s ≡ true → C) → (t ≡ true → C) → C
 either true t e f g = f refl
@@ -139,6 +125,14 @@ gathered-more {closures} {first} {lefts} {n} {mask} G l {r} c = record {
     own count f P (yes z) e = true-false e (ap (λ (w : ℕ). bit w P) (c .none z) ∙ none-bit P)
     own count f P (no m) e = f n P l (ap (λ (w : ℕ). bit w P) (sym (c .all m)) ∙ e)
 
+-- of a closure that has nothing there are none
+pub gathered-nothing : {closures : List ℕ} {first : ℕ} (lefts : List ℕ) → Nothing closures first 32 → Gathered closures first lefts 32 0
+gathered-nothing lefts idle = record {
+  within = omega arith;
+  held = λ B P l some e. absurd (some (idle B l));
+  low = λ count f P e. true-false e (none-bit P);
+}
+
 -- ---- the first bit
 
 pub record Least (n r : ℕ) : Type 0 where
@@ -194,64 +188,3 @@ least-is n l s = let (below, own) = first-bit 64 n l s in record { below = below
 pub bits-behind : (n k i : ℕ) → bit (n / 2 ^ k / 2 ^ 1) i ≡ bit n (k + 1 + i)
 unfolding bit
 bits-behind n k i = ap (λ (x : ℕ). eqb (x % 2) 1) (ap (λ (x : ℕ). x / 2 ^ i) (shr-shr n k 1) ∙ shr-shr n (k + 1) i)
-
--- ---- the walk
-
--- of the rules from one on, those with items in the closure of state S are among the bits of `rest`
-pub record Rest (rules closures : List ℕ) (S count rest rule : ℕ) : Type 0 where
-  pub within : rule ≤ count
-  pub low : (i : ℕ) → bit rest i ≡ true → rule + i < count
-  pub idle : (P : ℕ) → rule ≤ P → P < count → bit rest (P - rule) ≡ false → getD closures (32 * S + getD rules (10 * P) 0) 0 ≡ 0
-
-pub rest-first : {rules closures lefts : List ℕ} {S count mask : ℕ} → Lefts rules count lefts → Gathered closures (32 * S) lefts 32 mask
-    → Rest rules closures S count mask 0
-rest-first {rules} {closures} {S = S} {count = count} {mask = mask} L G = record {
-  within = omega arith;
-  low = λ i e. omega (arith, G .low count (L .low) i e);
-  idle = λ P f l e. let z : P - 0 ≡ P = omega arith in go P l (rw z at e) (ℕ-discrete (getD closures (32 * S + getD rules (10 * P) 0) 0) 0);
-}
-  where
-    go : (P : ℕ) → P < count → bit mask P ≡ false → Dec (getD closures (32 * S + getD rules (10 * P) 0) 0 ≡ 0)
-        → getD closures (32 * S + getD rules (10 * P) 0) 0 ≡ 0
-    go P l e (yes z) = z
-    go P l e (no m) = true-false (G .held (getD rules (10 * P) 0) P (L .left-low P l) m (L .held P l)) e
-
-module _ {rules closures : List ℕ} {S count rest rule : ℕ} (R : Rest rules closures S count rest rule) where
-  -- no rule is left
-  pub rest-none : rest ≡ 0 → (P : ℕ) → rule ≤ P → P < count → getD closures (32 * S + getD rules (10 * P) 0) 0 ≡ 0
-  rest-none z P f l = R .idle P f l (rw z (none-bit (P - rule)))
-
-  module _ {gap : ℕ} (L : Least rest gap) where
-    pub rest-there : rule + gap < count
-    rest-there = R .low gap (L .own)
-
-    pub rest-idle : (P : ℕ) → rule ≤ P → P < rule + gap → getD closures (32 * S + getD rules (10 * P) 0) 0 ≡ 0
-    rest-idle P f l = R .idle P f (omega (arith, rest-there)) (L .none (P - rule) (omega arith))
-
-    pub rest-more : {next : ℕ} → ((i : ℕ) → bit next i ≡ bit rest (gap + 1 + i)) → Rest rules closures S count next (rule + gap + 1)
-    rest-more next-is = record {
-      within = omega (arith, rest-there);
-      low = λ i e. omega (arith, R .low (gap + 1 + i) (sym (next-is i) ∙ e));
-      idle = λ P f l e.
-          let at : gap + 1 + (P - (rule + gap + 1)) ≡ P - rule = omega arith in
-          R .idle P (omega arith) l (ap (bit rest) (sym at) ∙ sym (next-is _) ∙ e);
-    }
-
--- ---- rules without items are left out
-
-rules-on : (G : List Rule) (looks : List ℕ) (p q : ℕ) → p ≤ q → ((P : ℕ) → p ≤ P → P < q → setAt looks (leftOf G P) ≡ 0)
-    → ofRules G looks q ≡ ofRules G looks p
-rules-on G looks p zero h none = let e : p ≡ 0 = omega arith in rw e
-rules-on G looks p (suc q) h none =
-    ⊎-elim (λ e. ap (ofRules G looks) (sym e))
-    (λ l. idle (none q (le-of-suc-le-suc l) (omega arith)) ∙ rules-on G looks p q (le-of-suc-le-suc l) (λ P f m. none P f (omega arith)))
-    (eq-or-lt-of-le h)
-  where
-    idle : setAt looks (leftOf G q) ≡ 0 → ofRules G looks (suc q) ≡ ofRules G looks q
-    idle e = unfold ofRules entered in ap (λ (M : ℕ). entered q M (ofRules G looks q)) e
-
-pub idle-rules : {b : Book} {F : Sets} {rules closures : List ℕ} → GrammarIn b rules → ClosuresIn b F closures → {S : ℕ} → S < b .states → (p q : ℕ) → p ≤ q
-    → q ≤ length (b .rules) → ((P : ℕ) → p ≤ P → P < q → getD closures (32 * S + getD rules (10 * P) 0) 0 ≡ 0)
-    → ofRules (b .rules) (closureSets b F S) q ≡ ofRules (b .rules) (closureSets b F S) p
-idle-rules {b} {F} g k {S} s p q h l none =
-    rules-on (b .rules) (closureSets b F S) p q h (λ P f m. sym (set-word g k s (omega arith) refl) ∙ none P f m)

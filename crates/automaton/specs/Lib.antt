@@ -5,6 +5,7 @@ pub mod Advances
 pub mod BookHeld
 pub mod Cells
 pub mod Comes
+pub mod Fronts
 pub mod GoRules
 pub mod GoTable
 pub mod HoldsItem

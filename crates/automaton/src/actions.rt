@@ -18,13 +18,10 @@ ghost use Rattle.items.specs.GrammarIn.{GrammarIn};
 ghost use Rattle.automaton.specs.StatesIn.{StatesIn, ItemsIn, Stands};
 ghost use Rattle.automaton.specs.ActionRows.{Given, Row, Melded, completedBelow, itemCells, actedCode, Among};
 ghost use Rattle.automaton.specs.ActionTable.{Acted};
-ghost use Rattle.automaton.specs.Lefts.{Lefts};
+ghost use Rattle.automaton.specs.Fronts.{FrontsIn};
 use super::lefts::behind;
-use super::lefts::entered;
-use super::lefts::fill_lefts;
 use super::lefts::least;
 use items::words::fill;
-use items::words::nothing;
 use items::words::word;
 
 // Gives a byte an action; whether it was free, or had the action already.
@@ -143,24 +140,21 @@ fn rule_acts(
 fn rules_act(
     rules: &[u32],
     closures: &[u32],
-    lefts: &[u64],
+    fronts: &[u64],
     actions: &mut [u8],
     terminals: usize,
     state: usize,
 ) -> bool
     requires { ⌜ (length (now actions) ≡ 4096)
         × ((b : Book) × (F : Sets) × GrammarIn b (now rules) × ClosuresIn b F (now closures) × (state < b .states)
-        × (terminals ≡ b .terminals) × Lefts (now rules) (length (b .rules)) (now lefts)) ⌝ }
+        × (terminals ≡ b .terminals) × FrontsIn b (now rules) (now closures) (now fronts)) ⌝ }
     ensures { λ r. ⌜ ((b : Book) (F : Sets) → GrammarIn b (now (rules .entry)) → ClosuresIn b F (now (closures .entry))
-        → state < b .states → terminals ≡ b .terminals → Lefts (now (rules .entry)) (length (b .rules)) (now (lefts .entry))
+        → state < b .states → terminals ≡ b .terminals → FrontsIn b (now (rules .entry)) (now (closures .entry)) (now (fronts .entry))
         → Row terminals state (cellFrom (b .rules) []) (now (actions .entry))
         → Melded terminals state (cellFrom (b .rules) (ofRules (b .rules) (closureSets b F state) (length (b .rules))))
         (now (actions .entry)) (now (actions .exit)) r) ⌝ }
 {
-    if nothing(closures, 32 * state) {
-        return true;
-    }
-    let mut rest = entered(closures, 32 * state, lefts);
+    let mut rest = fronts[state];
     let mut rule = 0;
     while rest != 0 {
         let gap = least(rest);
@@ -216,20 +210,20 @@ fn state_acts(
     kernels: &[u32],
     starts: &[u32],
     closures: &[u32],
-    lefts: &[u64],
+    fronts: &[u64],
     actions: &mut [u8],
     terminals: usize,
     state: usize,
 ) -> bool
     requires { ⌜ (length (now actions) ≡ 4096)
         × ((b : Book) × (F : Sets) × ItemsIn b F (now rules) (now kernels) (now starts) (now closures)
-        × (state < b .states) × (terminals ≡ b .terminals) × Lefts (now rules) (length (b .rules)) (now lefts)) ⌝ }
+        × (state < b .states) × (terminals ≡ b .terminals) × FrontsIn b (now rules) (now closures) (now fronts)) ⌝ }
     ensures { λ r. ⌜ ((b : Book) (F : Sets) → ItemsIn b F (now (rules .entry)) (now (kernels .entry)) (now (starts .entry)) (now (closures .entry))
-        → state < b .states → terminals ≡ b .terminals → Lefts (now (rules .entry)) (length (b .rules)) (now (lefts .entry))
+        → state < b .states → terminals ≡ b .terminals → FrontsIn b (now (rules .entry)) (now (closures .entry)) (now (fronts .entry))
         → Row terminals state (cellFrom (b .rules) []) (now (actions .entry))
         → Melded terminals state (cellFrom (b .rules) (coreItems b F state)) (now (actions .entry)) (now (actions .exit)) r) ⌝ }
 {
-    if !rules_act(rules, closures, lefts, actions, terminals, state) {
+    if !rules_act(rules, closures, fronts, actions, terminals, state) {
         return false;
     }
     kernels_act(rules, kernels, starts, actions, terminals, state)
@@ -238,22 +232,21 @@ fn state_acts(
 // The actions of all states, up to the first conflict; whether there is none.
 pub fn actions(
     rules: &[u32],
-    count: u32,
     kernels: &[u32],
     starts: &[u32],
     closures: &[u32],
+    fronts: &[u64],
     terminals: u32,
     states: u32,
     actions: &mut [u8],
 ) -> bool
     requires { ⌜ (length (now actions) ≡ 4096)
         × ((b : Book) × (F : Sets) × ItemsIn b F (now rules) (now kernels) (now starts) (now closures)
-        × (terminals ≡ b .terminals) × (states ≡ b .states) × (count ≡ length (b .rules))) ⌝ }
+        × (terminals ≡ b .terminals) × (states ≡ b .states) × FrontsIn b (now rules) (now closures) (now fronts)) ⌝ }
     ensures { λ r. ⌜ ((b : Book) (F : Sets) → ItemsIn b F (now (rules .entry)) (now (kernels .entry)) (now (starts .entry)) (now (closures .entry))
-        → terminals ≡ b .terminals → states ≡ b .states → count ≡ length (b .rules) → Acted b F (now (actions .exit)) r) ⌝ }
+        → terminals ≡ b .terminals → states ≡ b .states → FrontsIn b (now (rules .entry)) (now (closures .entry)) (now (fronts .entry))
+        → Acted b F (now (actions .exit)) r) ⌝ }
 {
-    let mut lefts = [0u64; 32];
-    fill_lefts(rules, count as usize, &mut lefts);
     let n = states as usize;
     fill(actions, 32 * n, 0);
     let mut state = 0;
@@ -263,7 +256,7 @@ pub fn actions(
             kernels,
             starts,
             closures,
-            &lefts,
+            fronts,
             actions,
             terminals as usize,
             state,

@@ -18,12 +18,9 @@ ghost use Rattle.automaton.specs.StatesIn.{MovesIn, ItemsIn, AutomatonIn
 ghost use Rattle.automaton.specs.HoldsItem.{isItem};
 ghost use Rattle.automaton.specs.Advances.{kernelAdvances, ruleAdvances};
 ghost use Rattle.automaton.specs.Comes.{someItem, lineComes, goComes};
-ghost use Rattle.automaton.specs.Lefts.{Lefts};
+ghost use Rattle.automaton.specs.Fronts.{FrontsIn};
 use super::lefts::behind;
-use super::lefts::entered;
-use super::lefts::fill_lefts;
 use super::lefts::least;
-use items::words::nothing;
 use items::words::word;
 
 // Whether kernel line i is of (rule, dot) with at least the lookaheads of `set`.
@@ -164,19 +161,16 @@ fn rules_advance(
     starts: &[u32],
     closures: &[u32],
     table: &[u8],
-    lefts: &[u64],
+    fronts: &[u64],
     state: usize,
 ) -> bool
     requires { ⌜ ((b : Book) × (F : Sets) × AutomatonIn b F (now rules) (now kernels) (now starts) (now closures) (now table)
-        × (state < b .states) × Lefts (now rules) (length (b .rules)) (now lefts)) ⌝ }
+        × (state < b .states) × FrontsIn b (now rules) (now closures) (now fronts)) ⌝ }
     ensures { λ r. ⌜ ((b : Book) (F : Sets) → AutomatonIn b F (now (rules .entry)) (now (kernels .entry)) (now (starts .entry)) (now (closures .entry))
-        (now (table .entry)) → state < b .states → Lefts (now (rules .entry)) (length (b .rules)) (now (lefts .entry))
+        (now (table .entry)) → state < b .states → FrontsIn b (now (rules .entry)) (now (closures .entry)) (now (fronts .entry))
         → r ≡ allAdvance b state (ofRules (b .rules) (closureSets b F state) (length (b .rules)))) ⌝ }
 {
-    if nothing(closures, 32 * state) {
-        return true;
-    }
-    let mut rest = entered(closures, 32 * state, lefts);
+    let mut rest = fronts[state];
     let mut rule = 0;
     while rest != 0 {
         let gap = least(rest);
@@ -197,19 +191,19 @@ fn state_advances(
     starts: &[u32],
     closures: &[u32],
     table: &[u8],
-    lefts: &[u64],
+    fronts: &[u64],
     state: usize,
 ) -> bool
     requires { ⌜ ((b : Book) × (F : Sets) × AutomatonIn b F (now rules) (now kernels) (now starts) (now closures) (now table)
-        × (state < b .states) × Lefts (now rules) (length (b .rules)) (now lefts)) ⌝ }
+        × (state < b .states) × FrontsIn b (now rules) (now closures) (now fronts)) ⌝ }
     ensures { λ r. ⌜ ((b : Book) (F : Sets) → AutomatonIn b F (now (rules .entry)) (now (kernels .entry)) (now (starts .entry)) (now (closures .entry))
-        (now (table .entry)) → state < b .states → Lefts (now (rules .entry)) (length (b .rules)) (now (lefts .entry))
+        (now (table .entry)) → state < b .states → FrontsIn b (now (rules .entry)) (now (closures .entry)) (now (fronts .entry))
         → r ≡ allAdvance b state (coreItems b F state)) ⌝ }
 {
     if !kernels_advance(rules, kernels, starts, table, state) {
         return false;
     }
-    rules_advance(rules, kernels, starts, closures, table, lefts, state)
+    rules_advance(rules, kernels, starts, closures, table, fronts, state)
 }
 
 // Whether all items of all states do.
@@ -219,19 +213,19 @@ fn states_advance(
     starts: &[u32],
     closures: &[u32],
     table: &[u8],
-    lefts: &[u64],
+    fronts: &[u64],
     states: usize,
 ) -> bool
     requires { ⌜ ((b : Book) × (F : Sets) × AutomatonIn b F (now rules) (now kernels) (now starts) (now closures) (now table)
-        × (states ≡ b .states) × Lefts (now rules) (length (b .rules)) (now lefts)) ⌝ }
+        × (states ≡ b .states) × FrontsIn b (now rules) (now closures) (now fronts)) ⌝ }
     ensures { λ r. ⌜ ((b : Book) (F : Sets) → AutomatonIn b F (now (rules .entry)) (now (kernels .entry)) (now (starts .entry)) (now (closures .entry))
-        (now (table .entry)) → states ≡ b .states → Lefts (now (rules .entry)) (length (b .rules)) (now (lefts .entry))
+        (now (table .entry)) → states ≡ b .states → FrontsIn b (now (rules .entry)) (now (closures .entry)) (now (fronts .entry))
         → r ≡ statesAdvance b (coreItems b F) states) ⌝ }
 {
     let mut state = states;
     while state > 0 {
         state -= 1;
-        if !state_advances(rules, kernels, starts, closures, table, lefts, state) {
+        if !state_advances(rules, kernels, starts, closures, table, fronts, state) {
             return false;
         }
     }
@@ -386,7 +380,6 @@ fn lines_come(
 // The go rules.
 pub fn go_rules(
     rules: &[u32],
-    count: u32,
     kernels: &[u32],
     goes: &[u32],
     lines: u32,
@@ -394,22 +387,21 @@ pub fn go_rules(
     starts: &[u32],
     closures: &[u32],
     table: &[u8],
+    fronts: &[u64],
 ) -> bool
     requires { ⌜ ((b : Book) × (F : Sets) × AutomatonIn b F (now rules) (now kernels) (now starts) (now closures) (now table) × GoesIn (b .goes) (now goes)
-        × (count ≡ length (b .rules)) × (lines ≡ length (b .goes)) × (states ≡ b .states)) ⌝ }
+        × (lines ≡ length (b .goes)) × (states ≡ b .states) × FrontsIn b (now rules) (now closures) (now fronts)) ⌝ }
     ensures { λ r. ⌜ ((b : Book) (F : Sets) → AutomatonIn b F (now (rules .entry)) (now (kernels .entry)) (now (starts .entry)) (now (closures .entry))
-        (now (table .entry)) → GoesIn (b .goes) (now (goes .entry)) → count ≡ length (b .rules) → lines ≡ length (b .goes) → states ≡ b .states
-        → r ≡ goRules b (itemsAt b (itemsTable b F))) ⌝ }
+        (now (table .entry)) → GoesIn (b .goes) (now (goes .entry)) → lines ≡ length (b .goes) → states ≡ b .states
+        → FrontsIn b (now (rules .entry)) (now (closures .entry)) (now (fronts .entry)) → r ≡ goRules b (itemsAt b (itemsTable b F))) ⌝ }
 {
-    let mut lefts = [0u64; 32];
-    fill_lefts(rules, count as usize, &mut lefts);
     if !states_advance(
         rules,
         kernels,
         starts,
         closures,
         table,
-        &lefts,
+        fronts,
         states as usize,
     ) {
         return false;

@@ -3,4 +3,4 @@ pub mod actions;
 pub mod go_rules;
 pub mod go_table;
 pub mod kernel_rules;
-mod lefts;
+pub mod lefts;

@@ -1,11 +1,11 @@
 -- A book that is spelled right (2), within the limits (3) and declared (4), in the arrays from which its states are worked out; the arrays that are
 -- filled; and the first of 7, 8 and 9 that applies. Assumes nothing.
-use Prim.Native.Nat.{ℕ, _*_, _≤_}
+use Prim.Native.Nat.{ℕ, _*_, _<_, _≤_}
 use mathlib.Core.Path.{_≡_, sym, ap, _∙_}
 use mathlib.Core.Bool.{Bool, true, false}
 use mathlib.Core.List.{List}
 use native.Mathlib.Omega.{arith}
-use lib.ListN.{length, replicate, length-replicate}
+use lib.ListN.{length, getD, replicate, length-replicate}
 use Rattle.text.specs.Positional.{by-less}
 use Rattle.grammar.specs.Limits.{MAX-RULES, MAX-STATES}
 use Rattle.grammar.specs.Data.Book.{Book}
@@ -23,10 +23,12 @@ use Rattle.items.specs.Arrays.{SuffixesIn, StartsIn, ClosuresIn, GoTableIn, Act
 use Rattle.items.specs.Starts.{LinesIn}
 use Rattle.items.specs.Closures.{StateItemsIn, Blank}
 use Rattle.automaton.specs.KernelRules.{RuledIn}
+use Rattle.items.specs.GrammarIn.{GrammarIn}
 use Rattle.items.specs.GrammarOf.{GrammarHeld, book-grammar}
 use Rattle.items.specs.RestSets.{RestSetsIn}
 use Rattle.automaton.specs.GoTable.{GoLinesIn}
 use Rattle.automaton.specs.StatesIn.{StatesIn, ItemsIn, AutomatonIn}
+use Rattle.automaton.specs.Fronts.{Fronts, FrontsIn, fronts-asked}
 use Rattle.automaton.specs.ActionTable.{Acted}
 use Rattle.automaton.specs.BookHeld.{lines-in, state-items-in, ruled-in}
 
@@ -142,6 +144,19 @@ module _ {b : Book} {rules kernels : List ℕ} {states : ℕ} (h : KernelsHeld b
   pub held-moves : {goes : List ℕ} {lines : ℕ} → GoesIn (b .goes) goes → lines ≡ length (b .goes) → GoLinesIn b goes lines states
   held-moves g e = record { limits = h .limits; declared = h .declared; lines-in = g; count-is = e; states-is = h .states-are }
 
+  rules-held : GrammarIn b rules
+  rules-held = record { limits = h .limits; declared = h .declared; rules-in = h .rules-in }
+
+  module _ {count : ℕ} (e : count ≡ length (b .rules)) {closures : List ℕ} where
+    pub ask-fronts : ClosuresIn b (setsOf (b .rules)) closures → (fronts : List ℕ) → length fronts ≡ MAX-STATES
+        → (10 * count ≤ length rules) × (count ≤ 64) × ((P : ℕ) → P < count → getD rules (10 * P) 0 < 32) × (32 * states ≤ length closures)
+        × (states ≤ length fronts)
+    ask-fronts C fronts l = fronts-asked rules-held C e (h .states-are) fronts l
+
+    -- what was filled, of this book
+    pub held-fronts : {fronts : List ℕ} → Fronts rules count closures states fronts → FrontsIn b rules closures fronts
+    held-fronts W = rw (e, h .states-are) at W
+
   module _ {starts : List ℕ} where
     pub held-starts : StartsIn (b .kernels) states starts → StartsIn (b .kernels) (b .states) starts
     held-starts T = rw (h .states-are) at T
@@ -155,11 +170,7 @@ module _ {b : Book} {rules kernels : List ℕ} {states : ℕ} (h : KernelsHeld b
       held-items e S = rw (e, h .states-are) (state-items-in (h .ordered) (h .limits) (h .declared) (h .rules-in) S (h .kernels-in) T)
 
       pub held-states : StatesIn b rules kernels starts
-      held-states = record {
-        grammar-in = record { limits = h .limits; declared = h .declared; rules-in = h .rules-in };
-        kernels-in = h .kernels-in;
-        starts-in = T;
-      }
+      held-states = record { grammar-in = rules-held; kernels-in = h .kernels-in; starts-in = T }
 
       module _ {closures : List ℕ} (C : ClosuresIn b (setsOf (b .rules)) closures) where
         pub held-closures : ItemsIn b (setsOf (b .rules)) rules kernels starts closures

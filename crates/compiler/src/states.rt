@@ -10,11 +10,13 @@ ghost use Rattle.grammar.specs.Automaton.StatesCheck.{kernelRules};
 ghost use Rattle.book.specs.Held.{GoesIn};
 ghost use Rattle.items.specs.Arrays.{StartsIn, ClosuresIn, GoTableIn};
 ghost use Rattle.items.specs.Closures.{Blank};
+ghost use Rattle.automaton.specs.Fronts.{FrontsIn};
 ghost use Rattle.compiler.specs.States.{KernelsHeld, BookHeld, ItemsFilled, TablesRoom, Tabled, goesRight};
 use automaton::actions::actions;
 use automaton::go_rules::go_rules;
 use automaton::go_table::go_table;
 use automaton::kernel_rules::kernel_rules;
+use automaton::lefts::fill_fronts;
 use items::closures::closures;
 use items::rests::rests;
 use items::starts::kernel_starts;
@@ -71,26 +73,25 @@ fn fill_items(
 // The go table, and whether the go rules (8) hold.
 fn moves(
     rules: &[u32],
-    count: u32,
     kernels: &[u32],
     goes: &[u32],
     lines: u32,
     states: u32,
     starts: &[u32],
     lookaheads: &[u32],
+    fronts: &[u64],
     table: &mut [u8],
 ) -> bool
-    requires { ⌜ ((b : Book) × KernelsHeld b (now rules) (now kernels) states × (count ≡ length (b .rules)) × GoesIn (b .goes) (now goes)
-        × (lines ≡ length (b .goes)) × StartsIn (b .kernels) (b .states) (now starts) × ClosuresIn b (setsOf (b .rules)) (now lookaheads))
-        × (64 * states ≤ length (now table)) ⌝ }
-    ensures { λ r. ⌜ ((b : Book) → KernelsHeld b (now (rules .entry)) (now (kernels .entry)) states → count ≡ length (b .rules)
-        → GoesIn (b .goes) (now (goes .entry)) → lines ≡ length (b .goes) → StartsIn (b .kernels) (b .states) (now (starts .entry))
-        → ClosuresIn b (setsOf (b .rules)) (now (lookaheads .entry)) → (r ≡ goesRight b) × GoTableIn b (now (table .exit))) ⌝ }
+    requires { ⌜ ((b : Book) × KernelsHeld b (now rules) (now kernels) states × GoesIn (b .goes) (now goes) × (lines ≡ length (b .goes))
+        × StartsIn (b .kernels) (b .states) (now starts) × ClosuresIn b (setsOf (b .rules)) (now lookaheads)
+        × FrontsIn b (now rules) (now lookaheads) (now fronts)) × (64 * states ≤ length (now table)) ⌝ }
+    ensures { λ r. ⌜ ((b : Book) → KernelsHeld b (now (rules .entry)) (now (kernels .entry)) states → GoesIn (b .goes) (now (goes .entry))
+        → lines ≡ length (b .goes) → StartsIn (b .kernels) (b .states) (now (starts .entry)) → ClosuresIn b (setsOf (b .rules)) (now (lookaheads .entry))
+        → FrontsIn b (now (rules .entry)) (now (lookaheads .entry)) (now (fronts .entry)) → (r ≡ goesRight b) × GoTableIn b (now (table .exit))) ⌝ }
 {
     go_table(goes, lines, states, table);
     go_rules(
         rules,
-        count,
         kernels,
         goes,
         lines,
@@ -98,6 +99,7 @@ fn moves(
         starts,
         lookaheads,
         table,
+        fronts,
     )
 }
 
@@ -139,25 +141,33 @@ pub fn tables(
         reached,
         lookaheads,
     );
+    let mut fronts = [0u64; 128];
+    fill_fronts(
+        rules,
+        count as usize,
+        lookaheads,
+        states as usize,
+        &mut fronts,
+    );
     if !moves(
         rules,
-        count,
         kernels,
         goes,
         lines,
         states,
         starts,
         lookaheads,
+        &fronts,
         table,
     ) {
         return 8;
     }
     if !actions(
         rules,
-        count,
         kernels,
         starts,
         lookaheads,
+        &fronts,
         terminals,
         states,
         cells,

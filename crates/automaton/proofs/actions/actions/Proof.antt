@@ -1,69 +1,56 @@
 -- `actions::actions` meets its contract: the states below `state` have their actions. Assumes nothing.
 use Prim.Native.Nat.{_-_}
-use mathlib.Core.Path.{refl, sym, _∙_}
+use mathlib.Core.Path.{sym, _∙_}
 use native.Mathlib.Omega.{arith}
 use borrow.Author.Tests.{not-true, not-false}
-use Rattle.automaton.specs.Lefts.{fill-asked}
 use Rattle.automaton.specs.ActionTable.{StatesActing, states-none, states-more, states-fail, states-all}
 use borrow.Author.Needs.{needs}
 use Rattle.automaton.proofs.actions.actions.Statement.{statement}
 use Rattle.automaton.proofs.actions.actions.Tie as tie
 
 abbrev Inv-loop : tie.InvT-loop
-Inv-loop rules count kernels starts closures terminals states actions₀ lefts n state₀ actions state = StatesActing rules kernels starts closures terminals
-    states count actions state
+Inv-loop rules kernels starts closures fronts terminals states actions₀ n state₀ actions state = StatesActing rules kernels starts closures fronts terminals
+    states actions state
 
 abbrev μ-loop : tie.MeasureT-loop
-μ-loop rules count kernels starts closures terminals states actions₀ lefts n state₀ actions state = states - state
-
-slice-aggregate-fill-lefts : tie.Need-slice-aggregate-fill-lefts Inv-loop μ-loop
-slice-aggregate-fill-lefts c = search needs
-
-fill-lefts-requires : tie.Need-fill-lefts-requires Inv-loop μ-loop
-fill-lefts-requires c κs = let p = c .before .before .before .before .before .before .pre .1 in fill-asked (p .2 .states-in .grammar-in) (p .5) refl
+μ-loop rules kernels starts closures fronts terminals states actions₀ n state₀ actions state = states - state
 
 mul-fill : tie.Need-mul-fill Inv-loop μ-loop
 mul-fill c =
-    let p = c .before .before .before .before .before .before .before .before .before .pre .1 in
+    let p = c .before .before .before .before .before .before .before .pre .1 in
     omega (arith, p .4, p .2 .states-in .grammar-in .limits .states-limit .high)
 
 fill-requires : tie.Need-fill-requires Inv-loop μ-loop
 fill-requires c κs =
-    let p = c .before .before .before .before .before .before .before .before .before .pre in
+    let p = c .before .before .before .before .before .before .before .pre in
     omega (arith, p .0, p .1 .4, p .1 .2 .states-in .grammar-in .limits .states-limit .high)
 
 loop-holds : tie.Need-loop-holds Inv-loop μ-loop
 loop-holds c =
-    let s = c .before .before .before .before .before .before .before .before .before .before .before .before in
+    let s = c .before .before .before .before .before .before .before .before .before .before in
     rw (c .before .before .fill .ensures)
-    (states-none (s .args .rules .now) (s .args .kernels .now) (s .args .starts .now) (s .args .closures .now) (s .args .terminals) (s .args .states)
-    (s .args .count) (s .args .actions .now) (s .pre .0)
+    (states-none (s .args .rules .now) (s .args .kernels .now) (s .args .starts .now) (s .args .closures .now) (s .args .fronts .now) (s .args .terminals)
+    (s .args .states) (s .args .actions .now) (s .pre .0)
     (omega (arith, s .pre .0, s .pre .1 .4, s .pre .1 .2 .states-in .grammar-in .limits .states-limit .high)))
-
-slice-aggregate-state-acts : tie.Need-slice-aggregate-state-acts Inv-loop μ-loop
-slice-aggregate-state-acts c = search needs
 
 state-acts-requires : tie.Need-state-acts-requires Inv-loop μ-loop
 state-acts-requires c κs =
-    let head = c .before .before .before in
-    let filled = head .before .before .before .before .before .before .fill-lefts .ensures in
-    let p = head .before .before .before .before .before .before .before .before .before .before .before .before .before .pre .1 in
-    (head .loop .inv .long, (p .0, p .1, p .2, omega (arith, p .4, c .before .before .loop-test .taken), p .3, rw (p .5) at filled))
+    let head = c .before .before in
+    let p = head .before .before .before .before .before .before .before .before .before .before .before .pre .1 in
+    (head .loop .inv .long, (p .0, p .1, p .2, omega (arith, p .4, c .before .loop-test .taken), p .3, p .5))
 
 same-length : tie.Need-same-length Inv-loop μ-loop
 same-length c =
     let called = c .before .before .before in
-    let head = called .before .before .before .before in
-    let start = head .before .before .before .before .before .before .before .before .before .before .before .before .before in
+    let head = called .before .before .before in
+    let start = head .before .before .before .before .before .before .before .before .before .before .before in
     called .state-acts .kept .1 .1 .1 .1 .1 .0 ∙ head .loop .inv .long ∙ sym (start .pre .0)
 
 returns : tie.Need-returns Inv-loop μ-loop
 returns c =
     let called = c .before .before .before in
-    let head = called .before .before .before .before in
-    let filled = head .before .before .before .before .before .before .fill-lefts .ensures in
-    states-fail (head .loop .inv) (called .before .before .before .loop-test .taken)
-    (λ b F h s t n row. called .state-acts .ensures b F h s t (rw n at filled) row)
+    let head = called .before .before .before in
+    states-fail (head .loop .inv) (called .before .before .loop-test .taken) (called .state-acts .ensures)
     (not-true (called .state-acts .result) (c .if1 .taken))
 
 add-state : tie.Need-add-state Inv-loop μ-loop
@@ -75,15 +62,13 @@ loop-less c = search needs
 loop-again : tie.Need-loop-again Inv-loop μ-loop
 loop-again c =
     let called = c .before .before .before in
-    let head = called .before .before .before .before in
-    let filled = head .before .before .before .before .before .before .fill-lefts .ensures in
-    states-more (head .loop .inv) (called .before .before .before .loop-test .taken)
-    (λ b F h s t n row. called .state-acts .ensures b F h s t (rw n at filled) row)
+    let head = called .before .before .before in
+    states-more (head .loop .inv) (called .before .before .loop-test .taken) (called .state-acts .ensures)
     (not-false (called .state-acts .result) (c .if1 .left)) (called .state-acts .kept .1 .1 .1 .1 .1 .0)
 
 same-length-2 : tie.Need-same-length-2 Inv-loop μ-loop
 same-length-2 c =
-    let start = c .before .before .before .before .before .before .before .before .before .before .before .before .before .before in
+    let start = c .before .before .before .before .before .before .before .before .before .before .before .before in
     omega (arith, c .before .loop .inv .long, start .pre .0)
 
 returns-2 : tie.Need-returns-2 Inv-loop μ-loop
@@ -95,12 +80,9 @@ actions-spec =
     (tie.spec
     Inv-loop
     μ-loop
-    slice-aggregate-fill-lefts
-    fill-lefts-requires
     mul-fill
     fill-requires
     loop-holds
-    slice-aggregate-state-acts
     state-acts-requires
     same-length
     returns

@@ -14,10 +14,10 @@ same-length c = search needs
 
 returns : tie.Need-returns
 returns c =
-    λ b F h s t L row.
+    λ b F h s t W row.
     state-fail b F
     (rw (not-true (c .before .before .before .rules-act .result) (c .if1 .taken)) at
-    (c .before .before .before .rules-act .ensures b F (h .states-in .grammar-in) (h .closures-in) s t L row))
+    (c .before .before .before .rules-act .ensures b F (h .states-in .grammar-in) (h .closures-in) s t W row))
 
 kernels-act-requires : tie.Need-kernels-act-requires
 kernels-act-requires c κs = search needs
@@ -27,10 +27,10 @@ same-length-2 c = search needs
 
 returns-2 : tie.Need-returns-2
 returns-2 c =
-    λ b F h s t L row.
+    λ b F h s t W row.
     let m =
     rw (not-false (c .before .before .before .before .before .before .before .rules-act .result) (c .before .before .before .before .if1 .left)) at
-    (c .before .before .before .before .before .before .before .rules-act .ensures b F (h .states-in .grammar-in) (h .closures-in) s t L row) in
+    (c .before .before .before .before .before .before .before .rules-act .ensures b F (h .states-in .grammar-in) (h .closures-in) s t W row) in
     state-rest b F m (c .before .before .kernels-act .ensures b _ (h .states-in) s t (m .row refl))
 
 pub state-acts-spec : {M : Type 1} → statement M

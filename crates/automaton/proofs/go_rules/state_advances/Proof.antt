@@ -12,7 +12,7 @@ kernels-advance-requires c κs = let s = c .before .before .before .before .befo
 returns : tie.Need-returns
 returns c =
     let start = c .before .before .before .before .before .before .before .before in
-    λ b F h s L. state-fail b F (start .args .state)
+    λ b F h s W. state-fail b F (start .args .state)
     (sym (not-true (c .before .kernels-advance .result) (c .if1 .taken)) ∙ c .before .kernels-advance .ensures b (moves h) s)
 
 rules-advance-requires : tie.Need-rules-advance-requires
@@ -21,10 +21,10 @@ rules-advance-requires c κs = c .before .before .before .before .before .before
 returns-2 : tie.Need-returns-2
 returns-2 c =
     let start = c .before .before .before .before .before .before .before .before .before in
-    λ b F h s L.
+    λ b F h s W.
     state-rest b F (start .args .state)
     (sym (not-false (c .before .before .kernels-advance .result) (c .before .if1 .left)) ∙ c .before .before .kernels-advance .ensures b (moves h) s)
-    (c .rules-advance .ensures b F h s L)
+    (c .rules-advance .ensures b F h s W)
 
 pub state-advances-spec : {M : Type 1} → statement M
 state-advances-spec =

@@ -8,15 +8,15 @@ use Rattle.automaton.proofs.go_rules.states_advance.Statement.{statemen
 use Rattle.automaton.proofs.go_rules.states_advance.Tie as tie
 
 abbrev Inv-loop : tie.InvT-loop
-Inv-loop rules kernels starts closures table lefts states state₀ state = StatesAdvance rules kernels starts closures table lefts states state
+Inv-loop rules kernels starts closures table fronts states state₀ state = StatesAdvance rules kernels starts closures table fronts states state
 
 abbrev μ-loop : tie.MeasureT-loop
-μ-loop rules kernels starts closures table lefts states state₀ state = state
+μ-loop rules kernels starts closures table fronts states state₀ state = state
 
 loop-holds : tie.Need-loop-holds Inv-loop μ-loop
 loop-holds c =
     let start = c .before .before .before .before .before .before in
-    let a = start .args in states-none (a .rules .now) (a .kernels .now) (a .starts .now) (a .closures .now) (a .table .now) (a .lefts .now) (a .states)
+    let a = start .args in states-none (a .rules .now) (a .kernels .now) (a .starts .now) (a .closures .now) (a .table .now) (a .fronts .now) (a .states)
 
 sub-state : tie.Need-sub-state Inv-loop μ-loop
 sub-state c = search needs
@@ -35,7 +35,7 @@ returns : tie.Need-returns Inv-loop μ-loop
 returns c =
     let head = c .before .before .before in
     states-fail (head .loop .inv) (c .before .before .loop-test .taken)
-    (λ b F h s L. sym (not-true (c .before .state-advances .result) (c .if1 .taken)) ∙ c .before .state-advances .ensures b F h s L)
+    (λ b F h s W. sym (not-true (c .before .state-advances .result) (c .if1 .taken)) ∙ c .before .state-advances .ensures b F h s W)
 
 loop-less : tie.Need-loop-less Inv-loop μ-loop
 loop-less c = search needs
@@ -44,7 +44,7 @@ loop-again : tie.Need-loop-again Inv-loop μ-loop
 loop-again c =
     let head = c .before .before .before in
     states-more (head .loop .inv) (c .before .before .loop-test .taken)
-    (λ b F h s L. sym (not-false (c .before .state-advances .result) (c .if1 .left)) ∙ c .before .state-advances .ensures b F h s L)
+    (λ b F h s W. sym (not-false (c .before .state-advances .result) (c .if1 .left)) ∙ c .before .state-advances .ensures b F h s W)
 
 returns-2 : tie.Need-returns-2 Inv-loop μ-loop
 returns-2 c = states-all (c .before .loop .inv) (c .loop-test .left)

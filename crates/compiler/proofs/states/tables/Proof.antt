@@ -2,12 +2,13 @@
 use Prim.Native.Nat.{ℕ, _≤_}
 use mathlib.Core.List.{List}
 use native.Mathlib.Omega.{arith}
+use lib.ListN.{replicate, length-replicate}
 use Rattle.grammar.specs.Limits.{MAX-STATES}
 use Rattle.grammar.specs.Data.Book.{Book}
 use borrow.Author.Needs.{needs}
 use borrow.Author.Tests.{not-true, not-false}
 use Rattle.grammar.specs.Automaton.FirstSets.{setsOf}
-use Rattle.compiler.specs.States.{BookHeld, held-closures, tabled-kernels, tabled-goes, tabled-acts, tabled-all}
+use Rattle.compiler.specs.States.{BookHeld, held-closures, ask-fronts, held-fronts, tabled-kernels, tabled-goes, tabled-acts, tabled-all}
 use Rattle.compiler.proofs.states.tables.Statement.{statement}
 use Rattle.compiler.proofs.states.tables.Tie as tie
 
@@ -23,11 +24,14 @@ start c = c .before .before .before .before .before .before .before .before .bef
 abbrev kernels-at : tie.After-fill-items → tie.After-kernel-states
 kernels-at c = c .before .before .before .before .before .before .before .before .before
 
-abbrev items-at : tie.After-moves → tie.After-fill-items
-items-at c = c .before .before .before .before .before .before .before .before .before .before .before .before
+abbrev items-at : tie.After-fill-fronts → tie.After-fill-items
+items-at c = c .before .before .before .before .before .before .before .before .before .before .before
+
+abbrev fronts-at : tie.After-moves → tie.After-fill-fronts
+fronts-at c = c .before .before .before .before .before .before
 
 abbrev moves-at : tie.After-actions → tie.After-moves
-moves-at c = c .before .before .before .before .before .before .before
+moves-at c = c .before .before .before .before .before .before .before .before
 
 kernel-states-requires : tie.Need-kernel-states-requires
 kernel-states-requires c κs = search needs
@@ -47,13 +51,29 @@ fill-items-requires c κs =
     let (k, T) = s .kernel-states .ensures b (H .kernels-held) (H .kernels-counted) in
     ((b, H .kernels-held, H .rules-counted, T), (room .vanishes-long, room .begins-long, room .reached-long, room .closures-blank (few H)))
 
-moves-requires : tie.Need-moves-requires
-moves-requires c κs =
-    let i = c .before .before .before .before .before .before .before .before .before .before .before in
+slice-aggregate-fill-fronts : tie.Need-slice-aggregate-fill-fronts
+slice-aggregate-fill-fronts c = search needs
+
+fill-fronts-requires : tie.Need-fill-fronts-requires
+fill-fronts-requires c κs =
+    let i = c .before .before .before .before .before .before .before .before .before .before in
     let (b, H) = start (kernels-at i) .pre .0 in
     let (k, T) = kernels-at i .kernel-states .ensures b (H .kernels-held) (H .kernels-counted) in
     let I = i .fill-items .ensures b (H .kernels-held) (H .rules-counted) T in
-    ((b, H .kernels-held, H .rules-counted, H .goes-in, H .goes-counted, T, I .closures-in), start (kernels-at i) .pre .1 .table-long (few H))
+    ask-fronts (H .kernels-held) (H .rules-counted) (I .closures-in) (replicate 128 0) (length-replicate {A = ℕ} 128 0)
+
+slice-aggregate-moves : tie.Need-slice-aggregate-moves
+slice-aggregate-moves c = search needs
+
+moves-requires : tie.Need-moves-requires
+moves-requires c κs =
+    let f = c .before .before .before .before .before in
+    let i = items-at f in
+    let (b, H) = start (kernels-at i) .pre .0 in
+    let (k, T) = kernels-at i .kernel-states .ensures b (H .kernels-held) (H .kernels-counted) in
+    let I = i .fill-items .ensures b (H .kernels-held) (H .rules-counted) T in
+    let W = held-fronts (H .kernels-held) (H .rules-counted) (f .fill-fronts .ensures) in
+    ((b, H .kernels-held, H .goes-in, H .goes-counted, T, I .closures-in, W), start (kernels-at i) .pre .1 .table-long (few H))
 
 same-length-2 : tie.Need-same-length-2
 same-length-2 c = search needs
@@ -76,20 +96,27 @@ same-length-7 c = search needs
 returns-2 : tie.Need-returns-2
 returns-2 c = λ b H.
     let m = c .before .before .before in
-    let i = items-at m in
+    let f = fronts-at m in
+    let i = items-at f in
     let (k, T) = kernels-at i .kernel-states .ensures b (H .kernels-held) (H .kernels-counted) in
     let I = i .fill-items .ensures b (H .kernels-held) (H .rules-counted) T in
-    let (g, G) = m .moves .ensures b (H .kernels-held) (H .rules-counted) (H .goes-in) (H .goes-counted) T (I .closures-in) in
+    let W = held-fronts (H .kernels-held) (H .rules-counted) (f .fill-fronts .ensures) in
+    let (g, G) = m .moves .ensures b (H .kernels-held) (H .goes-in) (H .goes-counted) T (I .closures-in) W in
     tabled-goes k (not-false _ (i .before .before .before .before .before .before .if1 .left)) g (not-true _ (c .if2 .taken))
+
+slice-aggregate-actions : tie.Need-slice-aggregate-actions
+slice-aggregate-actions c = search needs
 
 actions-requires : tie.Need-actions-requires
 actions-requires c κs =
-    let i = items-at (c .before .before .before .before .before .before) in
+    let f = fronts-at (c .before .before .before .before .before .before .before) in
+    let i = items-at f in
     let (b, H) = start (kernels-at i) .pre .0 in
     let (k, T) = kernels-at i .kernel-states .ensures b (H .kernels-held) (H .kernels-counted) in
     let I = i .fill-items .ensures b (H .kernels-held) (H .rules-counted) T in
+    let W = held-fronts (H .kernels-held) (H .rules-counted) (f .fill-fronts .ensures) in
     let K = held-closures (H .kernels-held) T (I .closures-in) in
-    (start (kernels-at i) .pre .1 .actions-long, (b, setsOf (b .rules), K, H .terminals-are, H .kernels-held .states-are, H .rules-counted))
+    (start (kernels-at i) .pre .1 .actions-long, (b, setsOf (b .rules), K, H .terminals-are, H .kernels-held .states-are, W))
 
 same-length-8 : tie.Need-same-length-8
 same-length-8 c = search needs
@@ -101,7 +128,7 @@ same-length-10 : tie.Need-same-length-10
 same-length-10 c = search needs
 
 same-length-11 : tie.Need-same-length-11
-same-length-11 c = kernels-at (items-at (moves-at (c .before .before .before))) .kernel-states .kept .1 .1 .1 .1 .0
+same-length-11 c = kernels-at (items-at (fronts-at (moves-at (c .before .before .before)))) .kernel-states .kept .1 .1 .1 .1 .0
 
 same-length-12 : tie.Need-same-length-12
 same-length-12 c = search needs
@@ -115,14 +142,16 @@ same-length-14 c = search needs
 returns-3 : tie.Need-returns-3
 returns-3 c = λ b H.
     let m = moves-at (c .before .before .before) in
-    let i = items-at m in
+    let f = fronts-at m in
+    let i = items-at f in
     let (k, T) = kernels-at i .kernel-states .ensures b (H .kernels-held) (H .kernels-counted) in
     let I = i .fill-items .ensures b (H .kernels-held) (H .rules-counted) T in
-    let (g, G) = m .moves .ensures b (H .kernels-held) (H .rules-counted) (H .goes-in) (H .goes-counted) T (I .closures-in) in
+    let W = held-fronts (H .kernels-held) (H .rules-counted) (f .fill-fronts .ensures) in
+    let (g, G) = m .moves .ensures b (H .kernels-held) (H .goes-in) (H .goes-counted) T (I .closures-in) W in
     let K = held-closures (H .kernels-held) T (I .closures-in) in
-    let A = c .before .before .before .actions .ensures b (setsOf (b .rules)) K (H .terminals-are) (H .kernels-held .states-are) (H .rules-counted) in
+    let A = c .before .before .before .actions .ensures b (setsOf (b .rules)) K (H .terminals-are) (H .kernels-held .states-are) W in
     tabled-acts k (not-false _ (i .before .before .before .before .before .before .if1 .left))
-    g (not-false _ (c .before .before .before .before .before .before .before .if2 .left)) A
+    g (not-false _ (c .before .before .before .before .before .before .before .before .if2 .left)) A
     (not-true _ (c .if3 .taken))
 
 same-length-15 : tie.Need-same-length-15
@@ -135,7 +164,7 @@ same-length-17 : tie.Need-same-length-17
 same-length-17 c = search needs
 
 same-length-18 : tie.Need-same-length-18
-same-length-18 c = kernels-at (items-at (moves-at (c .before .before .before))) .kernel-states .kept .1 .1 .1 .1 .0
+same-length-18 c = kernels-at (items-at (fronts-at (moves-at (c .before .before .before)))) .kernel-states .kept .1 .1 .1 .1 .0
 
 same-length-19 : tie.Need-same-length-19
 same-length-19 c = search needs
@@ -149,14 +178,16 @@ same-length-21 c = search needs
 returns-4 : tie.Need-returns-4
 returns-4 c = λ b H.
     let m = moves-at (c .before .before .before) in
-    let i = items-at m in
+    let f = fronts-at m in
+    let i = items-at f in
     let (k, T) = kernels-at i .kernel-states .ensures b (H .kernels-held) (H .kernels-counted) in
     let I = i .fill-items .ensures b (H .kernels-held) (H .rules-counted) T in
-    let (g, G) = m .moves .ensures b (H .kernels-held) (H .rules-counted) (H .goes-in) (H .goes-counted) T (I .closures-in) in
+    let W = held-fronts (H .kernels-held) (H .rules-counted) (f .fill-fronts .ensures) in
+    let (g, G) = m .moves .ensures b (H .kernels-held) (H .goes-in) (H .goes-counted) T (I .closures-in) W in
     let K = held-closures (H .kernels-held) T (I .closures-in) in
-    let A = c .before .before .before .actions .ensures b (setsOf (b .rules)) K (H .terminals-are) (H .kernels-held .states-are) (H .rules-counted) in
+    let A = c .before .before .before .actions .ensures b (setsOf (b .rules)) K (H .terminals-are) (H .kernels-held .states-are) W in
     tabled-all k (not-false _ (i .before .before .before .before .before .before .if1 .left))
-    g (not-false _ (c .before .before .before .before .before .before .before .if2 .left)) A
+    g (not-false _ (c .before .before .before .before .before .before .before .before .if2 .left)) A
     (not-false _ (c .if3 .left)) I T G
 
 pub tables-spec : {M : Type 1} → statement M
@@ -167,6 +198,9 @@ tables-spec =
     same-length
     returns
     fill-items-requires
+    slice-aggregate-fill-fronts
+    fill-fronts-requires
+    slice-aggregate-moves
     moves-requires
     same-length-2
     same-length-3
@@ -175,6 +209,7 @@ tables-spec =
     same-length-6
     same-length-7
     returns-2
+    slice-aggregate-actions
     actions-requires
     same-length-8
     same-length-9

@@ -13,8 +13,8 @@ use Rattle.grammar.specs.Conditions.TestsLaws.{withinLimits-decides, declared-d
 use Rattle.book.specs.declared.Book.{Book}
 use Rattle.book.specs.Counts.{countsOf}
 use Rattle.book.specs.Held.{Held, kept}
-use Rattle.conditions.specs.Asked.{Kept, Within, DeclaredBook}
-use Rattle.conditions.specs.AskedLaws.{kept-book, within-book, declared-book}
+use Rattle.conditions.specs.Asked.{Kept, Within, DeclaredBook, OwnedBook}
+use Rattle.conditions.specs.AskedLaws.{kept-book, within-book, declared-book, owned-book}
 
 -- the numbers of a book that is spelled right, and its lines in arrays, as far as there is room
 pub record BookKept (numbers : Book) (inherited synthesized rules definitions kernels goes : List ℕ) (b : Lines) : Type 0 where
@@ -35,6 +35,9 @@ module _ {numbers : Book} {inherited synthesized rules definitions kernels goes 
 
     pub asked-attributes : declared b ≡ true → DeclaredBook numbers inherited synthesized rules definitions b
     asked-attributes d = declared-book asked-names d
+
+    pub asked-definitions : declared b ≡ true → owned b ≡ true → OwnedBook numbers inherited synthesized rules b
+    asked-definitions d o = owned-book asked-names d o
 
 -- ---- the first that applies, or 0
 

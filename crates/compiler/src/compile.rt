@@ -60,7 +60,7 @@ fn conditions(
     if !owned(book, inherited, synthesized, rules, definitions) {
         return 5;
     }
-    if !defined(book, inherited, synthesized, rules, definitions) {
+    if !defined(book, inherited, synthesized, rules) {
         return 6;
     }
     0

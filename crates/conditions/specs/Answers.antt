@@ -7,9 +7,9 @@ use native.Mathlib.Numerals.{add-one}
 use mathlib.Core.Path.{_≡_, refl, sym, ap, ap₂, _∙_}
 use mathlib.Core.Bool.{Bool, true, false, _&&_}
 use mathlib.Core.List.{List, [], _∷_}
-use lib.Dec.{eqb, ltb}
+use lib.Dec.{eqb}
 use lib.ListN.{length, getD}
-use borrow.Author.Tests.{eqb-true, eqb-false, ltb-true, ltb-false}
+use borrow.Author.Tests.{eqb-true, eqb-false}
 use Rattle.grammar.specs.Conditions.Decides.{Decides, all, allBelow, allBelow-decides}
 
 -- something is held
@@ -139,14 +139,6 @@ module _ {A : Type 0} {H : A → Type 0} {f : A → ℕ → Bool} {n : ℕ} wher
 
     pub passing-stop : {r : Bool} → i < n → Answers H (λ x. f x i) r → r ≡ false → Answers H (λ x. allBelow n (f x)) false
     passing-stop h a e = record { for-all = λ x k. sym (fails (f x) n i h (sym (a .for-all x k) ∙ e)) }
-
-    -- the places up to j pass without being asked
-    pub passing-skip : (j : ℕ) → i ≤ j → j ≤ n → ((x : A) → H x → (k : ℕ) → i ≤ k → k < j → f x k ≡ true) → Passing H f n j
-    passing-skip j l h e = record { within = h; so-far = λ x a. below-all (f x) j λ k m. by x a k m (ltb k i) refl }
-      where
-        by : (x : A) → H x → (k : ℕ) → k < j → (t : Bool) → ltb k i ≡ t → f x k ≡ true
-        by x a k m true q = below-at (f x) i k (p .so-far x a) (ltb-true k i q)
-        by x a k m false q = e x a k (ltb-false k i q) m
 
     pub passing-end : n ≤ i → Answers H (λ x. allBelow n (f x)) true
     passing-end h = let e : i ≡ n = omega (arith, p .within) in

@@ -8,14 +8,13 @@ use lib.ListN.{length, getD}
 use Rattle.grammar.specs.Limits.{MAX-INHERITED, MAX-SYNTHESIZED, MAX-RIGHT, MAX-DEFINITIONS, MAX-NODES}
 use Rattle.grammar.specs.Data.Symbol.{Rule, rightOf}
 use Rattle.grammar.specs.Data.Term.{nodes}
-use Rattle.grammar.specs.Data.Book.{InheritedDefinition, Kernel, Book as Lines, inheritedOwner, synthesizedOwner}
-use Rattle.grammar.specs.Conditions.Meaning.{WithinLimits, Declared}
+use Rattle.grammar.specs.Data.Book.{InheritedDefinition, Kernel, Book as Lines}
+use Rattle.grammar.specs.Conditions.Meaning.{WithinLimits, Declared, Owned}
 use Rattle.grammar.specs.Conditions.Tests.{withinLimits, declared, allLeaves, declaredPlace}
 use Rattle.grammar.specs.Conditions.Decides.{OneTo}
 use Rattle.grammar.specs.Format.Ordered.{Ascending, kernelKey, Ordered}
 use Rattle.book.specs.declared.Book.{Book}
 use Rattle.book.specs.Held.{OwnersIn, RulesIn, DefinitionIn, DefinitionsIn, KernelsIn, GoesIn, kept}
-use Rattle.conditions.specs.Links.{Links}
 
 -- the numbers are the book's
 pub record Counted (numbers : Book) (b : Lines) : Type 0 where
@@ -192,59 +191,9 @@ pub record DeclaredBook (numbers : Book) (inherited synthesized rules definition
   pub counted : Counted numbers b
   pub lines : DeclaredLines inherited synthesized rules definitions b
 
--- What is asked of the definitions of inherited attributes: a book, the same with its attributes linked, a rule p and the line from which on its
--- definitions are looked for, a position j
-
-pub record InheritedSide (inherited rules definitions : List ℕ) (attributes n count : ℕ) (b : Lines) : Type 0 where
-  pub symbols-in : SymbolsIn rules b
-  pub inherited-in : OwnersIn MAX-INHERITED (b .inheritedOwners) inherited
-  pub definitions-in : DefinitionsIn (b .inheritedDefinitions) (b .synthesizedDefinitions) definitions
-  pub attributes-are : attributes ≡ length (b .inheritedOwners)
-  pub definitions-are : n ≡ length (b .inheritedDefinitions)
-  pub rules-are : count ≡ length (b .rules)
-
-pub record InheritedRules (rules definitions heads nexts : List ℕ) (attributes n count : ℕ) (b : Lines) : Type 0 where
-  pub symbols-in : SymbolsIn rules b
-  pub definitions-in : DefinitionsIn (b .inheritedDefinitions) (b .synthesizedDefinitions) definitions
-  pub attributes-are : attributes ≡ length (b .inheritedOwners)
-  pub definitions-are : n ≡ length (b .inheritedDefinitions)
-  pub rules-are : count ≡ length (b .rules)
-  pub links : Links (inheritedOwner b) attributes heads nexts
-
-pub record InheritedRule (rules definitions heads nexts : List ℕ) (attributes n start p : ℕ) (b : Lines) : Type 0 where
-  pub side : InheritedRules rules definitions heads nexts attributes n (length (b .rules)) b
-  pub start-there : start ≤ n
-  pub rule-there : p < length (b .rules)
-  pub size-is : getD rules (10 * p + 1) 0 ≡ length (rightOf (b .rules) p)
-  pub few-right : length (rightOf (b .rules) p) ≤ MAX-RIGHT
-
-pub record InheritedPlace (rules definitions heads nexts : List ℕ) (attributes n start p j : ℕ) (b : Lines) : Type 0 where
-  pub rule : InheritedRule rules definitions heads nexts attributes n start p b
-  pub position-there : OneTo (length (rightOf (b .rules) p)) j
-  pub symbol-low : getD rules (10 * p + 1 + j) 0 < 64
-
--- The same of synthesized attributes
-
-pub record SynthesizedSide (synthesized rules definitions : List ℕ) (attributes first n count : ℕ) (b : Lines) : Type 0 where
-  pub symbols-in : SymbolsIn rules b
-  pub synthesized-in : OwnersIn MAX-SYNTHESIZED (b .synthesizedOwners) synthesized
-  pub definitions-in : DefinitionsIn (b .inheritedDefinitions) (b .synthesizedDefinitions) definitions
-  pub attributes-are : attributes ≡ length (b .synthesizedOwners)
-  pub first-is : first ≡ length (b .inheritedDefinitions)
-  pub definitions-are : n ≡ length (b .synthesizedDefinitions)
-  pub rules-are : count ≡ length (b .rules)
-
-pub record SynthesizedRules (rules definitions heads nexts : List ℕ) (attributes first n count : ℕ) (b : Lines) : Type 0 where
-  pub symbols-in : SymbolsIn rules b
-  pub definitions-in : DefinitionsIn (b .inheritedDefinitions) (b .synthesizedDefinitions) definitions
-  pub attributes-are : attributes ≡ length (b .synthesizedOwners)
-  pub first-is : first ≡ length (b .inheritedDefinitions)
-  pub definitions-are : n ≡ length (b .synthesizedDefinitions)
-  pub rules-are : count ≡ length (b .rules)
-  pub links : Links (synthesizedOwner b) attributes heads nexts
-
-pub record SynthesizedRule (rules definitions heads nexts : List ℕ) (attributes first n start p : ℕ) (b : Lines) : Type 0 where
-  pub side : SynthesizedRules rules definitions heads nexts attributes first n (length (b .rules)) b
-  pub start-there : start ≤ n
-  pub rule-there : p < length (b .rules)
-  pub left-low : getD rules (10 * p) 0 < 32
+-- a book whose definitions are of attributes that belong to their symbols, but for its states and the words of its definitions
+pub record OwnedBook (numbers : Book) (inherited synthesized rules : List ℕ) (b : Lines) : Type 0 where
+  pub counted : Counted numbers b
+  pub ordered : Ordered b
+  pub declared-in : DeclaredIn inherited synthesized rules b
+  pub owned : Owned b

@@ -10,8 +10,8 @@ use lib.Seq.{getD-take, ext-getD}
 use Rattle.grammar.specs.Data.Book.{SynthesizedDefinition, Book as Lines}
 use Rattle.grammar.specs.Conditions.Meaning.{WithinLimits}
 use Rattle.grammar.specs.Format.Ordered.{Ordered}
-use Rattle.grammar.specs.Conditions.Tests.{withinLimits, declared}
-use Rattle.grammar.specs.Conditions.TestsLaws.{withinLimits-decides}
+use Rattle.grammar.specs.Conditions.Tests.{withinLimits, declared, owned}
+use Rattle.grammar.specs.Conditions.TestsLaws.{withinLimits-decides, declared-decides, owned-decides}
 use Rattle.grammar.specs.Conditions.MeaningLaws.{right-length}
 use Rattle.grammar.specs.Data.ListLaws.{at-member}
 use Rattle.book.specs.declared.Book.{Book}
@@ -38,6 +38,7 @@ use Rattle.conditions.specs.Asked.{
   InheritedLines,
   SynthesizedLines,
   DeclaredBook,
+  OwnedBook,
 }
 
 -- where there is room, what is kept is all
@@ -217,4 +218,19 @@ module _ {numbers : Book} {inherited synthesized rules definitions kernels goes 
           within = h .within;
           declared = d;
         };
+      }
+
+  -- after condition 5
+  pub owned-book : Within numbers inherited synthesized rules definitions kernels goes b → declared b ≡ true → owned b ≡ true
+      → OwnedBook numbers inherited synthesized rules b
+  owned-book h d o =
+      record {
+        counted = h .stored .counted;
+        ordered = h .stored .ordered;
+        declared-in = record {
+          symbols-in = record { within = within-limits h; declared = declared-decides b .sound d; rules-in = h .stored .rules-in };
+          inherited-in = h .stored .inherited-in;
+          synthesized-in = h .stored .synthesized-in;
+        };
+        owned = owned-decides b .sound o;
       }

@@ -135,7 +135,7 @@ module _ {inherited synthesized rules definitions : List ℕ} {b : Lines} (h : D
       and-second (grammarDeclared b) (inheritedDeclared b && synthesizedDeclared b)
       (and-first (grammarDeclared b && (inheritedDeclared b && synthesizedDeclared b)) (kernelsDeclared b && goesDeclared b) (declared-parts b ∙ h .declared))
 
-  pub symbols-in : SymbolsIn rules b
+  symbols-in : SymbolsIn rules b
   symbols-in = record { within = withinLimits-decides b .sound (h .within); declared = declared-decides b .sound (h .declared); rules-in = h .rules-in }
 
   declared-in : DeclaredIn inherited synthesized rules b

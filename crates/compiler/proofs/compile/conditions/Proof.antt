@@ -9,6 +9,7 @@ use Rattle.compiler.specs.Conditions.{
   asked-limits,
   asked-names,
   asked-attributes,
+  asked-definitions,
   limits-refused,
   names-refused,
   attributes-refused,
@@ -70,7 +71,8 @@ returns-3 c = λ b h.
 defined-requires : tie.Need-defined-requires
 defined-requires c κs =
     let at = c .before .before in
-    let (b, h) = start (at .before .before .before) .pre in (b, asked-attributes h (limits (at .before .before) b h) (names at b h))
+    let (b, h) = start (at .before .before .before) .pre in
+    (b, asked-definitions h (limits (at .before .before) b h) (names at b h) (attributes c b h))
 
 returns-4 : tie.Need-returns-4
 returns-4 c = λ b h.
@@ -78,7 +80,7 @@ returns-4 c = λ b h.
     let w = limits (at .before .before) b h in
     let d = names at b h in
     let o = attributes (c .before .before) b h in
-    sym (definitions-refused b w d o (sym (c .before .defined .ensures .for-all b (asked-attributes h w d)) ∙ not-true _ (c .if4 .taken)))
+    sym (definitions-refused b w d o (sym (c .before .defined .ensures .for-all b (asked-definitions h w d o)) ∙ not-true _ (c .if4 .taken)))
 
 returns-5 : tie.Need-returns-5
 returns-5 c = λ b h.
@@ -86,7 +88,7 @@ returns-5 c = λ b h.
     let w = limits (at .before .before) b h in
     let d = names at b h in
     let o = attributes (c .before .before) b h in
-    sym (conditions-met b w d o (sym (c .before .defined .ensures .for-all b (asked-attributes h w d)) ∙ not-false _ (c .if4 .left)))
+    sym (conditions-met b w d o (sym (c .before .defined .ensures .for-all b (asked-definitions h w d o)) ∙ not-false _ (c .if4 .left)))
 
 pub conditions-spec : {M : Type 1} → statement M
 conditions-spec =

@@ -27,7 +27,7 @@ use conditions::declared::declared;
 use conditions::defined::defined;
 use conditions::limits::within_limits;
 use conditions::owned::owned;
-use reading::spelling;
+use parsing::spelling;
 
 // The first of 3, 4, 5 and 6 that applies, or 0.
 fn conditions(

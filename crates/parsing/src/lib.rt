@@ -5,7 +5,7 @@ ghost use Rattle.text.specs.Reading.{Lent};
 ghost use Rattle.grammar.specs.Limits.{MAX-INHERITED, MAX-SYNTHESIZED, MAX-RULES};
 ghost use Rattle.book.specs.Lines.{RULE-WORDS};
 ghost use Rattle.definitions.specs.Expressions.{WaitsRoom};
-ghost use Rattle.reading.specs.Declarations.{Declares};
+ghost use Rattle.parsing.specs.Declarations.{Declares};
 ghost use Rattle.book.specs.Spelling.{arrays, Roomy, Spelling};
 use book::Book;
 use book::Room;

@@ -33,7 +33,7 @@ use Rattle.kernels.specs.GoLines.{goes-size}
 use Rattle.book.specs.Held.{inheritedWords, synthesizedWords}
 use Rattle.book.specs.Counts.{countsOf}
 use Rattle.definitions.specs.Both.{DefinesBoth}
-use Rattle.reading.specs.Declarations.{Declares}
+use Rattle.parsing.specs.Declarations.{Declares}
 use Rattle.book.specs.Spelling.{arrays, storedIn, isBook, Spelling}
 
 -- Where reading ends

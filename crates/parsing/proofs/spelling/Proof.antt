@@ -1,8 +1,8 @@
 use native.Mathlib.Omega.{arith}
-use Rattle.reading.specs.SpellingLaws.{spelling-steps}
+use Rattle.parsing.specs.SpellingLaws.{spelling-steps}
 use borrow.Author.Needs.{needs}
-use Rattle.reading.proofs.spelling.Statement.{statement}
-use Rattle.reading.proofs.spelling.Tie as tie
+use Rattle.parsing.proofs.spelling.Statement.{statement}
+use Rattle.parsing.proofs.spelling.Tie as tie
 
 declarations-requires : tie.Need-declarations-requires
 declarations-requires c κs = search needs

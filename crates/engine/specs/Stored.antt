@@ -2,13 +2,13 @@
 -- Assumes nothing.
 use Prim.Native.Nat.{ℕ, zero, suc, _≤_}
 use mathlib.Core.Path.{_≡_, refl, sym, ap, _∙_}
-use mathlib.Core.Bool.{Bool, true, false, _&&_}
+use mathlib.Core.Bool.{Bool, true, false, not, _&&_}
 use mathlib.Core.List.{List}
 use mathlib.Core.Option.{Option, none, some}
 use native.Mathlib.Omega.{arith}
 use lib.Dec.{eqb}
 use lib.ListN.{length, take, drop, length-append}
-use borrow.Author.Tests.{eq-eqb, ne-eqb}
+use borrow.Author.Tests.{eq-eqb, ne-eqb, not-false}
 use Rattle.grammar.specs.Limits.{MAX-TEXT, BOOK-WORDS}
 use Rattle.grammar.specs.Data.Book.{Book as Lines}
 use Rattle.grammar.specs.Automaton.Fixpoint.{sameSets}
@@ -94,6 +94,10 @@ module _ (words : List ℕ) where
 
 pub unfilled : {words text : List ℕ} {filled : Bool} {count : ℕ} → Found words text filled count → filled ≡ false → storedBook words ≡ none
 unfilled {words} h e = unfilled-none words (sym (h .told) ∙ e)
+
+-- where they are one, as a caller's test tells
+pub filled-found : {words text : List ℕ} {filled : Bool} {count : ℕ} → Found words text filled count → not filled ≡ false → Found words text true count
+filled-found {filled = filled} h e = rw (not-false filled e) at h
 
 module _ {words text : List ℕ} {filled : Bool} {count : ℕ} (h : Found words text filled count) (e : filled ≡ true) {r : ℕ} {numbers : Book}
     {inherited synthesized rules definitions kernels goes : List ℕ} {vanishes begins reached starts closures table actions : List ℕ}

@@ -4,13 +4,24 @@ use lib.ListN.{length}
 use Rattle.grammar.specs.Format.Packing.{unpack}
 use lib.Seq.{take-all}
 use native.Mathlib.Omega.{arith}
-use borrow.Author.Tests.{not-true, not-false}
+use borrow.Author.Tests.{not-true}
 use Rattle.engine.specs.Rooms.{zeros, full-arrays}
-use Rattle.engine.specs.Stored.{unfilled}
+use Rattle.engine.specs.Stored.{unfilled, filled-found}
 use Rattle.engine.specs.Evaluations.{answers-none}
 use borrow.Author.Needs.{needs}
 use Rattle.engine.proofs.evaluating.full.Statement.{statement}
 use Rattle.engine.proofs.evaluating.full.Tie as tie
+
+-- from the call of `attempt` back to the room, to the test of the filling, and to the text
+
+abbrev room-at : tie.After-attempt-arg2 → tie.After-full
+room-at c = c .before .before .before .before .before .before .before
+
+abbrev filled-at : tie.After-attempt-arg2 → tie.Else1
+filled-at c = room-at c .before .before .before
+
+abbrev found-at : tie.After-attempt-arg2 → tie.After-text-in
+found-at c = filled-at c .before .before .before
 
 slice-aggregate-text-in : tie.Need-slice-aggregate-text-in
 slice-aggregate-text-in c = search needs
@@ -48,16 +59,12 @@ slice-aggregate-attempt-7 : tie.Need-slice-aggregate-attempt-7
 slice-aggregate-attempt-7 c = search needs
 
 attempt-requires : tie.Need-attempt-requires
-attempt-requires c κs = let k = c .before .before .before .before .before .before .before .before .before .before .before .before .before in
-    let e = c .before .before .before .before .before .before .before .full .ensures in (
-      (
-        c .before .before .before .before .before .before .before .before .before .before .before .before .before .before .before .before .before .before
-            .args .words .now,
-        rw (not-false (k .text-in .result .filled) (c .before .before .before .before .before .before .before .before .before .before
-            .if1 .left)) at (k .text-in .ensures),
-      ),
-      rw e (omega (arith, k .text-in .kept .1 .1 .0)),
-      omega (arith, k .text-in .ensures .inside, k .text-in .kept .1 .1 .0, zeros 13107),
+attempt-requires c κs =
+    let found = found-at c .text-in in
+    let e = room-at c .full .ensures in (
+      (_, filled-found (found .ensures) (filled-at c .if1 .left)),
+      rw e (omega (arith, found .kept .1 .1 .0)),
+      omega (arith, found .ensures .inside, found .kept .1 .1 .0, zeros 13107),
       rw e full-arrays,
     )
 
@@ -65,11 +72,11 @@ same-length : tie.Need-same-length
 same-length c = search needs
 
 returns-2 : tie.Need-returns-2
-returns-2 c = let a = c .before .before .before .before .before .before .before .before .before in
-    a .attempt .ensures .answers (a .attempt .ensures .all (a .before .before .before .before .before .before .before .before .full .ensures)) _ (rw
-    (not-false (a .before .before .before .before .before .before .before .before .before .before .before .before .before .before .text-in .result
-    .filled) (a .before .before .before .before .before .before .before .before .before .before .before .if1 .left)) at (a .before .before .before
-    .before .before .before .before .before .before .before .before .before .before .before .text-in .ensures))
+returns-2 c =
+    let a = c .before .before .before .before .before .before .before .before .before in
+    let told = a .attempt .ensures in
+    let at = a .before in
+    told .answers (told .all (room-at at .full .ensures)) _ (filled-found (found-at at .text-in .ensures) (filled-at at .if1 .left))
 
 pub full-spec : {M : Type 1} → statement M
 full-spec =

@@ -1,5 +1,4 @@
 -- `evaluating::longer` meets its contract: arrays for any book are taken where those for a short one have no room. Assumes nothing.
-use native.Mathlib.Omega.{arith}
 use borrow.Author.Needs.{needs}
 use Rattle.engine.proofs.evaluating.longer.Statement.{statement}
 use Rattle.engine.proofs.evaluating.longer.Tie as tie

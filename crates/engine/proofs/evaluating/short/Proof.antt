@@ -1,28 +1,33 @@
 -- `evaluating::short` meets its contract: the arrays have as much room as is said. Assumes nothing.
 use Rattle.packing.specs.FrontLaws.{unpack-front}
 use native.Mathlib.Omega.{arith}
-use borrow.Author.Tests.{not-true, not-false}
+use borrow.Author.Tests.{not-true}
 use Rattle.engine.specs.Rooms.{zeros, short-arrays}
-use Rattle.engine.specs.Stored.{unfilled}
+use Rattle.engine.specs.Stored.{unfilled, filled-found}
 use Rattle.engine.specs.Evaluations.{answers-none}
 use borrow.Author.Needs.{needs}
 use Rattle.engine.proofs.evaluating.short.Statement.{statement}
 use Rattle.engine.proofs.evaluating.short.Tie as tie
 
+-- from the call of `attempt` back to the room, to the test of the filling, and to the text
+
+abbrev room-at : tie.After-attempt-arg2 → tie.After-short-room
+room-at c = c .before .before .before .before .before .before .before
+
+abbrev filled-at : tie.After-attempt-arg2 → tie.Else1
+filled-at c = room-at c .before .before .before
+
+abbrev found-at : tie.After-attempt-arg2 → tie.After-text-in
+found-at c = filled-at c .before .before .before
+
 slice-aggregate-text-in : tie.Need-slice-aggregate-text-in
 slice-aggregate-text-in c = search needs
 
 text-in-requires : tie.Need-text-in-requires
-text-in-requires c κs = let s = c .before .before .before .before in (
-  s .pre .0,
-  omega arith,
-  unpack-front 1023 (s .args .words .now) (omega (arith, s .pre .0)) (s .pre .1),
-  omega (arith, zeros 16384),
-  omega (
-    arith,
-    zeros 16384,
-  ),
-)
+text-in-requires c κs =
+    let s = c .before .before .before .before in
+    let front = unpack-front 1023 (s .args .words .now) (omega (arith, s .pre .0)) (s .pre .1) in
+    (s .pre .0, omega arith, front, omega (arith, zeros 16384), omega (arith, zeros 16384))
 
 returns : tie.Need-returns
 returns c = λ _. answers-none _ _ _ (unfilled (c .before .before .before .text-in .ensures) (not-true _ (c .if1 .taken)))
@@ -52,16 +57,12 @@ slice-aggregate-attempt-7 : tie.Need-slice-aggregate-attempt-7
 slice-aggregate-attempt-7 c = search needs
 
 attempt-requires : tie.Need-attempt-requires
-attempt-requires c κs = let k = c .before .before .before .before .before .before .before .before .before .before .before .before .before in
-    let e = c .before .before .before .before .before .before .before .short-room .ensures in (
-      (
-        c .before .before .before .before .before .before .before .before .before .before .before .before .before .before .before .before .before .before
-            .args .words .now,
-        rw (not-false (k .text-in .result .filled) (c .before .before .before .before .before .before .before .before .before .before
-            .if1 .left)) at (k .text-in .ensures),
-      ),
-      rw e (omega (arith, k .text-in .kept .1 .1 .0)),
-      omega (arith, k .text-in .ensures .inside, k .text-in .kept .1 .1 .0, zeros 3277),
+attempt-requires c κs =
+    let found = found-at c .text-in in
+    let e = room-at c .short-room .ensures in (
+      (_, filled-found (found .ensures) (filled-at c .if1 .left)),
+      rw e (omega (arith, found .kept .1 .1 .0)),
+      omega (arith, found .ensures .inside, found .kept .1 .1 .0, zeros 3277),
       rw e short-arrays,
     )
 
@@ -69,9 +70,9 @@ same-length : tie.Need-same-length
 same-length c = search needs
 
 returns-2 : tie.Need-returns-2
-returns-2 c = λ w. let a = c .before .before .before .before .before .before .before .before .before in let k = a .before .before .before .before .before
-    .before .before .before .before .before .before .before .before .before in a .attempt .ensures .answers w _ (rw (not-false (k .text-in .result .filled)
-    (a .before .before .before .before .before .before .before .before .before .before .before .if1 .left)) at (k .text-in .ensures))
+returns-2 c = λ whole.
+    let a = c .before .before .before .before .before .before .before .before .before in
+    a .attempt .ensures .answers whole _ (filled-found (found-at (a .before) .text-in .ensures) (filled-at (a .before) .if1 .left))
 
 pub short-spec : {M : Type 1} → statement M
 short-spec =

@@ -1,6 +1,5 @@
 -- `memory::plan_if_idle` meets its contract: the plans of a state at whose items nothing is defined have no lines.
 -- Assumes nothing.
-use native.Mathlib.Omega.{arith}
 use borrow.Author.Needs.{needs}
 use borrow.Author.Tests.{not-false}
 use Rattle.plans.specs.MemoryLaws.{plans-idle}

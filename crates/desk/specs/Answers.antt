@@ -9,8 +9,8 @@ use lib.ListN.{length, take, length-take}
 use Rattle.grammar.specs.Limits.{MAX-TEXT, BOOK-WORDS, MAX-ROWS, PAGE-WORDS}
 use Rattle.grammar.specs.Engine.{Reading, readBook, Evaluation, turnedBack, evaluateWords}
 use Rattle.grammar.specs.Cases.Cases.{afterReading, calls}
-use Rattle.engine.specs.Readings.{Reads}
-use Rattle.engine.specs.Evaluations.{Evaluates}
+use Rattle.attempts.specs.Readings.{Reads}
+use Rattle.attempts.specs.Evaluations.{Evaluates}
 use Rattle.desk.specs.Desk.{Input, refused, answerOf, evaluated, answer, answerTo}
 use Rattle.desk.specs.Figures.{few-rows, calls-kept, answer-evaluated}
 use Rattle.desk.specs.Holds.{HoldsBook, HoldsTokens}

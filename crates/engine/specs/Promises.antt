@@ -15,8 +15,8 @@ use Rattle.grammar.specs.Engine.{Reading, readBook, tablesOf, evaluateWords}
 use Rattle.grammar.specs.Demands.{Reads as Reads-right, wrong-lengths, takes, refuses}
 use Rattle.grammar.specs.Demands.{Stored, bookOf, numbersOf, Evaluates as Evaluates-right, Figures}
 use Rattle.grammar.specs.DemandsProof.{taken-right, refusal-right, reading-right, evaluating-right, tables-right, figures-right}
-use Rattle.engine.specs.Readings.{Reads, text-number, read-number}
-use Rattle.engine.specs.Evaluations.{Evaluates}
+use Rattle.attempts.specs.Readings.{Reads, text-number, read-number}
+use Rattle.attempts.specs.Evaluations.{Evaluates}
 
 -- ---- message_book_read: the number r, and the words afterwards
 

@@ -1,15 +1,11 @@
 // The two public calls: reading and evaluating.
 pub mod evaluating;
 pub mod reading;
-pub mod rooms;
-pub mod sides;
-pub mod stored;
-pub mod tokens;
 
 ghost use lib.ListN.{length};
 ghost use Rattle.grammar.specs.Engine.{readBook, evaluateWords};
-ghost use Rattle.engine.specs.Evaluations.{Evaluates};
-ghost use Rattle.engine.specs.Readings.{Reads};
+ghost use Rattle.attempts.specs.Evaluations.{Evaluates};
+ghost use Rattle.attempts.specs.Readings.{Reads};
 
 // Reading, for callers in C: a slice comes as its pointer and its number of elements.
 #[no_mangle]

@@ -6,79 +6,20 @@ ghost use lib.ListN.{length};
 ghost use Rattle.grammar.specs.Limits.{MAX-TEXT, BOOK-WORDS};
 ghost use Rattle.grammar.specs.Refusal.{refusal};
 ghost use Rattle.grammar.specs.Engine.{readBook};
-ghost use Rattle.definitions.specs.Expressions.{WaitsRoom};
-ghost use Rattle.engine.specs.Rooms.{ArraysLent};
-ghost use Rattle.engine.specs.Readings.{Attempted, Reads, readNumber};
-use super::rooms::short_room;
-use super::rooms::tiny_room;
+ghost use Rattle.attempts.specs.Readings.{Reads, readNumber};
+use attempts::reading::Answer;
+use attempts::reading::attempt;
+use attempts::rooms::short_room;
+use attempts::rooms::tiny_room;
 use book::Book;
 use book::Room;
-use compiler::compile::compile;
 use packing::packing::clear;
 use packing::packing::pack;
-use text::classes;
 
 // The longest texts for which arrays for a tiny book, and for a short one, are tried.
 const TINY_TEXT: usize = 1024;
 
 const SHORT_TEXT: usize = 4096;
-
-// The refusal of a text, or 0; nothing is said where arrays have no room for what the text has.
-struct Answer {
-    complete: bool,
-    refusal: u32,
-}
-
-// The first of 2 to 10 that applies to a text, or 0, by arrays of the caller. What they hold is not looked at again; the words are room.
-fn attempt(
-    text: &[u8],
-    waits: &mut [u8],
-    room: Room,
-    definitions: &mut [u32],
-    kernels: &mut [u32],
-    goes: &mut [u32],
-    lookaheads: &mut [u32],
-    table: &mut [u8],
-    words: &mut [u32],
-) -> Answer
-    requires { ⌜ (length (now text) ≤ MAX-TEXT) × (length (now words) ≡ BOOK-WORDS)
-        × WaitsRoom (now text) (now waits) × ArraysLent room (now definitions) (now kernels) (now goes) (now lookaheads) (now table) ⌝ }
-    ensures { λ r. ⌜ Attempted room (now (text .entry)) (r .complete) (r .refusal) ⌝ }
-{
-    let t = classes();
-    let mut inherited = [0u32; 16];
-    let mut synthesized = [0u32; 32];
-    let mut rules = [0u32; 640];
-    let mut vanishes = [0u32; 576];
-    let mut begins = [0u32; 576];
-    let mut reached = [0u32; 576];
-    let mut starts = [0u32; 129];
-    let mut cells = [0u8; 4096];
-    let compiled = compile(
-        &t,
-        text,
-        waits,
-        room,
-        &mut inherited,
-        &mut synthesized,
-        &mut rules,
-        definitions,
-        kernels,
-        goes,
-        &mut vanishes,
-        &mut begins,
-        &mut reached,
-        &mut starts,
-        lookaheads,
-        table,
-        &mut cells,
-        &mut words[..7680],
-    );
-    Answer {
-        complete: compiled.complete,
-        refusal: compiled.refusal,
-    }
-}
 
 // By arrays for a tiny book.
 fn tiny(text: &[u8], words: &mut [u32]) -> Answer

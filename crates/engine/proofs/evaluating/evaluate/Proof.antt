@@ -2,7 +2,7 @@
 use Prim.Native.Nat.{ℕ}
 use mathlib.Core.Path.{ap, _∙_}
 use lib.ListN.{replicate}
-use Rattle.engine.specs.Evaluations.{evaluates-taken, evaluates-cleared}
+use Rattle.attempts.specs.Evaluations.{evaluates-taken, evaluates-cleared}
 use borrow.Author.Needs.{needs}
 use Rattle.engine.proofs.evaluating.evaluate.Statement.{statement}
 use Rattle.engine.proofs.evaluating.evaluate.Tie as tie

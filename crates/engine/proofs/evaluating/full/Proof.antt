@@ -5,9 +5,9 @@ use Rattle.grammar.specs.Format.Packing.{unpack}
 use lib.Seq.{take-all}
 use native.Mathlib.Omega.{arith}
 use borrow.Author.Tests.{not-true}
-use Rattle.engine.specs.Rooms.{zeros, full-arrays}
-use Rattle.engine.specs.Stored.{unfilled, filled-found}
-use Rattle.engine.specs.Evaluations.{answers-none}
+use Rattle.attempts.specs.Rooms.{zeros, full-arrays}
+use Rattle.attempts.specs.Stored.{unfilled, filled-found}
+use Rattle.attempts.specs.Evaluations.{answers-none}
 use borrow.Author.Needs.{needs}
 use Rattle.engine.proofs.evaluating.full.Statement.{statement}
 use Rattle.engine.proofs.evaluating.full.Tie as tie

@@ -1,6 +1,6 @@
 -- `evaluating::number` meets its contract: longer arrays are taken where those for a tiny book have no room. Assumes nothing.
-use Rattle.engine.specs.Stored.{unfit-none}
-use Rattle.engine.specs.Evaluations.{answers-none}
+use Rattle.attempts.specs.Stored.{unfit-none}
+use Rattle.attempts.specs.Evaluations.{answers-none}
 use borrow.Author.Needs.{needs}
 use Rattle.engine.proofs.evaluating.number.Statement.{statement}
 use Rattle.engine.proofs.evaluating.number.Tie as tie

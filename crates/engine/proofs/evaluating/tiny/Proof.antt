@@ -2,9 +2,9 @@
 use Rattle.packing.specs.FrontLaws.{unpack-front}
 use native.Mathlib.Omega.{arith}
 use borrow.Author.Tests.{not-true}
-use Rattle.engine.specs.Rooms.{zeros, tiny-arrays}
-use Rattle.engine.specs.Stored.{unfilled, filled-found}
-use Rattle.engine.specs.Evaluations.{answers-none}
+use Rattle.attempts.specs.Rooms.{zeros, tiny-arrays}
+use Rattle.attempts.specs.Stored.{unfilled, filled-found}
+use Rattle.attempts.specs.Evaluations.{answers-none}
 use borrow.Author.Needs.{needs}
 use Rattle.engine.proofs.evaluating.tiny.Statement.{statement}
 use Rattle.engine.proofs.evaluating.tiny.Tie as tie

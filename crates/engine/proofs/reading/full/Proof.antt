@@ -1,6 +1,6 @@
 -- `reading::full` meets its contract: the arrays have as much room as is said. Assumes nothing.
 use native.Mathlib.Omega.{arith}
-use Rattle.engine.specs.Rooms.{zeros, full-arrays}
+use Rattle.attempts.specs.Rooms.{zeros, full-arrays}
 use borrow.Author.Needs.{needs}
 use Rattle.engine.proofs.reading.full.Statement.{statement}
 use Rattle.engine.proofs.reading.full.Tie as tie

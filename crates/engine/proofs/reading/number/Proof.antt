@@ -1,7 +1,7 @@
 -- `reading::number` meets its contract: the lengths are asked before the text. Assumes nothing.
 use native.Mathlib.Omega.{arith}
 use mathlib.Core.Path.{_∙_, sym}
-use Rattle.engine.specs.Readings.{long-number, unfit-number, text-number}
+use Rattle.attempts.specs.Readings.{long-number, unfit-number, text-number}
 use borrow.Author.Needs.{needs}
 use Rattle.engine.proofs.reading.number.Statement.{statement}
 use Rattle.engine.proofs.reading.number.Tie as tie

@@ -3,7 +3,7 @@ use Prim.Native.Nat.{ℕ}
 use mathlib.Core.Path.{sym, ap, _∙_}
 use lib.ListN.{replicate}
 use Rattle.grammar.specs.Format.Packing.{pack}
-use Rattle.engine.specs.Readings.{readNumber, read-taken, read-refused, taken-fits}
+use Rattle.attempts.specs.Readings.{readNumber, read-taken, read-refused, taken-fits}
 use borrow.Author.Needs.{needs}
 use Rattle.engine.proofs.reading.read.Statement.{statement}
 use Rattle.engine.proofs.reading.read.Tie as tie

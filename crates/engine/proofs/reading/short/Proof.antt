@@ -1,6 +1,6 @@
 -- `reading::short` meets its contract: the arrays have as much room as is said. Assumes nothing.
 use native.Mathlib.Omega.{arith}
-use Rattle.engine.specs.Rooms.{zeros, short-arrays}
+use Rattle.attempts.specs.Rooms.{zeros, short-arrays}
 use borrow.Author.Needs.{needs}
 use Rattle.engine.proofs.reading.short.Statement.{statement}
 use Rattle.engine.proofs.reading.short.Tie as tie

@@ -1,6 +1,6 @@
 -- `reading::tiny` meets its contract: the arrays have as much room as is said. Assumes nothing.
 use native.Mathlib.Omega.{arith}
-use Rattle.engine.specs.Rooms.{zeros, tiny-arrays}
+use Rattle.attempts.specs.Rooms.{zeros, tiny-arrays}
 use borrow.Author.Needs.{needs}
 use Rattle.engine.proofs.reading.tiny.Statement.{statement}
 use Rattle.engine.proofs.reading.tiny.Tie as tie

@@ -1,10 +1,10 @@
 -- `evaluating::message` meets its contract: the machine is asked with empty stacks, and the plans of idle states. Assumes nothing.
 use mathlib.Core.Path.{refl}
-use Rattle.engine.specs.Sides.{asked-sides}
-use Rattle.engine.specs.Driving.{states-held, run-in, tokens-of, plans-of, run-room}
+use Rattle.attempts.specs.Sides.{asked-sides}
+use Rattle.attempts.specs.Driving.{states-held, run-in, tokens-of, plans-of, run-room}
 use borrow.Author.Needs.{needs}
-use Rattle.engine.proofs.evaluating.message.Statement.{statement}
-use Rattle.engine.proofs.evaluating.message.Tie as tie
+use Rattle.attempts.proofs.evaluating.message.Statement.{statement}
+use Rattle.attempts.proofs.evaluating.message.Tie as tie
 
 -- from each call back to the entry
 

@@ -1,6 +1,6 @@
 // How much room a short book has, and a tiny one.
 ghost use mathlib.Core.Path.{_≡_};
-ghost use Rattle.engine.specs.Rooms.{tinyRoom, shortRoom};
+ghost use Rattle.attempts.specs.Rooms.{tinyRoom, shortRoom};
 use book::Room;
 
 // Room for a few lines of each kind.

@@ -2,11 +2,11 @@
 use mathlib.Core.Path.{sym, ap, _∙_}
 use lib.ListN.{replicate}
 use borrow.Author.Tests.{not-true, not-false}
-use Rattle.engine.specs.Rooms.{records-room}
-use Rattle.engine.specs.Attempts.{book-taken, plans-fit, attempts-part, attempts-none, attempts-asked, attempts-run}
+use Rattle.attempts.specs.Rooms.{records-room}
+use Rattle.attempts.specs.Attempts.{book-taken, plans-fit, attempts-part, attempts-none, attempts-asked, attempts-run}
 use borrow.Author.Needs.{needs}
-use Rattle.engine.proofs.evaluating.respond.Statement.{statement}
-use Rattle.engine.proofs.evaluating.respond.Tie as tie
+use Rattle.attempts.proofs.evaluating.respond.Statement.{statement}
+use Rattle.attempts.proofs.evaluating.respond.Tie as tie
 
 -- from each test back to the one before, and to the entry
 

@@ -1,6 +1,6 @@
 // The tokens of a message: pairs of a kind and a value.
 ghost use mathlib.Core.Path.{_≡_};
-ghost use Rattle.engine.specs.Tokens.{kindsRight};
+ghost use Rattle.attempts.specs.Tokens.{kindsRight};
 
 // Whether the kind of each pair is 1 to `terminals`; a number left over is not looked at.
 pub fn kinds_right(tokens: &[u32], terminals: u32) -> bool

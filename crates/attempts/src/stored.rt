@@ -4,7 +4,7 @@ ghost use Prim.Native.Nat.{_*_, _≤_};
 ghost use lib.ListN.{length, take};
 ghost use Rattle.grammar.specs.Limits.{MAX-TEXT, BOOK-WORDS};
 ghost use Rattle.grammar.specs.Format.Packing.{unpack};
-ghost use Rattle.engine.specs.Stored.{Found};
+ghost use Rattle.attempts.specs.Stored.{Found};
 use packing::unpacking::filled;
 use packing::unpacking::unpack;
 

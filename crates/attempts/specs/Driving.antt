@@ -17,10 +17,10 @@ use Rattle.machine.specs.Moving.{Rooms, Driven}
 use Rattle.machine.specs.Running.{RunIn}
 use Rattle.stack.specs.Standing.{Message as Tokens}
 use Rattle.compiler.specs.Compiling.{asked-formulas}
-use Rattle.engine.specs.Evaluations.{Message, message-tokens}
-use Rattle.engine.specs.Rooms.{zeros}
-use Rattle.engine.specs.Stored.{TakenBook}
-use Rattle.engine.specs.Sides.{SidesIn}
+use Rattle.attempts.specs.Evaluations.{Message, message-tokens}
+use Rattle.attempts.specs.Rooms.{zeros}
+use Rattle.attempts.specs.Stored.{TakenBook}
+use Rattle.attempts.specs.Sides.{SidesIn}
 
 module _ {numbers : Book} {inherited synthesized rules definitions kernels goes : List ℕ} {vanishes begins reached starts closures table actions : List ℕ}
     {b : Lines} (h : TakenBook numbers inherited synthesized rules definitions kernels goes vanishes begins reached starts closures table actions b)

@@ -1,10 +1,10 @@
 -- `reading::attempt` meets its contract: the arrays have room, and what is compiled tells the refusal. Assumes nothing.
 use mathlib.Core.Path.{sym}
 use native.Mathlib.Omega.{arith}
-use Rattle.engine.specs.Rooms.{lines-room, tables-lent, formulas-room, compiled-whole}
+use Rattle.attempts.specs.Rooms.{lines-room, tables-lent, formulas-room, compiled-whole}
 use borrow.Author.Needs.{needs}
-use Rattle.engine.proofs.reading.attempt.Statement.{statement}
-use Rattle.engine.proofs.reading.attempt.Tie as tie
+use Rattle.attempts.proofs.reading.attempt.Statement.{statement}
+use Rattle.attempts.proofs.reading.attempt.Tie as tie
 
 -- from the end back to the call of `compile`
 

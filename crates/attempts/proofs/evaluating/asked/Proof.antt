@@ -1,9 +1,9 @@
 -- `evaluating::asked` meets its contract: what comes before is asked first. Assumes nothing.
 use borrow.Author.Tests.{not-true, not-false}
-use Rattle.engine.specs.Evaluations.{asked-rows, asked-odd, asked-long, asked-kinds, asked-all}
+use Rattle.attempts.specs.Evaluations.{asked-rows, asked-odd, asked-long, asked-kinds, asked-all}
 use borrow.Author.Needs.{needs}
-use Rattle.engine.proofs.evaluating.asked.Statement.{statement}
-use Rattle.engine.proofs.evaluating.asked.Tie as tie
+use Rattle.attempts.proofs.evaluating.asked.Statement.{statement}
+use Rattle.attempts.proofs.evaluating.asked.Tie as tie
 
 returns : tie.Need-returns
 returns c = asked-rows _ _ _ (c .if1 .taken)

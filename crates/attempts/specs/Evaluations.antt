@@ -28,7 +28,7 @@ use Rattle.grammar.specs.Engine.{
 }
 use Rattle.machine.specs.declared.run.Outcome.{Outcome}
 use Rattle.machine.specs.RunningLaws.{Answered}
-use Rattle.engine.specs.Tokens.{kindsRight, kinds-right, tokens-odd, tokens-even}
+use Rattle.attempts.specs.Tokens.{kindsRight, kinds-right, tokens-odd, tokens-even}
 
 -- the number that is answered, every lent row word and the row count afterwards
 pub record Evaluates (evaluation : Evaluation) (number : ℕ) (rows : List ℕ) (count : ℕ) : Type 0 where

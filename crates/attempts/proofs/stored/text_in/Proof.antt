@@ -3,10 +3,10 @@ use mathlib.Core.Path.{sym, ap, _∙_}
 use native.Mathlib.Omega.{arith}
 use lib.ListN.{length, length-take}
 use Rattle.packing.specs.PlacedLaws.{placed-count}
-use Rattle.engine.specs.Stored.{found-text}
+use Rattle.attempts.specs.Stored.{found-text}
 use borrow.Author.Needs.{needs}
-use Rattle.engine.proofs.stored.text_in.Statement.{statement}
-use Rattle.engine.proofs.stored.text_in.Tie as tie
+use Rattle.attempts.proofs.stored.text_in.Statement.{statement}
+use Rattle.attempts.proofs.stored.text_in.Tie as tie
 
 slice-aggregate-unpack : tie.Need-slice-aggregate-unpack
 slice-aggregate-unpack c = let s = c .before .before .before in

@@ -2,10 +2,10 @@
 use Prim.Native.Nat.{_-_, _*_, _/_}
 use mathlib.Core.Path.{_≡_, refl}
 use lib.ListN.{length, drop}
-use Rattle.engine.specs.Tokens.{kindsRight, kinds-low, kinds-high, kinds-turn, kinds-end}
+use Rattle.attempts.specs.Tokens.{kindsRight, kinds-low, kinds-high, kinds-turn, kinds-end}
 use borrow.Author.Needs.{needs}
-use Rattle.engine.proofs.tokens.kinds_right.Statement.{statement}
-use Rattle.engine.proofs.tokens.kinds_right.Tie as tie
+use Rattle.attempts.proofs.tokens.kinds_right.Statement.{statement}
+use Rattle.attempts.proofs.tokens.kinds_right.Tie as tie
 
 abbrev Inv-loop : tie.InvT-loop
 Inv-loop tokens terminals n i₀ i = kindsRight terminals (drop (2 * i) tokens) ≡ kindsRight terminals tokens

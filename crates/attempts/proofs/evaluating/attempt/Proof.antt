@@ -2,10 +2,10 @@
 use mathlib.Core.Path.{sym, _∙_}
 use native.Mathlib.Omega.{arith}
 use lib.ListN.{length-take}
-use Rattle.engine.specs.Rooms.{zeros, lines-room, tables-lent}
+use Rattle.attempts.specs.Rooms.{zeros, lines-room, tables-lent}
 use borrow.Author.Needs.{needs}
-use Rattle.engine.proofs.evaluating.attempt.Statement.{statement}
-use Rattle.engine.proofs.evaluating.attempt.Tie as tie
+use Rattle.attempts.proofs.evaluating.attempt.Statement.{statement}
+use Rattle.attempts.proofs.evaluating.attempt.Tie as tie
 
 -- from the end back to the call of `respond`, from there to that of `compile`, and to the entry
 

@@ -1,0 +1,301 @@
+// A message under a stored book, by arrays of a room.
+ghost use mathlib.Core.Path.{_≡_};
+ghost use mathlib.Core.Bool.{true};
+ghost use mathlib.Core.List.{List};
+ghost use Prim.Native.Nat.{ℕ, _+_, _*_, _≤_};
+ghost use lib.ListN.{length, replicate};
+ghost use Rattle.grammar.specs.Limits.{PAGE-WORDS};
+ghost use Rattle.grammar.specs.Data.Book.{Book as Lines};
+ghost use Rattle.grammar.specs.Evaluator.Machine.{evaluate};
+ghost use Rattle.grammar.specs.Engine.{tablesOf};
+ghost use Rattle.conditions.specs.Answers.{Some};
+ghost use Rattle.machine.specs.RunningLaws.{Answered};
+ghost use Rattle.attempts.specs.Rooms.{ArraysLent};
+ghost use Rattle.attempts.specs.Stored.{Found, TakenBook};
+ghost use Rattle.attempts.specs.Evaluations.{Asked, Message};
+ghost use Rattle.attempts.specs.Attempts.{Read, Attempts};
+ghost use Rattle.book.specs.declared.Room.{Room};
+use super::sides::fill_sides;
+use super::tokens::kinds_right;
+use book::Book;
+use book::Room;
+use compiler::compile::Compiled;
+use compiler::compile::compile;
+use machine::run::Outcome;
+use machine::run::run;
+use packing::packing::clear;
+use plans::memory::plan_idle;
+use text::classes;
+
+// Words of all rows.
+const PAGE_WORDS: usize = 5120;
+
+// Numbers of the most tokens.
+const TOKEN_WORDS: usize = 510;
+
+// The first of 12, 13 and 14 that applies to the room for rows and the tokens, or 0.
+fn asked(tokens: &[u32], terminals: u32, lent: usize) -> u32
+    ensures { λ r. ⌜ Asked terminals (now (tokens .entry)) lent r ⌝ }
+{
+    if lent != PAGE_WORDS {
+        return 12;
+    }
+    if tokens.len() % 2 != 0 {
+        return 13;
+    }
+    if TOKEN_WORDS < tokens.len() {
+        return 13;
+    }
+    if !kinds_right(tokens, terminals) {
+        return 14;
+    }
+    0
+}
+
+// Runs the machine over a book that is taken and the tokens of a message. `lists` and `records` are room, whatever they hold.
+fn message(
+    book: Book,
+    inherited: &[u32],
+    synthesized: &[u32],
+    rules: &[u32],
+    definitions: &[u32],
+    kernels: &[u32],
+    goes: &[u32],
+    vanishes: &[u32],
+    begins: &[u32],
+    reached: &[u32],
+    starts: &[u32],
+    lookaheads: &[u32],
+    table: &[u8],
+    actions: &[u8],
+    lists: &mut [u8],
+    records: &mut [u32],
+    tokens: &[u32],
+    rows: &mut [u32],
+) -> Outcome
+    requires { ⌜ Some (TakenBook book (now inherited) (now synthesized) (now rules) (now definitions) (now kernels) (now goes) (now vanishes) (now begins)
+        (now reached) (now starts) (now lookaheads) (now table) (now actions)) ⌝ }
+    requires { ⌜ Message (book .terminals) (now tokens) × (now rows ≡ replicate PAGE-WORDS 0) × (512 * book .states ≤ length (now lists))
+        × (length (now records) ≡ 4224) ⌝ }
+    ensures { λ r. ⌜ ((b : Lines) → TakenBook book (now (inherited .entry)) (now (synthesized .entry)) (now (rules .entry)) (now (definitions .entry))
+        (now (kernels .entry)) (now (goes .entry)) (now (vanishes .entry)) (now (begins .entry)) (now (reached .entry)) (now (starts .entry))
+        (now (lookaheads .entry)) (now (table .entry)) (now (actions .entry)) b
+        → (m : Message (book .terminals) (now (tokens .entry)))
+        → Answered (evaluate b (tablesOf b) (m .list)) r (now (rows .exit))) ⌝ }
+{
+    let mut own = [0u32; 32];
+    let mut firsts = [0u32; 65];
+    let mut down = [0u32; 160];
+    let mut up = [0u32; 160];
+    fill_sides(
+        book,
+        inherited,
+        synthesized,
+        definitions,
+        &mut own,
+        &mut firsts,
+        &mut down,
+        &mut up,
+    );
+    let mut sets = [0u32; 576];
+    let mut counts = [0u8; 4096];
+    plan_idle(
+        definitions,
+        book.inherited_definitions as usize,
+        rules,
+        kernels,
+        starts,
+        lookaheads,
+        book.states as usize,
+        &mut counts,
+    );
+    let mut states = [0u32; 129];
+    let mut cells = [0u32; 2064];
+    let mut bounds = [0u32; 128];
+    run(
+        rules,
+        book.rules,
+        definitions,
+        book.inherited_definitions,
+        &own,
+        kernels,
+        starts,
+        lookaheads,
+        vanishes,
+        reached,
+        &firsts,
+        &down,
+        &up,
+        table,
+        actions,
+        tokens,
+        &mut sets,
+        &mut counts,
+        lists,
+        &mut states,
+        &mut cells,
+        records,
+        &mut bounds,
+        rows,
+    )
+}
+
+// The number that is answered; nothing is said where arrays have no room for what the book has.
+pub struct Answer {
+    pub complete: bool,
+    pub number: u32,
+}
+
+// What is answered of a text that was read into arrays: `complete` where they have room for it, and then the number; where that is 0, the rows and their
+// count are in place. `text` and `nodes` are room.
+fn respond(
+    compiled: Compiled,
+    inherited: &[u32],
+    synthesized: &[u32],
+    rules: &[u32],
+    definitions: &[u32],
+    kernels: &[u32],
+    goes: &[u32],
+    vanishes: &[u32],
+    begins: &[u32],
+    reached: &[u32],
+    starts: &[u32],
+    lookaheads: &[u32],
+    table: &[u8],
+    actions: &[u8],
+    text: &mut [u8],
+    nodes: &mut [u32],
+    tokens: &[u32],
+    rows: &mut [u32],
+    count: &mut u32,
+) -> Answer
+    requires { ⌜ ((room : Room) × (n : ℕ) × Read room n (now text) (compiled .complete) (compiled .refusal) (compiled .book) (now inherited) (now synthesized)
+        (now rules) (now definitions) (now kernels) (now goes) (now vanishes) (now begins) (now reached) (now starts) (now lookaheads) (now table)
+        (now actions)) × (length (now nodes) ≡ 7680) ⌝ }
+    ensures { λ r. ⌜ ((room : Room) (n : ℕ) → Read room n (now (text .entry)) (compiled .complete) (compiled .refusal) (compiled .book)
+        (now (inherited .entry)) (now (synthesized .entry)) (now (rules .entry)) (now (definitions .entry)) (now (kernels .entry)) (now (goes .entry))
+        (now (vanishes .entry)) (now (begins .entry)) (now (reached .entry)) (now (starts .entry)) (now (lookaheads .entry)) (now (table .entry))
+        (now (actions .entry))
+        → Attempts room (now (text .entry)) n (now (tokens .entry)) (length (now (rows .entry))) (r .complete) (r .number) (now (rows .exit))
+        (now (count .exit))) ⌝ }
+{
+    if !compiled.complete {
+        return Answer {
+            complete: false,
+            number: 11,
+        };
+    }
+    if compiled.refusal != 0 {
+        return Answer {
+            complete: true,
+            number: 11,
+        };
+    }
+    let book = compiled.book;
+    let first = asked(tokens, book.terminals, rows.len());
+    if first != 0 {
+        return Answer {
+            complete: true,
+            number: first,
+        };
+    }
+    clear(rows);
+    let outcome = message(
+        book,
+        inherited,
+        synthesized,
+        rules,
+        definitions,
+        kernels,
+        goes,
+        vanishes,
+        begins,
+        reached,
+        starts,
+        lookaheads,
+        table,
+        actions,
+        text,
+        &mut nodes[..4224],
+        tokens,
+        rows,
+    );
+    *count = outcome.count;
+    Answer {
+        complete: true,
+        number: outcome.number,
+    }
+}
+
+// The answer to a message under a book whose text is the first `n` bytes of `text`, by arrays of the caller.
+pub fn attempt(
+    text: &mut [u8],
+    n: usize,
+    waits: &mut [u8],
+    room: Room,
+    definitions: &mut [u32],
+    kernels: &mut [u32],
+    goes: &mut [u32],
+    lookaheads: &mut [u32],
+    table: &mut [u8],
+    tokens: &[u32],
+    rows: &mut [u32],
+    count: &mut u32,
+) -> Answer
+    requires { ⌜ ((words : List ℕ) × Found words (now text) true n) × (512 * room .states ≤ length (now text)) × (n ≤ 5 * length (now waits) + 3)
+        × ArraysLent room (now definitions) (now kernels) (now goes) (now lookaheads) (now table) ⌝ }
+    ensures { λ r. ⌜ Attempts room (now (text .entry)) n (now (tokens .entry)) (length (now (rows .entry))) (r .complete) (r .number) (now (rows .exit))
+        (now (count .exit)) ⌝ }
+{
+    let t = classes();
+    let mut inherited = [0u32; 16];
+    let mut synthesized = [0u32; 32];
+    let mut rules = [0u32; 640];
+    let mut vanishes = [0u32; 576];
+    let mut begins = [0u32; 576];
+    let mut reached = [0u32; 576];
+    let mut starts = [0u32; 129];
+    let mut actions = [0u8; 4096];
+    let mut nodes = [0u32; 7680];
+    let compiled = compile(
+        &t,
+        &text[..n],
+        waits,
+        room,
+        &mut inherited,
+        &mut synthesized,
+        &mut rules,
+        definitions,
+        kernels,
+        goes,
+        &mut vanishes,
+        &mut begins,
+        &mut reached,
+        &mut starts,
+        lookaheads,
+        table,
+        &mut actions,
+        &mut nodes,
+    );
+    respond(
+        compiled,
+        &inherited,
+        &synthesized,
+        &rules,
+        definitions,
+        kernels,
+        goes,
+        &vanishes,
+        &begins,
+        &reached,
+        &starts,
+        lookaheads,
+        table,
+        &actions,
+        text,
+        &mut nodes,
+        tokens,
+        rows,
+        count,
+    )
+}

@@ -19,7 +19,7 @@ use Rattle.book.specs.declared.Room.{Room}
 use Rattle.book.specs.Spelling.{Arrays, Roomy, Spelling, Complete}
 use Rattle.conditions.specs.AskedLaws.{counted}
 use Rattle.conditions.specs.SpellingHeld.{spelled-got, misspelt-none, arrays-held}
-use Rattle.attributes.specs.OneFormula.{FormulasHeld, formulasRight}
+use Rattle.agreement.specs.OneFormula.{FormulasHeld, formulasRight}
 use Rattle.compiler.specs.States.{tablesRefusal}
 use Rattle.compiler.specs.StatesRefusal.{withFormulas, states-refusal}
 use Rattle.compiler.specs.Conditions.{

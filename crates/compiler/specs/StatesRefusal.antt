@@ -6,7 +6,7 @@ use mathlib.Core.Bool.{Bool, true, false}
 use Rattle.grammar.specs.Data.Book.{Book}
 use Rattle.grammar.specs.Automaton.StatesCheck.{kernelRules}
 use Rattle.grammar.specs.Automaton.Compiled.{statesRefusal}
-use Rattle.attributes.specs.OneFormula.{formulasRight}
+use Rattle.agreement.specs.OneFormula.{formulasRight}
 use Rattle.compiler.specs.States.{goesRight, actsRight, tablesRefusal, kernels-refused, goes-refused, acts-refused, none-refused}
 
 -- a refusal found so far, or else 10 where the formulas are not right

@@ -13,8 +13,8 @@ use Rattle.grammar.specs.Automaton.FirstSets.{setsOf}
 use Rattle.automaton.specs.StatesIn.{ItemsIn}
 use Rattle.attributes.specs.Checking.{memberOf, CheckHeld}
 use Rattle.attributes.specs.Idle.{Idle}
-use Rattle.attributes.specs.OneFormula as OneFormula
-use Rattle.attributes.specs.OneFormula.{held-check}
+use Rattle.agreement.specs.OneFormula as OneFormula
+use Rattle.agreement.specs.OneFormula.{held-check}
 use Rattle.attributes.specs.StateMarks.{StateMarksIn}
 use Rattle.plans.specs.Planning.{plan}
 use Rattle.plans.specs.PlanningLaws.{plan-short}

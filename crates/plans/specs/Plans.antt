@@ -11,7 +11,7 @@ use Rattle.grammar.specs.Formulas.PartialLaws.{partialAt}
 use Rattle.grammar.specs.Formulas.FormulaCheck.{listed}
 use Rattle.grammar.specs.Formulas.Slots.{attributes}
 use Rattle.attributes.specs.Owned.{OwnedIn}
-use Rattle.attributes.specs.OneFormula.{FormulasHeld}
+use Rattle.agreement.specs.OneFormula.{FormulasHeld}
 use Rattle.plans.specs.Planning.{plan}
 
 -- the plan of the partial state (S, a)

@@ -12,7 +12,7 @@ ghost use Rattle.attributes.specs.Skips.{Skips};
 ghost use Rattle.plans.specs.Planning as specs;
 ghost use Rattle.plans.specs.Planning.{Planning, knownIn, planLine};
 ghost use Rattle.plans.specs.PlanRows.{PlanningIn, Elsewhere, PlanRow};
-use attributes::check::due;
+use attributes::due::due;
 
 // How far a plan is: the set of the attributes that it sets, and the number of its lines.
 pub struct Progress {

@@ -1,0 +1,87 @@
+-- `one_formula::state_right` meets its contract: a state where each attribute is given once is right, and the check by the sets is that of the state.
+-- Assumes nothing.
+use native.Mathlib.Omega.{arith}
+use mathlib.Core.Path.{_∙_}
+use borrow.Author.Needs.{needs}
+use Rattle.agreement.specs.OneFormula.{terminals-low, held-check, state-told, state-single}
+use Rattle.agreement.proofs.one_formula.state_right.Statement.{statement}
+use Rattle.agreement.proofs.one_formula.state_right.Tie as tie
+
+-- the entry, as the places where the state is tested and where the sets are made know it
+abbrev start : tie.After-slice-known6 → tie.Start
+start c = c .before .before .before .before .before .before .before .before .before .before .before .before .before .before .before
+
+abbrev entry : tie.After-masks-arg → tie.Start
+entry c = start (c .before .before .before)
+
+single-requires : tie.Need-single-requires
+single-requires c κs =
+    let g = start c .pre .0 in
+    ((g .0, _, g .3 .marks-held .items-in, omega (arith, g .6, g .3 .states-are)), g .5 .long)
+
+returns : tie.Need-returns
+returns c = λ b firsts states H O L l.
+    let v = c .before in
+    state-single H (start (v .before) .args .state)
+    (v .single .ensures (c .if1 .taken) b _ (H .ordered) (H .marks-held .items-in) L (omega (arith, l, H .states-are)))
+
+masks-requires : tie.Need-masks-requires
+masks-requires c κs =
+    let s = entry c in
+    let g = s .pre .0 in
+    (g .0, g .1, _, g .3 .marks-held, held-check (g .3) (g .4) (s .pre .1), g .3 .definitions-counted, omega (arith, g .6, g .3 .states-are))
+
+check-state-requires : tie.Need-check-state-requires
+check-state-requires c κs =
+    let m = c .before .before .before .before .before .before .before .before in
+    let s = entry (m .before) in
+    let g = s .pre .0 in
+    let C = held-check (g .3) (g .4) (s .pre .1) in
+    let M = m .masks .ensures (g .0) (g .1) _ (g .3 .marks-held) C (g .3 .definitions-counted) (omega (arith, g .6, g .3 .states-are)) in (
+      (g .0, held-check (g .3) (g .4) (M .long), g .3 .definitions-counted),
+      terminals-low (g .3),
+      s .pre .2,
+    )
+
+same-length : tie.Need-same-length
+same-length c = search needs
+
+same-length-2 : tie.Need-same-length-2
+same-length-2 c = search needs
+
+same-length-3 : tie.Need-same-length-3
+same-length-3 c = search needs
+
+same-length-4 : tie.Need-same-length-4
+same-length-4 c = search needs
+
+same-length-5 : tie.Need-same-length-5
+same-length-5 c = search needs
+
+same-length-6 : tie.Need-same-length-6
+same-length-6 c = search needs
+
+returns-2 : tie.Need-returns-2
+returns-2 c = λ b firsts states H O L l.
+    let v = c .before .before .before .before .before .before .before .before .before .before in
+    let m = v .before .before .before .before .before .before .before .before .before in
+    let s = entry (m .before) in
+    let M = m .masks .ensures b firsts _ (H .marks-held) (held-check H O (s .pre .1)) (H .definitions-counted) (omega (arith, l, H .states-are)) in
+    v .check-state .ensures b (held-check H O (M .long)) (H .definitions-counted) (H .terminals-are)
+    ∙ state-told H (s .args .state) M
+
+pub state-right-spec : {M : Type 1} → statement M
+state-right-spec =
+    tie.close
+    (tie.spec
+    single-requires
+    returns
+    masks-requires
+    check-state-requires
+    same-length
+    same-length-2
+    same-length-3
+    same-length-4
+    same-length-5
+    same-length-6
+    returns-2)

@@ -1,0 +1,9 @@
+pub mod Alike
+pub mod Apart
+pub mod CheckLaws
+pub mod Given
+pub mod Givers
+pub mod OneFormula
+pub mod PassLaws
+pub mod PassesLaws
+pub mod SingleState

@@ -107,7 +107,7 @@ module _ {b : Lines} (ordered : Ordered b) (names : Declared b) (owned : Owned b
       (λ d n e. (d .rule, names .synthesized-declared d n .rule-there, λ i. refl))
       ∙ tally-all (b .synthesizedDefinitions))
 
-  -- a definition stands only where one is due
+  -- a definition is only where one is due
   inherited-there : (P J K : ℕ) (d : InheritedDefinition) → Mem d (b .inheritedDefinitions) → ofAttribute P J K d ≡ true
       → nonterminalAt b P J (inheritedOwner b K) ≡ true
   unfolding inheritedKey nonterminalAt isNonterminal

@@ -33,6 +33,7 @@ pub record LowCounts (counts : List ℕ) : Type 0 where
   pub low : (c : ℕ) → c < 64 → getD counts c 0 ≤ 32
 
 module _ {owners : List ℕ} where
+  -- at most 32 owners are counted
   pub counts-low : {n : ℕ} {counts : List ℕ} → n ≤ 32 → Counts owners n counts → LowCounts counts
   unfolding ownedBy
   counts-low {n} l h = record {
@@ -40,6 +41,7 @@ module _ {owners : List ℕ} where
     low = λ c m. omega (arith, h .count-is c m, sum-most 1 (λ k. one (eqb c (32 + getD owners k 0))) n (λ k o. one-most (eqb c (32 + getD owners k 0))));
   }
 
+  -- the loop that counts them: it starts, and takes one more owner
   pub counts-start : {counts : List ℕ} → counts ≡ replicate 64 0 → Counts owners 0 counts
   unfolding ownedBy sum
   counts-start e = record {
@@ -91,6 +93,7 @@ unfoldable pub leftDue : List ℕ → List ℕ → ℕ → ℕ
 leftDue rules counts p = getD counts (32 + getD rules (10 * p) 0) 0
 
 module _ {rules counts : List ℕ} (h : LowCounts counts) where
+  -- sums stay small: at one right symbol, at those of a rule, at a left side
   pub right-count-low : {p : ℕ} → RightLow rules p → (d : ℕ) → d < getD rules (10 * p + 1) 0 → rightCount rules counts p d ≤ 32
   unfolding rightCount
   right-count-low {p} r d l = h .low (getD rules (10 * p + 2 + d) 0) (r .low d l)

@@ -66,6 +66,7 @@ pub record Summing (f : ℕ → ℕ) (n i s : ℕ) : Type 0 where
   pub within : i ≤ n
   pub so-far : s ≡ sum i f
 
+-- it starts, takes one more number, and ends
 pub summing-start : {f : ℕ → ℕ} {n : ℕ} → Summing f n 0 0
 unfolding sum
 summing-start = record { within = zero-le; so-far = refl }

@@ -17,6 +17,7 @@ module _ {A : Type 0} where
   tally t [] = 0
   tally t (x ∷ xs) = one (t x) + tally t xs
 
+  -- all pass, and none does
   pub tally-all : (xs : List A) → tally (λ x. true) xs ≡ length xs
   unfolding tally one
   tally-all [] = refl

@@ -5,6 +5,7 @@ pub mod HeldLaws
 pub mod Layout
 pub mod LayoutLaws
 pub mod Lines
+pub mod Numbered
 pub mod Order
 pub mod Rooms
 pub mod Sections

@@ -5,23 +5,22 @@ use mathlib.Core.Path.{_≡_, refl, _∙_}
 use mathlib.Core.Bool.{Bool, true, false}
 use mathlib.Core.List.{List, [], _∷_}
 use native.Mathlib.Omega.{arith}
-use lib.Dec.{eqb}
 use lib.ListN.{length, getD}
 use borrow.Author.Tests.{lt-ltb, le-ltb}
 use Rattle.text.specs.Class.{space}
-use Rattle.text.specs.Rest.{Rest, rest, must, mark}
+use Rattle.text.specs.Rest.{rest, mark}
 use Rattle.text.specs.RestLaws.{found-mark}
-use Rattle.text.specs.Numeral.{decimal, wordOf, keyword}
-use Rattle.text.specs.Reading.{Reads}
+use Rattle.text.specs.Numeral.{keyword}
 use Rattle.grammar.specs.Limits.{MAX-RULES, MAX-RIGHT}
 use Rattle.grammar.specs.Data.Symbol.{Symbol, Rule}
-use Rattle.grammar.specs.Format.Reader.{result, remaining, opening, closing, naming}
+use Rattle.grammar.specs.Format.Reader.{result, remaining, opening, closing}
 use Rattle.grammar.specs.Format.ReaderLaws.{shrinking, opening-less}
 use Rattle.grammar.specs.Format.LineLaws.{most-symbols}
 use Rattle.grammar.specs.Format.Parse.{symbolOf, symbol, symbols, ownerLine, ruleLine}
-use Rattle.book.specs.Layout.{writeAt, putLine, storeLines, codeOf, symbolCode, codes, ownerWords, ruleWords}
+use Rattle.book.specs.Layout.{writeAt, putLine, storeLines, codeOf, symbolCode, codes, ruleWords}
 use Rattle.book.specs.LayoutLaws.{put-out}
-use Rattle.book.specs.Sections.{Shrinks, Fills, Puts}
+use Rattle.book.specs.Numbered.{numbered}
+use Rattle.book.specs.Sections.{Gives, Shrinks, Fills, Puts}
 
 -- a right symbol
 unfoldable pub symbolWords : Symbol → List ℕ
@@ -64,14 +63,12 @@ pub rule-shrinks : (word : ℕ) → Shrinks (opening word) ruleLine
 unfolding ruleLine remaining
 rule-shrinks word = record { head-less = opening-less word; one-less = λ K o. search (shrinking, most-symbols) depth 20 }
 
--- The steps of an owner's line: its letter, its number, the check of it, the letter of the owner, the owner, the end, the store
+-- The steps of an owner's line: its letter, its number and the owner, the end
 
-module _ {text out out′ : List ℕ} {u : Rest} {p₁ n p₂ p₃ A p₄ p₅ : ℕ} (letter room k : ℕ) (o : Rest) where
-  pub owner-steps : rest text p₁ ≡ keyword letter o → Reads decimal text p₁ n p₂ → u ≡ must (eqb n k) (rest text p₂)
-      → rest text p₃ ≡ naming (wordOf "n") u → Reads decimal text p₃ A p₄ → rest text p₅ ≡ closing (rest text p₄)
-      → out′ ≡ putLine room k (A ∷ []) out → Puts ownerWords room k (ownerLine letter k o) text out p₅ out′
-  unfolding ownerLine ownerWords result remaining
-  owner-steps kind number due nonterminal left end stored = record { remaining-is = cc; array-is = cc }
+pub owner-of : {text : List ℕ} {A p₂ p₃ : ℕ} (at letter k p₁ : ℕ) → rest text p₁ ≡ keyword letter (rest text at)
+    → Gives (numbered k (rest text p₁)) text A p₂ → rest text p₃ ≡ closing (rest text p₂) → Gives (ownerLine letter k (rest text at)) text A p₃
+unfolding numbered ownerLine result remaining
+owner-of at letter k p₁ kind read end = record { result-is = cc; remaining-is = cc }
 
 -- The words of a rule's line, and its steps
 
@@ -103,13 +100,13 @@ rule-line : {A m : ℕ} {right : List ℕ} (r : Rule) → A ≡ r .left → m �
 unfolding ruleWords
 rule-line r e f g = rw (e, f, g ∙ right-codes (r .right))
 
--- the steps: its number, the check of it, the letter of the left side, the left side, the right side, the end, the store
-module _ {text right out out′ : List ℕ} {o : Rest} {k at n p₁ p₂ A p₃ m p₄ p₅ : ℕ} where
-  pub rule-steps : Reads decimal text at n p₁ → o ≡ must (eqb n k) (rest text p₁) → rest text p₂ ≡ naming (wordOf "n") o → Reads decimal text p₂ A p₃
-      → Fills symbolWords MAX-RIGHT (symbols (rest text p₃)) text zeros m p₄ right → rest text p₅ ≡ closing (rest text p₄)
-      → out′ ≡ putLine MAX-RULES k (A ∷ m ∷ firstEight right) out → Puts ruleWords MAX-RULES k (ruleLine k (rest text at)) text out p₅ out′
-  unfolding ruleLine result remaining
-  rule-steps number due letter left right-side end stored =
+-- the steps: its number and the left side, the right side, the end, the store
+module _ {text right out out′ : List ℕ} {A p₁ m p₂ p₃ : ℕ} (at k : ℕ) where
+  pub rule-steps : Gives (numbered k (rest text at)) text A p₁ → Fills symbolWords MAX-RIGHT (symbols (rest text p₁)) text zeros m p₂ right
+      → rest text p₃ ≡ closing (rest text p₂) → out′ ≡ putLine MAX-RULES k (A ∷ m ∷ firstEight right) out
+      → Puts ruleWords MAX-RULES k (ruleLine k (rest text at)) text out p₃ out′
+  unfolding numbered ruleLine result remaining
+  rule-steps left right-side end stored =
       let words : A ∷ m ∷ firstEight right ≡ ruleWords (result (ruleLine k (rest text at))) =
       rule-line {right = right} (result (ruleLine k (rest text at))) (cc) (cc) (cc) in
       record { remaining-is = cc; array-is = stored ∙ rw words }

@@ -7,16 +7,16 @@ use mathlib.Core.Bool.{Bool, true, false, _&&_, _||_}
 use mathlib.Core.List.{List, _∷_}
 use lib.Dec.{eqb}
 use lib.ListN.{length, getD, drop}
-use borrow.Author.Tests.{eqb-true}
+use borrow.Author.Tests.{eq-eqb, eqb-true}
 use Rattle.text.specs.Class.{classOf, digit, letter, space}
 use Rattle.text.specs.ClassLaws.{digit-range, letter-range}
 use Rattle.text.specs.Rest.{rest, left, must, mark}
 use Rattle.text.specs.RestLaws.{rest-in, rest-at, drop-more, must-true}
-use Rattle.text.specs.Numeral.{decimal, letters, got, digitOf, numeral, write, numberOf, restOf, read, value, past, spelled, wordOf}
+use Rattle.text.specs.Numeral.{decimal, letters, got, digitOf, numeral, write, numberOf, restOf, read, value, past, spelled, wordOf, keyword}
 use Rattle.text.specs.NumeralLaws.{value-number, past-number, no-digit-other}
 use Rattle.text.specs.Positional.{decimal-positional, digit-is, no-digit, numeral-first, write-small, write-more}
 use Rattle.text.specs.Reading.{Reads}
-use Rattle.grammar.specs.Format.Reader.{result, remaining, closing}
+use Rattle.grammar.specs.Format.Reader.{result, remaining, closing, naming}
 use Rattle.grammar.specs.Format.ReaderLaws.{reading, word-ends}
 use Rattle.grammar.specs.Format.Parse.{symbolOf, symbol}
 use Rattle.grammar.specs.Automaton.TestLaws.{both-true}
@@ -129,6 +129,27 @@ letter-reads text at {number} {next} h c brief some =
     let e : rest text at ≡ left (getD text at 0 ∷ write decimal number (drop next text)) = rest-at text at h ∙ rw (brief .written some) in
     let f : rest text (at + 1) ≡ left (write decimal number (drop next text)) = rest-in text (at + 1) (omega arith) ∙ ap left (brief .written some) in
     record { value-is = rw (e, letter-ends _ number (drop next text) c); rest-is = f ∙ rw (e, letter-ends _ number (drop next text) c) }
+
+-- a letter as a number in base 32: 96 more is its byte
+abbrev pub Letter : ℕ → Type 0
+Letter w = classOf (w + 96) ≡ letter
+
+-- a letter by its byte, and one after a space
+pub keyword-at : (text : List ℕ) (at w : ℕ) {number next : ℕ} → at < length text → Letter w → getD text at 0 ≡ w + 96
+    → Brief text (at + 1) number next → 0 < next → rest text (at + 1) ≡ keyword w (rest text at)
+unfolding keyword
+keyword-at text at w h c e brief some =
+    let read : Reads letters text at (getD text at 0 - 96) (at + 1) = letter-reads text at h (ap classOf e ∙ c) brief some in
+    let same : getD text at 0 - 96 ≡ w = omega arith in
+    read .rest-is ∙ sym (must-true _ _ (eq-eqb _ _ (sym (read .value-is) ∙ same)))
+
+pub naming-at : (text : List ℕ) (at w : ℕ) {number next : ℕ} → at + 1 < length text → Letter w → getD text at 0 ≡ 32
+    → getD text (at + 1) 0 ≡ w + 96 → Brief text (at + 2) number next → 0 < next → rest text (at + 2) ≡ naming w (rest text at)
+unfolding naming
+naming-at text at w {number} {next} h c blank e brief some =
+    let two : at + 2 ≡ at + 1 + 1 = omega arith in
+    let near : Brief text (at + 1 + 1) number next = rw (sym two) brief in
+    ap (rest text) two ∙ (keyword-at text (at + 1) w h c e near some ∙ ap (keyword w) (space-at text at (omega arith) blank))
 
 -- Symbols: what is answered of one, by its letter
 

@@ -1,5 +1,5 @@
 // The sections `(inh iK nA)` and `(syn sK nA)`: the owner A of each attribute.
-ghost use Prim.Native.Nat.{_≤_};
+ghost use Prim.Native.Nat.{_≤_, _<_};
 ghost use lib.ListN.{length};
 ghost use Rattle.text.specs.Rest.{rest};
 ghost use Rattle.text.specs.Numeral.{wordOf};
@@ -8,18 +8,82 @@ ghost use Rattle.grammar.specs.Limits.{MAX-INHERITED, MAX-SYNTHESIZED};
 ghost use Rattle.grammar.specs.Format.Parse.{ownerLine, ownerLines};
 ghost use Rattle.lines.specs.Heads.{Head};
 ghost use Rattle.book.specs.Layout.{ownerWords};
-ghost use Rattle.book.specs.Sections.{Puts, Fills};
+ghost use Rattle.book.specs.Sections.{Gives, Puts, Fills};
+ghost use Rattle.book.specs.Short.{Letter};
 use super::Book;
 use super::Section;
+use super::short::short;
 use super::spelling::I;
 use super::spelling::INH;
-use super::spelling::N;
 use super::spelling::S;
 use super::spelling::SYN;
 use super::spelling::closing;
-use super::spelling::naming;
+use super::spelling::numbered;
 use super::store::put_line;
 use lines::line_head;
+use text::Cursor;
+
+// `iK nA)` and the line feed with the letter and K given, by their parts: A, and where the text goes on.
+fn any_owner(t: &[u8; 256], text: &[u8], at: usize, letter: u32, k: u32) -> Cursor
+    requires { ⌜ Lent (now t) (now text) ⌝ }
+    ensures { λ r. ⌜ Gives (ownerLine letter k (rest (now (text .entry)) at)) (now (text .entry)) (r .value) (r .at) ⌝ }
+{
+    let a = text::keyword(t, text, at, letter);
+    let read = numbered(t, text, a, k);
+    let b = closing(t, text, read.at);
+    Cursor {
+        value: read.value,
+        at: b,
+    }
+}
+
+// By their bytes, where both numbers are short and the text is long enough for any two; for anything else, position 0.
+fn short_owner(t: &[u8; 256], text: &[u8], at: usize, letter: u32, k: u32) -> Cursor
+    requires { ⌜ Lent (now t) (now text) × Letter letter ⌝ }
+    ensures { λ r. ⌜ (0 < r .at → Gives (ownerLine letter k (rest (now (text .entry)) at)) (now (text .entry)) (r .value) (r .at)) ⌝ }
+{
+    let n = text.len();
+    if n < 11 {
+        return Cursor { value: 0, at: 0 };
+    }
+    if n - 11 < at {
+        return Cursor { value: 0, at: 0 };
+    }
+    if text[at] as u32 != letter + 96 {
+        return Cursor { value: 0, at: 0 };
+    }
+    let number = short(t, text, at + 1);
+    let a = number.at;
+    if a == 0 {
+        return Cursor { value: 0, at: 0 };
+    }
+    if (text[a] == b' ') & (text[a + 1] == b'n') & (number.value == k) {
+        let read = short(t, text, a + 2);
+        let b = read.at;
+        if b == 0 {
+            return Cursor { value: 0, at: 0 };
+        }
+        if (text[b] == b')') & (text[b + 1] == b'\n') {
+            return Cursor {
+                value: read.value,
+                at: b + 2,
+            };
+        }
+        return Cursor { value: 0, at: 0 };
+    }
+    Cursor { value: 0, at: 0 }
+}
+
+fn owner(t: &[u8; 256], text: &[u8], at: usize, letter: u32, k: u32) -> Cursor
+    requires { ⌜ Lent (now t) (now text) × Letter letter ⌝ }
+    ensures { λ r. ⌜ Gives (ownerLine letter k (rest (now (text .entry)) at)) (now (text .entry)) (r .value) (r .at) ⌝ }
+{
+    let read = short_owner(t, text, at, letter, k);
+    if read.at == 0 {
+        return any_owner(t, text, at, letter, k);
+    }
+    read
+}
 
 // After the head, `iK nA)` with the letter and K given; the owner A goes to its place.
 fn owner_line(
@@ -31,16 +95,12 @@ fn owner_line(
     room: usize,
     out: &mut [u32],
 ) -> usize
-    requires { ⌜ Lent (now t) (now text) × (room ≤ length (now out)) ⌝ }
+    requires { ⌜ Lent (now t) (now text) × Letter letter × (room ≤ length (now out)) ⌝ }
     ensures { λ r. ⌜ Puts ownerWords room k (ownerLine letter k (rest (now (text .entry)) at)) (now (text .entry)) (now (out .entry)) r (now (out .exit)) ⌝ }
 {
-    let a = text::keyword(t, text, at, letter);
-    let number = text::number(t, text, a);
-    let b = text::require(text, number.at, number.value == k);
-    let c = naming(t, text, b, N);
-    let nonterminal = text::number(t, text, c);
-    put_line(out, room, k, &[nonterminal.value]);
-    closing(t, text, nonterminal.at)
+    let read = owner(t, text, at, letter, k);
+    put_line(out, room, k, &[read.value]);
+    read.at
 }
 
 // The lines of one kind, with the kind's word and letter given.
@@ -54,7 +114,7 @@ fn owner_lines(
     room: usize,
     out: &mut [u32],
 ) -> Section
-    requires { ⌜ Lent (now t) (now text) × Head word (now head) × (room ≤ length (now out)) ⌝ }
+    requires { ⌜ Lent (now t) (now text) × Head word (now head) × Letter letter × (room ≤ length (now out)) ⌝ }
     ensures { λ r. ⌜ Fills ownerWords room (ownerLines word letter (rest (now (text .entry)) at))
         (now (text .entry)) (now (out .entry)) (r .count) (r .at) (now (out .exit)) ⌝ }
 {

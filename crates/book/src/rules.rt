@@ -1,5 +1,5 @@
 // The section `(rule K nA X1 .. Xm)`.
-ghost use Prim.Native.Nat.{_≤_, _*_};
+ghost use Prim.Native.Nat.{_≤_, _<_, _*_};
 ghost use lib.ListN.{length};
 ghost use Rattle.text.specs.Rest.{rest};
 ghost use Rattle.text.specs.Reading.{Lent};
@@ -7,17 +7,19 @@ ghost use Rattle.grammar.specs.Limits.{MAX-RULES, MAX-RIGHT};
 ghost use Rattle.grammar.specs.Format.Parse.{symbols, ruleLine, ruleLines};
 ghost use Rattle.book.specs.Layout.{ruleWords};
 ghost use Rattle.book.specs.Lines.{symbolWords, RULE-WORDS};
-ghost use Rattle.book.specs.Sections.{Fills, Puts};
+ghost use Rattle.book.specs.Numbered.{numbered};
+ghost use Rattle.book.specs.Sections.{Gives, Fills, Puts};
 use super::Book;
 use super::Section;
-use super::spelling::N;
+use super::short::short;
 use super::spelling::RULE;
 use super::spelling::closing;
-use super::spelling::naming;
+use super::spelling::numbered;
 use super::store::put_line;
 use super::symbol::code_of;
 use super::symbol::symbol;
 use lines::line_head;
+use text::Cursor;
 
 // The codes of the right side's first symbols.
 fn right_side(t: &[u8; 256], text: &[u8], at: usize, out: &mut [u32]) -> Section
@@ -45,15 +47,46 @@ fn right_side(t: &[u8; 256], text: &[u8], at: usize, out: &mut [u32]) -> Section
     }
 }
 
+// `K nA` with K given, by its bytes where both numbers are short and the text is long enough for any two; for anything else, position 0.
+fn short_left(t: &[u8; 256], text: &[u8], at: usize, k: u32) -> Cursor
+    requires { ⌜ Lent (now t) (now text) ⌝ }
+    ensures { λ r. ⌜ (0 < r .at → Gives (numbered k (rest (now (text .entry)) at)) (now (text .entry)) (r .value) (r .at)) ⌝ }
+{
+    let n = text.len();
+    if n < 9 {
+        return Cursor { value: 0, at: 0 };
+    }
+    if n - 9 < at {
+        return Cursor { value: 0, at: 0 };
+    }
+    let number = short(t, text, at);
+    let a = number.at;
+    if a == 0 {
+        return Cursor { value: 0, at: 0 };
+    }
+    if (text[a] == b' ') & (text[a + 1] == b'n') & (number.value == k) {
+        return short(t, text, a + 2);
+    }
+    Cursor { value: 0, at: 0 }
+}
+
+fn left_side(t: &[u8; 256], text: &[u8], at: usize, k: u32) -> Cursor
+    requires { ⌜ Lent (now t) (now text) ⌝ }
+    ensures { λ r. ⌜ Gives (numbered k (rest (now (text .entry)) at)) (now (text .entry)) (r .value) (r .at) ⌝ }
+{
+    let read = short_left(t, text, at, k);
+    if read.at == 0 {
+        return numbered(t, text, at, k);
+    }
+    read
+}
+
 // After the head, `K nA X1 .. Xm)` with K given; the rule goes to its place.
 fn rule_line(t: &[u8; 256], text: &[u8], at: usize, k: u32, out: &mut [u32]) -> usize
     requires { ⌜ Lent (now t) (now text) × (MAX-RULES * RULE-WORDS ≤ length (now out)) ⌝ }
     ensures { λ r. ⌜ Puts ruleWords MAX-RULES k (ruleLine k (rest (now (text .entry)) at)) (now (text .entry)) (now (out .entry)) r (now (out .exit)) ⌝ }
 {
-    let number = text::number(t, text, at);
-    let a = text::require(text, number.at, number.value == k);
-    let b = naming(t, text, a, N);
-    let left = text::number(t, text, b);
+    let left = left_side(t, text, at, k);
     let mut right = [0u32; Book::MAX_RIGHT as usize];
     let symbols = right_side(t, text, left.at, &mut right);
     let line = [

@@ -1,9 +1,12 @@
-// What lines have in common: their words, the end, and the letters of names; and the last line, which has nothing else.
+// What lines have in common: their words, the end, the letters of names, and the number of a line; and the last line, which has nothing else.
 ghost use mathlib.Core.Path.{_≡_};
 ghost use Rattle.text.specs.Rest.{rest};
 ghost use Rattle.text.specs.Reading.{Lent};
 ghost use Rattle.grammar.specs.Format.Reader.{closing, naming};
 ghost use Rattle.grammar.specs.Format.Parse.{endLine};
+ghost use Rattle.book.specs.Numbered.{numbered};
+ghost use Rattle.book.specs.Sections.{Gives};
+use text::Cursor;
 
 // The words of lines and the letters of names, as numbers in base 32: a is 1, z is 26.
 pub const BOOK: u32 = ((2 * 32 + 15) * 32 + 15) * 32 + 11;
@@ -48,6 +51,17 @@ pub fn naming(t: &[u8; 256], text: &[u8], at: usize, letter: u32) -> usize
 {
     let a = text::mark(t, text, at, text::SPACE);
     text::keyword(t, text, a, letter)
+}
+
+// `K nA` with K given, by its parts: A, and where the text goes on.
+pub fn numbered(t: &[u8; 256], text: &[u8], at: usize, k: u32) -> Cursor
+    requires { ⌜ Lent (now t) (now text) ⌝ }
+    ensures { λ r. ⌜ Gives (numbered k (rest (now (text .entry)) at)) (now (text .entry)) (r .value) (r .at) ⌝ }
+{
+    let number = text::number(t, text, at);
+    let a = text::require(text, number.at, number.value == k);
+    let b = naming(t, text, a, N);
+    text::number(t, text, b)
 }
 
 // `(end)` and the line feed.

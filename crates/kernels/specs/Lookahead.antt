@@ -2,20 +2,21 @@
 -- Assumes nothing.
 use Prim.Native.Nat.{ℕ, _+_, _<_, _≤_}
 use native.Mathlib.Omega.{arith}
-use mathlib.Core.Path.{_≡_, _∙_}
+use mathlib.Core.Path.{_≡_, refl, _∙_}
 use mathlib.Core.Bool.{true, _&&_}
 use mathlib.Core.List.{List}
 use lib.Dec.{eqb}
 use lib.ListN.{length, getD}
 use borrow.Author.Tests.{eqb-true}
+use Rattle.text.specs.Class.{classOf}
 use Rattle.text.specs.Rest.{rest}
-use Rattle.text.specs.RestLaws.{rest-in, rest-out, rest-at, drop-more}
-use Rattle.text.specs.Numeral.{decimal, wordOf}
+use Rattle.text.specs.RestLaws.{rest-out, rest-at}
+use Rattle.text.specs.Numeral.{decimal, wordOf, spelled}
 use Rattle.text.specs.Reading.{Reads}
 use Rattle.grammar.specs.Format.Reader.{naming}
-use Rattle.grammar.specs.Format.ReaderLaws.{reading, word-ends}
+use Rattle.grammar.specs.Format.ReaderLaws.{reading}
 use Rattle.grammar.specs.Automaton.TestLaws.{both-true}
-use Rattle.book.specs.Short.{Brief}
+use Rattle.book.specs.Short.{Brief, naming-at}
 
 -- where the number of the lookahead at a position begins, the number, and the position after it
 pub record Names (text : List ℕ) (at from number next : ℕ) : Type 0 where
@@ -38,29 +39,17 @@ nearby-none text at number = record { begins = λ h. absurd (omega arith); insid
 
 -- a space, `t` and a short number
 module _ {text : List ℕ} (at : ℕ) {number next : ℕ} (long : at + 6 ≤ length text) (brief : Brief text (at + 2) number next) where
-  name-to : 0 < next → getD text at 0 ≡ 32 → getD text (at + 1) 0 ≡ 116 → rest text (at + 2) ≡ naming (wordOf "t") (rest text at)
-  unfolding reading
-  name-to some blank letter =
-      let e : at + 1 + 1 ≡ at + 2 = omega arith in
-      rest-in text (at + 2) (omega arith)
-      ∙ rw (
-        rest-in text at (omega arith),
-        drop-more text at (omega arith),
-        blank,
-        drop-more text (at + 1) (omega arith),
-        letter,
-        e,
-        brief .written some,
-        word-ends _ number _,
-      )
-
   pub nearby-of : eqb (getD text at 0) 32 && eqb (getD text (at + 1) 0) 116 ≡ true → Nearby text at number next
+  unfolding classOf spelled
   nearby-of e =
       let (blank, letter) = both-true _ _ e in
       record {
         begins = λ some. omega arith;
         inside = λ some. omega (arith, brief .near);
-        names = λ some. record { name-is = name-to some (eqb-true _ _ blank) (eqb-true _ _ letter); number-is = brief .reads some };
+        names = λ some. record {
+          name-is = naming-at text at 20 (omega arith) refl (eqb-true _ _ blank) (eqb-true _ _ letter) brief some;
+          number-is = brief .reads some;
+        };
       }
 
 -- before a bracket there is no other

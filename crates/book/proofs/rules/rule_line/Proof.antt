@@ -1,20 +1,10 @@
-use Rattle.text.specs.Numeral.{spelled}
 use Rattle.book.specs.Lines.{rule-steps}
 use borrow.Author.Needs.{needs}
 use Rattle.book.proofs.rules.rule_line.Statement.{statement}
 use Rattle.book.proofs.rules.rule_line.Tie as tie
 
-number-requires : tie.Need-number-requires
-number-requires c κs = search needs
-
-require-requires : tie.Need-require-requires
-require-requires c κs = search needs
-
-naming-requires : tie.Need-naming-requires
-naming-requires c κs = search needs
-
-number-requires-2 : tie.Need-number-requires-2
-number-requires-2 c κs = search needs
+left-side-requires : tie.Need-left-side-requires
+left-side-requires c κs = search needs
 
 slice-aggregate-right-side : tie.Need-slice-aggregate-right-side
 slice-aggregate-right-side c = search needs
@@ -22,29 +12,29 @@ slice-aggregate-right-side c = search needs
 right-side-requires : tie.Need-right-side-requires
 right-side-requires c κs = search needs
 
-array-read-t18 : tie.Need-array-read-t18
-array-read-t18 c = search needs
+array-read-t14 : tie.Need-array-read-t14
+array-read-t14 c = search needs
 
-array-read-t21 : tie.Need-array-read-t21
-array-read-t21 c = search needs
+array-read-t17 : tie.Need-array-read-t17
+array-read-t17 c = search needs
 
-array-read-t24 : tie.Need-array-read-t24
-array-read-t24 c = search needs
+array-read-t20 : tie.Need-array-read-t20
+array-read-t20 c = search needs
 
-array-read-t27 : tie.Need-array-read-t27
-array-read-t27 c = search needs
+array-read-t23 : tie.Need-array-read-t23
+array-read-t23 c = search needs
 
-array-read-t30 : tie.Need-array-read-t30
-array-read-t30 c = search needs
+array-read-t26 : tie.Need-array-read-t26
+array-read-t26 c = search needs
 
-array-read-t33 : tie.Need-array-read-t33
-array-read-t33 c = search needs
+array-read-t29 : tie.Need-array-read-t29
+array-read-t29 c = search needs
 
-array-read-t36 : tie.Need-array-read-t36
-array-read-t36 c = search needs
+array-read-t32 : tie.Need-array-read-t32
+array-read-t32 c = search needs
 
-array-read-t39 : tie.Need-array-read-t39
-array-read-t39 c = search needs
+array-read-t35 : tie.Need-array-read-t35
+array-read-t35 c = search needs
 
 cast-put-line : tie.Need-cast-put-line
 cast-put-line c = search needs
@@ -62,34 +52,26 @@ same-length : tie.Need-same-length
 same-length c = search needs
 
 returns : tie.Need-returns
-unfolding spelled
 returns c =
     let stored = c .before .before .before in
     let right = stored .before .before .before .before in
-    let left = right .before .before in
-    let letter = left .before in
-    let due = letter .before in
-    rule-steps (due .before .before .number .ensures) (due .require .ensures) (letter .naming .ensures) (left .number2 .ensures)
-    (right .right-side .ensures) (c .closing .ensures) (stored .put-line .ensures)
+    rule-steps _ _ (right .before .before .left-side .ensures) (right .right-side .ensures) (c .closing .ensures) (stored .put-line .ensures)
 
 pub rule-line-spec : {M : Type 1} → statement M
 rule-line-spec =
     tie.close
     (tie.spec
-    number-requires
-    require-requires
-    naming-requires
-    number-requires-2
+    left-side-requires
     slice-aggregate-right-side
     right-side-requires
-    array-read-t18
-    array-read-t21
-    array-read-t24
-    array-read-t27
-    array-read-t30
-    array-read-t33
-    array-read-t36
-    array-read-t39
+    array-read-t14
+    array-read-t17
+    array-read-t20
+    array-read-t23
+    array-read-t26
+    array-read-t29
+    array-read-t32
+    array-read-t35
     cast-put-line
     slice-aggregate-put-line
     put-line-requires

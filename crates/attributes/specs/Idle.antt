@@ -3,9 +3,8 @@
 use Prim.Native.Nat.{ℕ, _+_, _*_, _-_, _<_, _≤_}
 use native.Mathlib.Omega.{arith}
 use native.Mathlib.Decide.{ℕ-discrete}
-use mathlib.Core.Path.{_≡_, refl, ap, _∙_}
+use mathlib.Core.Path.{_≡_, ap, _∙_}
 use mathlib.Core.Logic.{_⊎_, inl, inr}
-use mathlib.Core.Bool.{Bool, true, false}
 use mathlib.Core.List.{List}
 use lib.Bits.{bitAnd, bitOr, and-mask}
 use lib.ListN.{length, getD, set, replicate, length-set, length-replicate}
@@ -17,13 +16,11 @@ use Rattle.grammar.specs.Data.Book.{Book}
 use Rattle.grammar.specs.Format.Ordered.{Ordered}
 use Rattle.grammar.specs.Automaton.FirstSets.{setsOf}
 use Rattle.grammar.specs.Automaton.Items.{Closure}
-use Rattle.grammar.specs.Formulas.Passes.{passes-keep}
 use Rattle.grammar.specs.Formulas.FormulaCheck as grammar
-use Rattle.grammar.specs.Formulas.FormulaCheck.{Progress, dotOf, lineAt, advance, fresh, unsplit, visit, ended, check}
+use Rattle.grammar.specs.Formulas.FormulaCheck.{dotOf, lineAt}
 use Rattle.automaton.specs.StatesIn.{ItemsIn}
 use Rattle.attributes.specs.Checking.{CheckHeld}
 use Rattle.attributes.specs.CheckingLaws.{rule-low, position-high, position-word, left-word, left-below, place-is}
-use Rattle.attributes.specs.Skips.{visit-absent}
 use Rattle.attributes.specs.StateWords.{InLine, InFront, located}
 
 -- The places of the definitions
@@ -164,12 +161,3 @@ module _ {b : Book} {rules kernels starts closures places : List ℕ} (ordered :
           ⊎ ((dotOf (lineAt b d) ≡ 0) × InFront closures (32 * S) (leftOf (b .rules) (lineAt b d .rule))) → ⊥
       by (inl i) = line-free K d l i
       by (inr (z, i)) = rule-free F d l z i
-
--- no definition is visited in the check of its partial states
-pub check-idle : (b : Book) (member : ℕ → ℕ → Bool) → ((d : ℕ) → d < grammar.definitions b → member (lineAt b d .rule) (dotOf (lineAt b d)) ≡ false)
-    → check b member ≡ true
-unfolding check ended unsplit
-check-idle b member none =
-    ap unsplit
-    (passes-keep (visit b member) (λ (s : Progress). s ≡ fresh) advance (grammar.definitions b)
-    (λ d l s e. visit-absent b member d (none d l) s ∙ e) fresh refl)

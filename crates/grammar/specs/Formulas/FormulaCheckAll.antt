@@ -81,19 +81,6 @@ module _ {b : Book} {S a : ℕ} where
 abbrev pub CoreIn : Book → Sets → List ℕ → ℕ → ℕ → ℕ → ℕ → Type 0
 CoreIn b F R S a P D = (M : ℕ) × Mem (core P D M) (coreItems b F S) × (bit (reachWith F R (after (b .rules) P D) M) a ≡ true)
 
-module _ {b : Book} {F : Sets} {R : List ℕ} (right : ItemsRight b F R) (S a : ℕ) (member : ℕ → ℕ → Bool) where
-  -- a test of those entries
-  pub core-tells : ((P D : ℕ) → Decides (member P D) (CoreIn b F R S a P D)) → Tells b S a member
-  core-tells decides P D = equivalent to from (decides P D)
-    where
-      to : CoreIn b F R S a P D → (c : ℕ) × Partial b S a P D c
-      to (M, m, t) = let (c, l, r) = right .core-reaches S P D M a m t in (c, (right .core-closure S P D M c m l, r))
-
-      from : (c : ℕ) × Partial b S a P D c → CoreIn b F R S a P D
-      from (c, (closure, reaches)) =
-          let (M, m, l) = right .closure-core S P D c closure in
-          (M, m, right .reaches-core S P D M a c m l reaches)
-
 -- ---------------------------------------------------------------- terminals with the same items
 
 module _ (b : Book) (member other : ℕ → ℕ → Bool) where

@@ -165,9 +165,10 @@ pub gathering-turn : {total : ℕ} (words : List ℕ) (i bits : ℕ) → i < len
 unfolding gathered
 gathering-turn words i bits h e = rw (drop-more words i h) at e
 
-pub gathering-end : (words : List ℕ) (i bits : ℕ) → length words ≤ i → gathered bits (drop i words) ≡ gathered 0 words
-    → eqb bits 0 ≡ sameSets words (replicate (length words) 0)
+-- behind the last word there are none
+pub gathering-out : (words : List ℕ) (i bits : ℕ) → length words ≤ i → gathered bits (drop i words) ≡ bits
 unfolding gathered
-gathering-end words i bits h e =
-    let n : bits ≡ gathered 0 words = rw (drop-of-length-le words h) at e in
-    rw n (gathered-none words)
+gathering-out words i bits h = rw (drop-of-length-le words h)
+
+pub gathering-end : (words : List ℕ) {bits : ℕ} → bits ≡ gathered 0 words → eqb bits 0 ≡ sameSets words (replicate (length words) 0)
+gathering-end words e = rw e (gathered-none words)

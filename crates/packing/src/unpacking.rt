@@ -3,10 +3,10 @@ ghost use mathlib.Core.Path.{_≡_};
 ghost use mathlib.Core.Bool.{true};
 ghost use mathlib.Core.List.{List, _∷_, []};
 ghost use Prim.Native.Nat.{ℕ, _+_, _*_, _/_, _≤_};
-ghost use lib.ListN.{length, replicate};
+ghost use lib.ListN.{length, drop, replicate};
 ghost use Rattle.grammar.specs.Automaton.Fixpoint.{sameSets};
 ghost use Rattle.grammar.specs.Format.Packing.{pack, unpack};
-ghost use Rattle.packing.specs.Words.{bytesOf, full, Placed};
+ghost use Rattle.packing.specs.Words.{bytesOf, full, gathered, Placed};
 ghost use Rattle.packing.specs.LowWords.{AllFull};
 ghost use Rattle.packing.specs.PackingLoops.{Unpacking};
 
@@ -154,18 +154,48 @@ pub fn unpack(words: &[u32], text: &mut [u8]) -> usize
     4 * i
 }
 
-// Whether every word is 0: their bits are gathered, with no way out of the loop.
-fn zeros(words: &[u32]) -> bool
-    ensures { λ r. ⌜ r ≡ sameSets (now (words .entry)) (replicate (length (now (words .entry))) 0) ⌝ }
+// How many words are looked at together where all should be 0: so many that the loop over them does not depend on where its code lies.
+const ZEROS: usize = 64;
+
+// Some bits, with those of a block of words.
+fn block_bits(words: &[u32], from: usize, some: u32) -> u32
+    requires { ⌜ from + 64 ≤ length (now words) ⌝ }
+    ensures { λ r. ⌜ gathered r (drop (from + 64) (now (words .entry))) ≡ gathered some (drop from (now (words .entry))) ⌝ }
 {
-    let n = words.len();
-    let mut bits = 0u32;
+    let mut bits = some;
     let mut i = 0;
-    while i < n {
+    while i < ZEROS {
+        bits |= words[from + i];
+        i += 1;
+    }
+    bits
+}
+
+// Some bits, with those of all words from a place on.
+fn rest_bits(words: &[u32], from: usize, some: u32) -> u32
+    ensures { λ r. ⌜ r ≡ gathered some (drop from (now (words .entry))) ⌝ }
+{
+    let mut bits = some;
+    let mut i = from;
+    while i < words.len() {
         bits |= words[i];
         i += 1;
     }
-    bits == 0
+    bits
+}
+
+// Whether every word is 0: their bits are gathered, with no way out of the loops.
+fn zeros(words: &[u32]) -> bool
+    ensures { λ r. ⌜ r ≡ sameSets (now (words .entry)) (replicate (length (now (words .entry))) 0) ⌝ }
+{
+    let n = words.len() / ZEROS;
+    let mut bits = 0u32;
+    let mut block = 0;
+    while block < n {
+        bits = block_bits(words, ZEROS * block, bits);
+        block += 1;
+    }
+    rest_bits(words, ZEROS * block, bits) == 0
 }
 
 // Whether words that hold a text of `n` bytes are that text's filling: there are only zeros after it.

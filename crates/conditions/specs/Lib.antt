@@ -9,6 +9,7 @@ pub mod DueBook
 pub mod Leaves
 pub mod LimitLaws
 pub mod LimitTests
+pub mod Often
 pub mod OwnedLaws
 pub mod OwnedLines
 pub mod OwnedTests

@@ -1,15 +1,14 @@
 -- Condition 3: what the loops over lines keep true, that ascending numbers repeat in one run, and that the parts make the whole.
 -- Assumes nothing.
 use Prim.Native.Nat.{ℕ, zero, suc, _+_, _*_, _-_, _≤_, _<_, zero-le}
-use mathlib.Core.Path.{_≡_, refl, sym, ap, ap₂, _∙_}
-use mathlib.Core.Bool.{true, false, _&&_, not}
+use mathlib.Core.Path.{_≡_, sym, ap, ap₂, _∙_}
+use mathlib.Core.Bool.{true, _&&_, not}
 use mathlib.Core.List.{List, map}
 use native.Mathlib.Omega.{arith}
 use native.Mathlib.Numerals.{add-one}
-use lib.Dec.{eqb, ltb, leb}
+use lib.Dec.{eqb, leb}
 use lib.ListN.{length, getD, drop, drop-of-length-le, length-map, List·getD-map}
 use lib.Seq.{drop-cons}
-use borrow.Author.Tests.{lt-ltb, le-ltb}
 use Rattle.grammar.specs.Conditions.Decides.{
   Decides,
   decides-same,
@@ -23,7 +22,6 @@ use Rattle.grammar.specs.Conditions.Decides.{
   all-decides,
   few-decides,
   count,
-  few,
   allBelow,
 }
 use Rattle.grammar.specs.Conditions.Tests.{withinLimits}
@@ -46,7 +44,7 @@ use Rattle.grammar.specs.Limits.{
 use Rattle.grammar.specs.Data.Term.{nodes}
 use Rattle.grammar.specs.Data.Book.{InheritedDefinition, SynthesizedDefinition, Kernel, Book as Lines}
 use Rattle.grammar.specs.Format.Ordered.{Ascends, ascends-[], ascends-∷, kernelKey}
-use Rattle.conditions.specs.Runs.{lead, before-lead, count-same, count-other, few-front, Sorted, sorted-[], sorted-∷, apart, few-sorted}
+use Rattle.conditions.specs.Runs.{lead, before-lead, count-same, count-other, Sorted, sorted-[], sorted-∷, apart, few-sorted}
 use Rattle.conditions.specs.Answers.{below-same, below-join, all-below}
 use Rattle.conditions.specs.Asked.{DefinitionLines, KernelLines}
 use Rattle.book.specs.Held.{HasRoom}
@@ -77,28 +75,6 @@ module _ {words : List ℕ} {from word n i : ℕ} (c : Counting words from word 
   pub counting-end : length words ≤ i → n ≡ count word (drop from words)
   unfolding count
   counting-end h = let rest : count word (drop i words) ≡ 0 = ap (count word) (drop-of-length-le words h) in omega (arith, rest, c .same)
-
--- no word repeats too often, down to place i
-pub record Fewer (words : List ℕ) (n i : ℕ) : Type 0 where
-  pub within : i ≤ length words
-  pub same : few n (drop i words) ≡ few n words
-
-module _ {words : List ℕ} {n i k : ℕ} (f : Fewer words n i) (h : i < length words) (e : k ≡ count (getD words i 0) (drop (i + 1) words)) where
-  few-here : few n words ≡ ltb k n && few n (drop (i + 1) words)
-  few-here = rw (e, add-one i) (sym (f .same) ∙ (ap (few n) (drop-cons words i 0 h) ∙ few-front n (getD words i 0) (drop (suc i) words)))
-
-  pub fewer-turn : k < n → Fewer words n (i + 1)
-  fewer-turn l = record { within = omega arith; same = sym (rw (lt-ltb k n l) at few-here) }
-
-  pub fewer-stop : n ≤ k → false ≡ few n words
-  fewer-stop l = sym (rw (le-ltb k n l) at few-here)
-
-pub fewer-start : {words : List ℕ} {n : ℕ} → Fewer words n 0
-fewer-start = record { within = zero-le; same = refl }
-
-pub fewer-end : {words : List ℕ} {n i : ℕ} → Fewer words n i → length words ≤ i → true ≡ few n words
-unfolding few
-fewer-end {words} {n} {i} f h = ap (few n) (sym (drop-of-length-le words h)) ∙ f .same
 
 -- every line's number of nodes
 pub nodes-lines : {definitions : List ℕ} {n : ℕ} (b : Lines) → DefinitionLines definitions n b

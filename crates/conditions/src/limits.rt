@@ -1,11 +1,12 @@
 // Condition 3: the limits of a book. The numbers are asked first, so that every line has room in its array; then the lines.
 ghost use mathlib.Core.Path.{_≡_};
-ghost use Prim.Native.Nat.{_≤_};
+ghost use Prim.Native.Nat.{_≤_, _<_};
 ghost use lib.ListN.{length, drop};
 ghost use Rattle.grammar.specs.Conditions.Decides.{oneTo, count, few};
 ghost use Rattle.grammar.specs.Conditions.Tests.{withinLimits};
 ghost use Rattle.conditions.specs.Answers.{Some, Answers};
 ghost use Rattle.conditions.specs.Asked.{Counted, RuleLines, DefinitionLines, KernelLines, Kept, Stored};
+ghost use Rattle.conditions.specs.Often.{Tallied, Taken};
 ghost use Rattle.conditions.specs.LimitTests.{numbersWithin, rightsWithin, nodesWithin, statesWithin, linesWithin};
 use book::Book;
 
@@ -48,13 +49,31 @@ fn repeats(words: &[u32], from: usize, word: u32) -> usize
     n
 }
 
+// Takes the word at place i: whether it is found to stand in the list more than n times. One below 32 is counted, any other is asked for further on.
+fn too_often(words: &[u32], i: usize, n: u8, counts: &mut [u8]) -> bool
+    requires { ⌜ (i < length (now words)) × Tallied (now words) n i (now counts) ⌝ }
+    ensures { λ r. ⌜ Taken (now (words .entry)) n i (now (counts .exit)) r ⌝ }
+{
+    let word = words[i];
+    if word < 32 {
+        let met = counts[word as usize];
+        if n <= met {
+            return true;
+        }
+        counts[word as usize] = met + 1;
+        return false;
+    }
+    n as usize <= repeats(words, i + 1, word)
+}
+
 // Whether no word stands in the list more than n times.
-fn few(words: &[u32], n: usize) -> bool
+fn few(words: &[u32], n: u8) -> bool
     ensures { λ r. ⌜ r ≡ few n (now (words .entry)) ⌝ }
 {
+    let mut counts = [0u8; 32];
     let mut i = 0;
     while i < words.len() {
-        if n <= repeats(words, i + 1, words[i]) {
+        if too_often(words, i, n, &mut counts) {
             return false;
         }
         i += 1;

@@ -24,6 +24,7 @@ use Rattle.grammar.specs.Formulas.FormulaCheckLaws.{Tells}
 use Rattle.grammar.specs.Formulas.FormulaCheckAll.{listed-tells, book-checkAll}
 use Rattle.grammar.specs.Data.ListLaws.{at-member}
 use Rattle.book.specs.Held.{DefinitionsIn}
+use Rattle.automaton.specs.Fronts.{FrontsIn}
 use Rattle.attributes.specs.Owned.{OwnedIn, owned-some}
 use Rattle.attributes.specs.Checking.{memberOf, CheckHeld}
 use Rattle.attributes.specs.CheckHeldLaws.{check-held}
@@ -58,6 +59,12 @@ pub record FormulasHeld (b : Book) (rules : List ℕ) (count : ℕ) (definitions
   pub definitions-counted : lines ≡ grammar.definitions b
   pub terminals-are : terminals ≡ b .terminals
   pub states-are : states ≡ b .states
+
+-- the same, with the rules of each state's closure
+pub record FrontsHeld (b : Book) (rules : List ℕ) (count : ℕ) (definitions : List ℕ) (lines : ℕ)
+    (kernels starts closures fronts nulls firsts reaches : List ℕ) (terminals states : ℕ) : Type 0 where
+  pub formulas-held : FormulasHeld b rules count definitions lines kernels starts closures nulls firsts reaches terminals states
+  pub fronts-in : FrontsIn b rules closures fronts
 
 -- the sets of the attributes that are counted
 pub owned-all : {owners sets : List ℕ} {count : ℕ} → count ≡ length owners → OwnedIn owners count sets → OwnedIn owners (length owners) sets

@@ -1,6 +1,5 @@
 // The attributes that definitions give, but for those that copy an attribute to itself at the front of their rule: these give what stands already.
-// Word 9 * P + D of `given` is the set of the attributes that are given at the item (P, D), word 576 + A that of those that are given at the front of
-// rules of A, and bit 31 of it tells that two rules give the same.
+// Word 9 * P + D of `given` is the set of the attributes that are given at the item (P, D); `leaders` has the rules at whose front some are given.
 ghost use mathlib.Core.Path.{_≡_};
 ghost use mathlib.Core.Bool.{true};
 ghost use mathlib.Core.List.{List};
@@ -11,7 +10,7 @@ ghost use Rattle.grammar.specs.Formulas.FormulaCheck as grammar;
 ghost use Rattle.book.specs.Held.{DefinitionsIn};
 ghost use Rattle.attributes.specs.Checking.{CheckHeld};
 ghost use Rattle.agreement.specs.Givers.{Copies};
-ghost use Rattle.agreement.specs.Given.{GivenIn, Again};
+ghost use Rattle.agreement.specs.Given.{GivenIn};
 use items::words::word;
 
 // True only if the definition in a line gives the first symbol of its rule just the attribute that the left side has: its one node is own of it.
@@ -26,23 +25,12 @@ fn copies(definitions: &[u32], line: usize) -> bool
         & (definitions[49 * line + 5] == definitions[49 * line + 2])
 }
 
-// The attributes at the front of the rules of a nonterminal, and one besides; with bit 31 if it was among them.
-fn again(old: u32, attribute: u32) -> u32
-    requires { ⌜ attribute < 16 ⌝ }
-    ensures { λ r. ⌜ Again old attribute r ⌝ }
-{
-    if sets::has(old, attribute) {
-        return sets::with(old, 31);
-    }
-    sets::with(old, attribute)
-}
-
-// The attribute of the definition in a line is given.
-fn give(definitions: &[u32], line: usize, rules: &[u32], given: &mut [u32])
-    requires { ⌜ ((b : Book) × (owned : List ℕ) × (masks : List ℕ) × CheckHeld b (now definitions) (now rules) owned masks × (line < grammar.definitions b))
-        × (length (now given) ≡ 608) ⌝ }
-    ensures { λ _. ⌜ ((b : Book) (owned masks : List ℕ) → CheckHeld b (now (definitions .entry)) (now (rules .entry)) owned masks
-        → line < grammar.definitions b → GivenIn b line (now (given .entry)) → GivenIn b (line + 1) (now (given .exit))) ⌝ }
+// The attribute of the definition in a line is given; the leaders with its rule besides, if that is at the front.
+fn give(definitions: &[u32], line: usize, leaders: u64, given: &mut [u32]) -> u64
+    requires { ⌜ ((b : Book) × (rules : List ℕ) × (owned : List ℕ) × (masks : List ℕ) × CheckHeld b (now definitions) rules owned masks
+        × (line < grammar.definitions b)) × (length (now given) ≡ 576) ⌝ }
+    ensures { λ r. ⌜ ((b : Book) (rules owned masks : List ℕ) → CheckHeld b (now (definitions .entry)) rules owned masks
+        → line < grammar.definitions b → GivenIn b line (now (given .entry)) leaders → GivenIn b (line + 1) (now (given .exit)) r) ⌝ }
 {
     let rule = word(definitions, 49 * line);
     let position = word(definitions, 49 * line + 1);
@@ -50,34 +38,36 @@ fn give(definitions: &[u32], line: usize, rules: &[u32], given: &mut [u32])
     let item = 9 * rule + position - 1;
     given[item] = sets::with(given[item], attribute);
     if position != 1 {
-        return;
+        return leaders;
     }
-    let front = 576 + word(rules, 10 * rule);
-    given[front] = again(given[front], attribute);
+    leaders | (1u64 << rule)
 }
 
 // The same, but for a copy.
-fn mark_giver(definitions: &[u32], line: usize, rules: &[u32], given: &mut [u32])
-    requires { ⌜ ((b : Book) × (owned : List ℕ) × (masks : List ℕ) × CheckHeld b (now definitions) (now rules) owned masks × (line < grammar.definitions b))
-        × (length (now given) ≡ 608) ⌝ }
-    ensures { λ _. ⌜ ((b : Book) (owned masks : List ℕ) → CheckHeld b (now (definitions .entry)) (now (rules .entry)) owned masks
-        → line < grammar.definitions b → GivenIn b line (now (given .entry)) → GivenIn b (line + 1) (now (given .exit))) ⌝ }
+fn mark_giver(definitions: &[u32], line: usize, leaders: u64, given: &mut [u32]) -> u64
+    requires { ⌜ ((b : Book) × (rules : List ℕ) × (owned : List ℕ) × (masks : List ℕ) × CheckHeld b (now definitions) rules owned masks
+        × (line < grammar.definitions b)) × (length (now given) ≡ 576) ⌝ }
+    ensures { λ r. ⌜ ((b : Book) (rules owned masks : List ℕ) → CheckHeld b (now (definitions .entry)) rules owned masks
+        → line < grammar.definitions b → GivenIn b line (now (given .entry)) leaders → GivenIn b (line + 1) (now (given .exit)) r) ⌝ }
 {
-    if !copies(definitions, line) {
-        give(definitions, line, rules, given);
+    if copies(definitions, line) {
+        return leaders;
     }
+    give(definitions, line, leaders, given)
 }
 
-// What all definitions give, from words that are 0.
-pub fn mark_givers(definitions: &[u32], lines: usize, rules: &[u32], given: &mut [u32])
-    requires { ⌜ ((b : Book) × (owned : List ℕ) × (masks : List ℕ) × CheckHeld b (now definitions) (now rules) owned masks × (lines ≡ grammar.definitions b))
-        × (now given ≡ replicate 608 0) ⌝ }
-    ensures { λ _. ⌜ ((b : Book) (owned masks : List ℕ) → CheckHeld b (now (definitions .entry)) (now (rules .entry)) owned masks
-        → lines ≡ grammar.definitions b → GivenIn b (grammar.definitions b) (now (given .exit))) ⌝ }
+// What all definitions give, from words that are 0; the leaders.
+pub fn mark_givers(definitions: &[u32], lines: usize, given: &mut [u32]) -> u64
+    requires { ⌜ ((b : Book) × (rules : List ℕ) × (owned : List ℕ) × (masks : List ℕ) × CheckHeld b (now definitions) rules owned masks
+        × (lines ≡ grammar.definitions b)) × (now given ≡ replicate 576 0) ⌝ }
+    ensures { λ r. ⌜ ((b : Book) (rules owned masks : List ℕ) → CheckHeld b (now (definitions .entry)) rules owned masks
+        → lines ≡ grammar.definitions b → GivenIn b (grammar.definitions b) (now (given .exit)) r) ⌝ }
 {
+    let mut leaders = 0u64;
     let mut i = 0;
     while i < lines {
-        mark_giver(definitions, i, rules, given);
+        leaders = mark_giver(definitions, i, leaders, given);
         i += 1;
     }
+    leaders
 }

@@ -14,7 +14,7 @@ ghost use Rattle.formulas.specs.Table.{ROOM};
 ghost use Rattle.attributes.specs.Owned.{OwnedIn};
 ghost use Rattle.attributes.specs.Checking.{Room};
 ghost use Rattle.agreement.specs.Given.{GivenIn};
-ghost use Rattle.agreement.specs.OneFormula.{FormulasHeld, stateRight, formulasRight};
+ghost use Rattle.agreement.specs.OneFormula.{FrontsHeld, stateRight, formulasRight};
 use super::check::check_state;
 use super::givers::mark_givers;
 use super::single::single;
@@ -29,9 +29,11 @@ fn state_right(
     lines: u32,
     owned: &[u32],
     given: &[u32],
+    leaders: u64,
     kernels: &[u32],
     starts: &[u32],
     closures: &[u32],
+    fronts: &[u64],
     nulls: &[u32],
     reaches: &[u32],
     terminals: u32,
@@ -43,16 +45,16 @@ fn state_right(
     heads: &mut [u32],
     nexts: &mut [u32],
 ) -> bool
-    requires { ⌜ ((b : Book) × (firsts : List ℕ) × (states : ℕ) × FormulasHeld b (now rules) count (now definitions) lines (now kernels) (now starts)
-        (now closures) (now nulls) firsts (now reaches) terminals states × OwnedIn (b .inheritedOwners) (attributes b) (now owned)
-        × GivenIn b (grammar.definitions b) (now given) × (state < states))
+    requires { ⌜ ((b : Book) × (firsts : List ℕ) × (states : ℕ) × FrontsHeld b (now rules) count (now definitions) lines (now kernels) (now starts)
+        (now closures) (now fronts) (now nulls) firsts (now reaches) terminals states × OwnedIn (b .inheritedOwners) (attributes b) (now owned)
+        × GivenIn b (grammar.definitions b) (now given) leaders × (state < states))
         × (length (now sets) ≡ 576) × Room (now slots) (now done) (now table) (now heads) (now nexts) ⌝ }
-    ensures { λ r. ⌜ ((b : Book) (firsts : List ℕ) (states : ℕ) → FormulasHeld b (now (rules .entry)) count (now (definitions .entry)) lines
-        (now (kernels .entry)) (now (starts .entry)) (now (closures .entry)) (now (nulls .entry)) firsts (now (reaches .entry)) terminals states
-        → OwnedIn (b .inheritedOwners) (attributes b) (now (owned .entry)) → GivenIn b (grammar.definitions b) (now (given .entry))
+    ensures { λ r. ⌜ ((b : Book) (firsts : List ℕ) (states : ℕ) → FrontsHeld b (now (rules .entry)) count (now (definitions .entry)) lines
+        (now (kernels .entry)) (now (starts .entry)) (now (closures .entry)) (now (fronts .entry)) (now (nulls .entry)) firsts (now (reaches .entry))
+        terminals states → OwnedIn (b .inheritedOwners) (attributes b) (now (owned .entry)) → GivenIn b (grammar.definitions b) (now (given .entry)) leaders
         → state < states → r ≡ stateRight b state) ⌝ }
 {
-    if single(kernels, starts, closures, state, given) {
+    if single(kernels, starts, fronts, state, given, leaders) {
         return true;
     }
     masks(
@@ -90,9 +92,11 @@ fn states_right(
     lines: u32,
     owned: &[u32],
     given: &[u32],
+    leaders: u64,
     kernels: &[u32],
     starts: &[u32],
     closures: &[u32],
+    fronts: &[u64],
     nulls: &[u32],
     reaches: &[u32],
     terminals: u32,
@@ -104,13 +108,13 @@ fn states_right(
     heads: &mut [u32],
     nexts: &mut [u32],
 ) -> bool
-    requires { ⌜ ((b : Book) × (firsts : List ℕ) × FormulasHeld b (now rules) count (now definitions) lines (now kernels) (now starts) (now closures)
-        (now nulls) firsts (now reaches) terminals states × OwnedIn (b .inheritedOwners) (attributes b) (now owned)
-        × GivenIn b (grammar.definitions b) (now given))
+    requires { ⌜ ((b : Book) × (firsts : List ℕ) × FrontsHeld b (now rules) count (now definitions) lines (now kernels) (now starts) (now closures)
+        (now fronts) (now nulls) firsts (now reaches) terminals states × OwnedIn (b .inheritedOwners) (attributes b) (now owned)
+        × GivenIn b (grammar.definitions b) (now given) leaders)
         × (length (now sets) ≡ 576) × Room (now slots) (now done) (now table) (now heads) (now nexts) ⌝ }
-    ensures { λ r. ⌜ ((b : Book) (firsts : List ℕ) → FormulasHeld b (now (rules .entry)) count (now (definitions .entry)) lines (now (kernels .entry))
-        (now (starts .entry)) (now (closures .entry)) (now (nulls .entry)) firsts (now (reaches .entry)) terminals states
-        → OwnedIn (b .inheritedOwners) (attributes b) (now (owned .entry)) → GivenIn b (grammar.definitions b) (now (given .entry))
+    ensures { λ r. ⌜ ((b : Book) (firsts : List ℕ) → FrontsHeld b (now (rules .entry)) count (now (definitions .entry)) lines (now (kernels .entry))
+        (now (starts .entry)) (now (closures .entry)) (now (fronts .entry)) (now (nulls .entry)) firsts (now (reaches .entry)) terminals states
+        → OwnedIn (b .inheritedOwners) (attributes b) (now (owned .entry)) → GivenIn b (grammar.definitions b) (now (given .entry)) leaders
         → r ≡ allBelow (b .states) (stateRight b)) ⌝ }
 {
     let n = states as usize;
@@ -123,9 +127,11 @@ fn states_right(
             lines,
             owned,
             given,
+            leaders,
             kernels,
             starts,
             closures,
+            fronts,
             nulls,
             reaches,
             terminals,
@@ -155,6 +161,7 @@ pub fn one_formula(
     kernels: &[u32],
     starts: &[u32],
     closures: &[u32],
+    fronts: &[u64],
     nulls: &[u32],
     reaches: &[u32],
     terminals: u32,
@@ -162,17 +169,17 @@ pub fn one_formula(
     table: &mut [u32],
     nexts: &mut [u32],
 ) -> bool
-    requires { ⌜ ((b : Book) × (firsts : List ℕ) × FormulasHeld b (now rules) count (now definitions) lines (now kernels) (now starts) (now closures)
-        (now nulls) firsts (now reaches) terminals states × OwnersIn MAX-INHERITED (b .inheritedOwners) (now owners)
+    requires { ⌜ ((b : Book) × (firsts : List ℕ) × FrontsHeld b (now rules) count (now definitions) lines (now kernels) (now starts) (now closures)
+        (now fronts) (now nulls) firsts (now reaches) terminals states × OwnersIn MAX-INHERITED (b .inheritedOwners) (now owners)
         × (attributes ≡ length (b .inheritedOwners))) × (length (now table) ≡ 4 * ROOM) × (length (now nexts) ≡ ROOM) ⌝ }
-    ensures { λ r. ⌜ ((b : Book) (firsts : List ℕ) → FormulasHeld b (now (rules .entry)) count (now (definitions .entry)) lines (now (kernels .entry))
-        (now (starts .entry)) (now (closures .entry)) (now (nulls .entry)) firsts (now (reaches .entry)) terminals states
+    ensures { λ r. ⌜ ((b : Book) (firsts : List ℕ) → FrontsHeld b (now (rules .entry)) count (now (definitions .entry)) lines (now (kernels .entry))
+        (now (starts .entry)) (now (closures .entry)) (now (fronts .entry)) (now (nulls .entry)) firsts (now (reaches .entry)) terminals states
         → OwnersIn MAX-INHERITED (b .inheritedOwners) (now (owners .entry)) → attributes ≡ length (b .inheritedOwners) → r ≡ formulasRight b) ⌝ }
 {
     let mut own = [0u32; 32];
     owned(owners, attributes as usize, &mut own);
-    let mut given = [0u32; 608];
-    mark_givers(definitions, lines as usize, rules, &mut given);
+    let mut given = [0u32; 576];
+    let leaders = mark_givers(definitions, lines as usize, &mut given);
     let mut sets = [0u32; 576];
     let mut slots = [0u32; 16];
     let mut done = [0u8; 128];
@@ -184,9 +191,11 @@ pub fn one_formula(
         lines,
         &own,
         &given,
+        leaders,
         kernels,
         starts,
         closures,
+        fronts,
         nulls,
         reaches,
         terminals,

@@ -19,7 +19,8 @@ use Rattle.book.specs.declared.Room.{Room}
 use Rattle.book.specs.Spelling.{Arrays, Roomy, Spelling, Complete}
 use Rattle.conditions.specs.AskedLaws.{counted}
 use Rattle.conditions.specs.SpellingHeld.{spelled-got, misspelt-none, arrays-held}
-use Rattle.agreement.specs.OneFormula.{FormulasHeld, formulasRight}
+use Rattle.automaton.specs.Fronts.{FrontsIn}
+use Rattle.agreement.specs.OneFormula.{FormulasHeld, FrontsHeld, formulasRight}
 use Rattle.compiler.specs.States.{tablesRefusal}
 use Rattle.compiler.specs.StatesRefusal.{withFormulas, states-refusal}
 use Rattle.compiler.specs.Conditions.{
@@ -107,12 +108,20 @@ module _ {numbers : Book} {inherited synthesized rules definitions kernels goes 
         states-are = n .states-are;
       }
 
+  -- with the rules of each state's closure
+  pub asked-fronts : {fronts : List ℕ}
+      → BookReady numbers inherited synthesized rules definitions kernels goes vanishes begins reached starts closures table actions b
+      → FrontsIn b rules closures fronts
+      → FrontsHeld b rules (numbers .rules) definitions (numbers .«inherited_definitions») kernels starts closures fronts vanishes begins reached
+      (numbers .terminals) (numbers .states)
+  asked-fronts h W = record { formulas-held = asked-formulas h; fronts-in = W }
+
   pub attributes-counted : BookReady numbers inherited synthesized rules definitions kernels goes vanishes begins reached starts closures table actions b
       → numbers .inherited ≡ length (b .inheritedOwners)
   attributes-counted h = counted b (h .numbers-are) .inherited-are
 
-  module _ {first : ℕ}
-      (p : Prepared first numbers inherited synthesized rules definitions kernels goes vanishes begins reached starts closures table actions b) where
+  module _ {first : ℕ} {fronts : List ℕ}
+      (p : Prepared first numbers inherited synthesized rules definitions kernels goes vanishes begins reached starts closures fronts table actions b) where
     pub checked-refused : (first ≡ 0 → ⊥)
         → Checked first numbers inherited synthesized rules definitions kernels goes vanishes begins reached starts closures table actions b
     checked-refused n = record { told = p .told ∙ sym (book-refusal b ∙ formulas-later (formulasRight b) (λ e. n (p .told ∙ e))); ready = λ z. absurd (n z) }

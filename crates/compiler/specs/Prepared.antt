@@ -16,6 +16,7 @@ use Rattle.book.specs.Counts.{countsOf}
 use Rattle.book.specs.Held.{Held}
 use Rattle.book.specs.HeldLaws.{kept-all, within-room}
 use Rattle.conditions.specs.AskedLaws.{counted}
+use Rattle.automaton.specs.Fronts.{FrontsIn}
 use Rattle.compiler.specs.States.{BookHeld, TablesIn, Tabled, tablesRefusal, kernels-refused}
 use Rattle.compiler.specs.Conditions.{BookKept, conditionsRefusal, Met, met}
 
@@ -47,20 +48,22 @@ pub record BookReady (numbers : Book) (inherited synthesized rules definitions k
   pub arrays-in : Held b inherited synthesized rules definitions kernels goes
   pub tables-in : TablesIn b vanishes begins reached starts closures table actions
 
--- the refusal r is told, and the book is ready where there is none
+-- the refusal r is told, and the book is ready where there is none, with the rules of each state's closure
 pub record Prepared (r : ℕ) (numbers : Book) (inherited synthesized rules definitions kernels goes : List ℕ)
-    (vanishes begins reached starts closures table actions : List ℕ) (b : Lines) : Type 0 where
+    (vanishes begins reached starts closures fronts table actions : List ℕ) (b : Lines) : Type 0 where
   pub told : r ≡ preparedRefusal b
   pub ready : r ≡ 0 → BookReady numbers inherited synthesized rules definitions kernels goes vanishes begins reached starts closures table actions b
+  pub fronts-in : r ≡ 0 → FrontsIn b rules closures fronts
 
 module _ {numbers : Book} {inherited synthesized rules definitions kernels goes : List ℕ} {b : Lines}
     (h : BookKept numbers inherited synthesized rules definitions kernels goes b) {first : ℕ} (told : first ≡ conditionsRefusal b) where
   -- one of 3 to 6 applies
-  pub prepared-refused : {vanishes begins reached starts closures table actions : List ℕ} → (first ≡ 0 → ⊥)
-      → Prepared first numbers inherited synthesized rules definitions kernels goes vanishes begins reached starts closures table actions b
+  pub prepared-refused : {vanishes begins reached starts closures fronts table actions : List ℕ} → (first ≡ 0 → ⊥)
+      → Prepared first numbers inherited synthesized rules definitions kernels goes vanishes begins reached starts closures fronts table actions b
   prepared-refused n = record {
     told = sym (orElse-some (tablesRefusal b) (λ e. n (told ∙ e)) ∙ sym told);
     ready = λ z. absurd (n z);
+    fronts-in = λ z. absurd (n z);
   }
 
   module _ (none : first ≡ 0) where
@@ -96,9 +99,9 @@ module _ {numbers : Book} {inherited synthesized rules definitions kernels goes 
         go true e = kernelRules-decides (well-named (h .ordered) (all-met .limits) (all-met .names)) .sound e
         go false e = absurd (omega (arith, sym (kernels-refused b e) ∙ z))
 
-    pub prepared-tables : {r : ℕ} {vanishes begins reached starts closures table actions : List ℕ}
-        → Tabled b r vanishes begins reached starts closures table actions
-        → Prepared r numbers inherited synthesized rules definitions kernels goes vanishes begins reached starts closures table actions b
+    pub prepared-tables : {r : ℕ} {vanishes begins reached starts closures fronts table actions : List ℕ}
+        → Tabled b r rules vanishes begins reached starts closures fronts table actions
+        → Prepared r numbers inherited synthesized rules definitions kernels goes vanishes begins reached starts closures fronts table actions b
     prepared-tables t = record {
       told = t .told ∙ sym (orElse-none (tablesRefusal b) (sym told ∙ none));
       ready = λ z. record {
@@ -109,6 +112,7 @@ module _ {numbers : Book} {inherited synthesized rules definitions kernels goes 
         arrays-in = arrays-all;
         tables-in = t .filled z;
       };
+      fronts-in = t .fronts-in;
     }
 
 -- opens every definition of this module

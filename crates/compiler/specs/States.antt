@@ -127,10 +127,11 @@ tables-room {room} {numbers} {closures = closures} fit t =
     enough : numbers .states ≤ MAX-STATES → numbers .states ≤ room .states
     enough = states-enough fit (t .states-few)
 
--- the refusal r is told, and the arrays are filled where there is none
-pub record Tabled (b : Book) (r : ℕ) (vanishes begins reached starts closures table actions : List ℕ) : Type 0 where
+-- the refusal r is told, and the arrays are filled where there is none, with the rules of each state's closure
+pub record Tabled (b : Book) (r : ℕ) (rules vanishes begins reached starts closures fronts table actions : List ℕ) : Type 0 where
   pub told : r ≡ tablesRefusal b
   pub filled : r ≡ 0 → TablesIn b vanishes begins reached starts closures table actions
+  pub fronts-in : r ≡ 0 → FrontsIn b rules closures fronts
 
 -- ---- what the functions over these arrays ask
 
@@ -202,26 +203,32 @@ module _ (b : Book) where
 
 -- ---- the answer, by what the steps told
 
-module _ {b : Book} {vanishes begins reached starts closures table actions : List ℕ} {k : Bool} (k-is : k ≡ kernelRules b) where
-  pub tabled-kernels : k ≡ false → Tabled b 7 vanishes begins reached starts closures table actions
-  tabled-kernels f = record { told = sym (kernels-refused b (sym k-is ∙ f)); filled = λ z. absurd (omega arith) }
+module _ {b : Book} {rules vanishes begins reached starts closures fronts table actions : List ℕ} {k : Bool} (k-is : k ≡ kernelRules b) where
+  pub tabled-kernels : k ≡ false → Tabled b 7 rules vanishes begins reached starts closures fronts table actions
+  tabled-kernels f = record { told = sym (kernels-refused b (sym k-is ∙ f)); filled = λ z. absurd (omega arith); fronts-in = λ z. absurd (omega arith) }
 
   module _ (k-right : k ≡ true) {g : Bool} (g-is : g ≡ goesRight b) where
-    pub tabled-goes : g ≡ false → Tabled b 8 vanishes begins reached starts closures table actions
-    tabled-goes f = record { told = sym (goes-refused b (sym k-is ∙ k-right) (sym g-is ∙ f)); filled = λ z. absurd (omega arith) }
+    pub tabled-goes : g ≡ false → Tabled b 8 rules vanishes begins reached starts closures fronts table actions
+    tabled-goes f = record {
+      told = sym (goes-refused b (sym k-is ∙ k-right) (sym g-is ∙ f));
+      filled = λ z. absurd (omega arith);
+      fronts-in = λ z. absurd (omega arith);
+    }
 
     module _ (g-right : g ≡ true) {a : Bool} (acted : Acted b (setsOf (b .rules)) actions a) where
-      pub tabled-acts : a ≡ false → Tabled b 9 vanishes begins reached starts closures table actions
+      pub tabled-acts : a ≡ false → Tabled b 9 rules vanishes begins reached starts closures fronts table actions
       tabled-acts f = record {
         told = sym (acts-refused b (sym k-is ∙ k-right) (sym g-is ∙ g-right) (sym (acted .told) ∙ f));
         filled = λ z. absurd (omega arith);
+        fronts-in = λ z. absurd (omega arith);
       }
 
       pub tabled-all : a ≡ true → ItemsFilled b vanishes begins reached closures → StartsIn (b .kernels) (b .states) starts → GoTableIn b table
-          → Tabled b 0 vanishes begins reached starts closures table actions
-      tabled-all t I T G = record {
+          → FrontsIn b rules closures fronts → Tabled b 0 rules vanishes begins reached starts closures fronts table actions
+      tabled-all t I T G W = record {
         told = sym (none-refused b (sym k-is ∙ k-right) (sym g-is ∙ g-right) (sym (acted .told) ∙ t));
         filled = λ z. record { items-filled = I; starts-in = T; table-in = G; actions-in = acted .table t };
+        fronts-in = λ z. W;
       }
 
 -- opens every definition of this module

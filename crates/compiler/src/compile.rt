@@ -5,14 +5,14 @@ ghost use mathlib.Core.List.{List};
 ghost use Prim.Native.Nat.{ℕ, _*_};
 ghost use lib.ListN.{length};
 ghost use Rattle.text.specs.Reading.{Lent};
-ghost use Rattle.grammar.specs.Limits.{MAX-INHERITED};
+ghost use Rattle.grammar.specs.Limits.{MAX-INHERITED, MAX-STATES};
 ghost use Rattle.grammar.specs.Data.Book.{Book as Lines};
 ghost use Rattle.definitions.specs.Expressions.{WaitsRoom};
 ghost use Rattle.book.specs.Held.{OwnersIn};
 ghost use Rattle.book.specs.Spelling.{arrays, Roomy};
 ghost use Rattle.conditions.specs.Answers.{Some};
 ghost use Rattle.formulas.specs.Table.{ROOM};
-ghost use Rattle.agreement.specs.OneFormula.{FormulasHeld, formulasRight};
+ghost use Rattle.agreement.specs.OneFormula.{FrontsHeld, formulasRight};
 ghost use Rattle.compiler.specs.States.{TablesRoom, TablesLent};
 ghost use Rattle.compiler.specs.Conditions.{BookKept, conditionsRefusal};
 ghost use Rattle.compiler.specs.Prepared.{Prepared};
@@ -80,16 +80,18 @@ fn prepare(
     reached: &mut [u32],
     starts: &mut [u32],
     lookaheads: &mut [u32],
+    fronts: &mut [u64],
     table: &mut [u8],
     cells: &mut [u8],
 ) -> u32
     requires { ⌜ Some (BookKept book (now inherited) (now synthesized) (now rules) (now definitions) (now kernels) (now goes)) ⌝ }
-    requires { ⌜ TablesRoom (book .states) (now vanishes) (now begins) (now reached) (now starts) (now lookaheads) (now table) (now cells) ⌝ }
+    requires { ⌜ TablesRoom (book .states) (now vanishes) (now begins) (now reached) (now starts) (now lookaheads) (now table) (now cells)
+        × (length (now fronts) ≡ MAX-STATES) ⌝ }
     ensures { λ r. ⌜ ((b : Lines) → BookKept book (now (inherited .entry)) (now (synthesized .entry)) (now (rules .entry)) (now (definitions .entry))
         (now (kernels .entry)) (now (goes .entry)) b
         → Prepared r book (now (inherited .entry)) (now (synthesized .entry)) (now (rules .entry)) (now (definitions .entry)) (now (kernels .entry))
         (now (goes .entry)) (now (vanishes .exit)) (now (begins .exit)) (now (reached .exit)) (now (starts .exit)) (now (lookaheads .exit))
-        (now (table .exit)) (now (cells .exit)) b) ⌝ }
+        (now (fronts .exit)) (now (table .exit)) (now (cells .exit)) b) ⌝ }
 {
     let first = conditions(
         book,
@@ -117,6 +119,7 @@ fn prepare(
         reached,
         starts,
         lookaheads,
+        fronts,
         table,
         cells,
     )
@@ -132,26 +135,26 @@ fn formulas_right(
     kernels: &[u32],
     starts: &[u32],
     lookaheads: &[u32],
+    fronts: &[u64],
     vanishes: &[u32],
     reached: &[u32],
     nodes: &mut [u32],
 ) -> bool
-    requires { ⌜ ((b : Lines) × (begins : List ℕ) × FormulasHeld b (now rules) (book .rules) (now definitions) (book .«inherited_definitions») (now kernels)
-        (now starts) (now lookaheads) (now vanishes) begins (now reached) (book .terminals) (book .states)
+    requires { ⌜ ((b : Lines) × (begins : List ℕ) × FrontsHeld b (now rules) (book .rules) (now definitions) (book .«inherited_definitions») (now kernels)
+        (now starts) (now lookaheads) (now fronts) (now vanishes) begins (now reached) (book .terminals) (book .states)
         × OwnersIn MAX-INHERITED (b .inheritedOwners) (now inherited) × (book .inherited ≡ length (b .inheritedOwners))) ⌝ }
     requires { ⌜ length (now nodes) ≡ 4 * ROOM ⌝ }
-    ensures { λ r. ⌜ ((b : Lines) (begins : List ℕ) → FormulasHeld b (now (rules .entry)) (book .rules) (now (definitions .entry))
-        (book .«inherited_definitions») (now (kernels .entry)) (now (starts .entry)) (now (lookaheads .entry)) (now (vanishes .entry)) begins
-        (now (reached .entry)) (book .terminals) (book .states)
+    ensures { λ r. ⌜ ((b : Lines) (begins : List ℕ) → FrontsHeld b (now (rules .entry)) (book .rules) (now (definitions .entry))
+        (book .«inherited_definitions») (now (kernels .entry)) (now (starts .entry)) (now (lookaheads .entry)) (now (fronts .entry))
+        (now (vanishes .entry)) begins (now (reached .entry)) (book .terminals) (book .states)
         → OwnersIn MAX-INHERITED (b .inheritedOwners) (now (inherited .entry)) → book .inherited ≡ length (b .inheritedOwners) → r ≡ formulasRight b) ⌝ }
 {
     if all_single(
-        rules,
         definitions,
         book.inherited_definitions,
         kernels,
         starts,
-        lookaheads,
+        fronts,
         book.states,
     ) {
         return true;
@@ -167,6 +170,7 @@ fn formulas_right(
         kernels,
         starts,
         lookaheads,
+        fronts,
         vanishes,
         reached,
         book.terminals,
@@ -203,6 +207,7 @@ fn check(
         (now (goes .entry)) (now (vanishes .exit)) (now (begins .exit)) (now (reached .exit)) (now (starts .exit)) (now (lookaheads .exit))
         (now (table .exit)) (now (cells .exit)) b) ⌝ }
 {
+    let mut fronts = [0u64; 128];
     let first = prepare(
         book,
         inherited,
@@ -216,6 +221,7 @@ fn check(
         reached,
         starts,
         lookaheads,
+        &mut fronts,
         table,
         cells,
     );
@@ -230,6 +236,7 @@ fn check(
         kernels,
         starts,
         lookaheads,
+        &fronts,
         vanishes,
         reached,
         nodes,

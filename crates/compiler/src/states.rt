@@ -3,7 +3,7 @@
 ghost use mathlib.Core.Path.{_≡_};
 ghost use Prim.Native.Nat.{_*_, _≤_};
 ghost use lib.ListN.{length};
-ghost use Rattle.grammar.specs.Limits.{MAX-RULES};
+ghost use Rattle.grammar.specs.Limits.{MAX-RULES, MAX-STATES};
 ghost use Rattle.grammar.specs.Data.Book.{Book};
 ghost use Rattle.grammar.specs.Automaton.FirstSets.{setsOf};
 ghost use Rattle.grammar.specs.Automaton.StatesCheck.{kernelRules};
@@ -118,14 +118,16 @@ pub fn tables(
     reached: &mut [u32],
     starts: &mut [u32],
     lookaheads: &mut [u32],
+    fronts: &mut [u64],
     table: &mut [u8],
     cells: &mut [u8],
 ) -> u32
     requires { ⌜ ((b : Book) × BookHeld b (now rules) count (now kernels) items (now goes) lines terminals states) ⌝ }
-    requires { ⌜ TablesRoom states (now vanishes) (now begins) (now reached) (now starts) (now lookaheads) (now table) (now cells) ⌝ }
+    requires { ⌜ TablesRoom states (now vanishes) (now begins) (now reached) (now starts) (now lookaheads) (now table) (now cells)
+        × (length (now fronts) ≡ MAX-STATES) ⌝ }
     ensures { λ r. ⌜ ((b : Book) → BookHeld b (now (rules .entry)) count (now (kernels .entry)) items (now (goes .entry)) lines terminals states
-        → Tabled b r (now (vanishes .exit)) (now (begins .exit)) (now (reached .exit)) (now (starts .exit)) (now (lookaheads .exit)) (now (table .exit))
-        (now (cells .exit))) ⌝ }
+        → Tabled b r (now (rules .entry)) (now (vanishes .exit)) (now (begins .exit)) (now (reached .exit)) (now (starts .exit))
+        (now (lookaheads .exit)) (now (fronts .exit)) (now (table .exit)) (now (cells .exit))) ⌝ }
 {
     if !kernel_states(rules, kernels, items, states, starts) {
         return 7;
@@ -141,14 +143,7 @@ pub fn tables(
         reached,
         lookaheads,
     );
-    let mut fronts = [0u64; 128];
-    fill_fronts(
-        rules,
-        count as usize,
-        lookaheads,
-        states as usize,
-        &mut fronts,
-    );
+    fill_fronts(rules, count as usize, lookaheads, states as usize, fronts);
     if !moves(
         rules,
         kernels,
@@ -157,7 +152,7 @@ pub fn tables(
         states,
         starts,
         lookaheads,
-        &fronts,
+        fronts,
         table,
     ) {
         return 8;
@@ -167,7 +162,7 @@ pub fn tables(
         kernels,
         starts,
         lookaheads,
-        &fronts,
+        fronts,
         terminals,
         states,
         cells,

@@ -1,37 +1,34 @@
--- `givers::give` meets its contract: the item's word has the attribute, and that of the left side if the dot is in front.
+-- `givers::give` meets its contract: the item's word has the attribute, and the rule is a leader if the dot is in front.
 -- Assumes nothing.
 use Prim.Native.Nat.{_-_, _≤_, _<_, _+_, _*_}
 use mathlib.Core.Path.{refl}
 use native.Mathlib.Omega.{arith}
-use lib.ListN.{length-set, getD}
+use lib.Dec.{lit<}
+use lib.ListN.{getD}
+use lib.Pow.{shl-exact}
 use borrow.Author.Needs.{needs}
-use Rattle.attributes.specs.CheckingLaws.{rule-low, position-low, position-high, attribute-low, left-below}
+use Rattle.attributes.specs.CheckingLaws.{rule-low, position-low, position-high, attribute-low}
 use Rattle.agreement.specs.Given.{given-behind, given-front}
 use Rattle.agreement.proofs.givers.give.Statement.{statement}
 use Rattle.agreement.proofs.givers.give.Tie as tie
 
 -- the entry, as the place after the rule and the position are read knows it
 abbrev entry : tie.After-word2 → tie.Start
-entry c = c .before .before .before .before .before
+entry c = c .before .before .before .before
 
 -- What is known there
 
 rule : (c : tie.After-word2) → c .before .word .result < 64
-rule c = omega (arith, c .before .word .ensures, rule-low (entry c .pre .0 .3) (entry c .pre .0 .4))
+rule c = omega (arith, c .before .word .ensures, rule-low (entry c .pre .0 .4) (entry c .pre .0 .5))
 
 low : (c : tie.After-word2) → 1 ≤ c .word2 .result
-low c = omega (arith, c .word2 .ensures, position-low (entry c .pre .0 .3) (entry c .pre .0 .4))
+low c = omega (arith, c .word2 .ensures, position-low (entry c .pre .0 .4) (entry c .pre .0 .5))
 
 high : (c : tie.After-word2) → c .word2 .result ≤ 8
-high c = omega (arith, c .word2 .ensures, position-high (entry c .pre .0 .3) (entry c .pre .0 .4))
+high c = omega (arith, c .word2 .ensures, position-high (entry c .pre .0 .4) (entry c .pre .0 .5))
 
 attribute : (c : tie.After-word2) → getD (entry c .args .definitions .now) (49 * entry c .args .line + 2) 0 < 16
-attribute c = attribute-low (entry c .pre .0 .3) (entry c .pre .0 .4)
-
-left : (c : tie.After-word3) → c .word3 .result < 32
-left c =
-    let w = c .before .before .before .before .before in
-    rw (c .word3 .ensures, w .before .word .ensures) (left-below (entry w .pre .0 .3) (entry w .pre .0 .4))
+attribute c = attribute-low (entry c .pre .0 .4) (entry c .pre .0 .5)
 
 -- Needs
 
@@ -91,45 +88,24 @@ same-length c = search needs
 
 returns : tie.Need-returns
 returns c =
-    λ b owned masks H l G.
+    λ b rules owned masks H l G.
     let v = c .before in
     let w = v .before .before .before in
     given-behind H l G (w .before .word .ensures) (w .word2 .ensures) refl (v .with .ensures) (c .if1 .taken)
 
-mul-word-3 : tie.Need-mul-word-3
-mul-word-3 c = omega (arith, rule (c .before .before .before .before))
-
-word-requires-3 : tie.Need-word-requires-3
-word-requires-3 c κs = let w = c .before .before .before .before in omega (arith, rule w, entry w .pre .0 .3 .rules-in .long)
-
-add-front : tie.Need-add-front
-add-front c = omega (arith, left c)
-
-mul-again : tie.Need-mul-again
-mul-again c = omega (arith, left c)
-
-slice-read-again : tie.Need-slice-read-again
-slice-read-again c = simp length-set (omega (arith, left (c .before), entry (c .before .before .before .before .before .before) .pre .1))
-
-again-requires : tie.Need-again-requires
-again-requires c κs = attribute (c .before .before .before .before .before .before)
-
-mul-given-2 : tie.Need-mul-given-2
-mul-given-2 c = omega (arith, left (c .before .before))
-
-slice-write-given-2 : tie.Need-slice-write-given-2
-slice-write-given-2 c = simp length-set (omega (arith, left (c .before .before), entry (c .before .before .before .before .before .before .before) .pre .1))
+shl-result : tie.Need-shl-result
+shl-result c = omega (arith, rule (c .before .before .before .before))
 
 same-length-2 : tie.Need-same-length-2
 same-length-2 c = search needs
 
 returns-2 : tie.Need-returns-2
 returns-2 c =
-    λ b owned masks H l G.
-    let f = c .before .before in
-    let v = f .before .before in
+    λ b rules owned masks H l G.
+    let v = c .before in
     let w = v .before .before .before in
-    given-front H l G (w .before .word .ensures) (w .word2 .ensures) refl (v .with .ensures) (f .word3 .ensures) (c .again .ensures)
+    let one = shl-exact {a = 1} 1 (w .before .word .result) 64 (lit< tt) (omega (arith, rule w)) in
+    given-front H l G (w .before .word .ensures) (w .word2 .ensures) refl (v .with .ensures) (omega (arith, one))
 
 pub give-spec : {M : Type 1} → statement M
 give-spec =
@@ -154,13 +130,6 @@ give-spec =
     slice-write-given
     same-length
     returns
-    mul-word-3
-    word-requires-3
-    add-front
-    mul-again
-    slice-read-again
-    again-requires
-    mul-given-2
-    slice-write-given-2
+    shl-result
     same-length-2
     returns-2)

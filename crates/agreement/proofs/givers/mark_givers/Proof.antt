@@ -14,21 +14,21 @@ use Rattle.agreement.proofs.givers.mark_givers.Statement.{statement}
 use Rattle.agreement.proofs.givers.mark_givers.Tie as tie
 
 abbrev Inv-loop : tie.InvT-loop
-Inv-loop definitions lines rules given₀ i₀ given i =
+Inv-loop definitions lines given₀ leaders₀ i₀ given leaders i =
     (i ≤ lines) × (length given ≡ length given₀)
-    × ((b : Book) (owned masks : List ℕ) → CheckHeld b definitions rules owned masks → lines ≡ grammar.definitions b → GivenIn b i given)
+    × ((b : Book) (rules owned masks : List ℕ) → CheckHeld b definitions rules owned masks → lines ≡ grammar.definitions b → GivenIn b i given leaders)
 
 abbrev μ-loop : tie.MeasureT-loop
-μ-loop definitions lines rules given₀ i₀ given i = lines - i
+μ-loop definitions lines given₀ leaders₀ i₀ given leaders i = lines - i
 
 loop-holds : tie.Need-loop-holds Inv-loop μ-loop
-loop-holds c = (omega arith, refl, λ b owned masks H e. given-none b (c .before .before .before .pre .1))
+loop-holds c = (omega arith, refl, λ b rules owned masks H e. given-none b _ (c .before .before .pre .1))
 
 mark-giver-requires : tie.Need-mark-giver-requires Inv-loop μ-loop
 mark-giver-requires c κs =
-    let g = c .before .before .before .before .before .before .pre .0 in
+    let g = c .before .before .before .before .before .pre .0 in
     let at = c .before .before .loop in
-    ((g .0, g .1, g .2, g .3, omega (arith, c .before .loop-test .taken, g .4)), at .inv .2 (g .0) (g .1) (g .2) (g .3) (g .4) .long)
+    ((g .0, g .1, g .2, g .3, g .4, omega (arith, c .before .loop-test .taken, g .5)), at .inv .2 (g .0) (g .1) (g .2) (g .3) (g .4) (g .5) .long)
 
 add-i : tie.Need-add-i Inv-loop μ-loop
 add-i c = search needs
@@ -42,7 +42,8 @@ loop-again c =
     let at = t .before .loop in (
       omega (arith, t .loop-test .taken),
       search needs,
-      λ b owned masks H e. c .before .before .mark-giver .ensures b owned masks H (omega (arith, t .loop-test .taken, e)) (at .inv .2 b owned masks H e),
+      λ b rules owned masks H e.
+          c .before .before .mark-giver .ensures b rules owned masks H (omega (arith, t .loop-test .taken, e)) (at .inv .2 b rules owned masks H e),
     )
 
 same-length : tie.Need-same-length Inv-loop μ-loop
@@ -50,10 +51,10 @@ same-length c = c .before .loop .inv .1
 
 returns : tie.Need-returns Inv-loop μ-loop
 returns c =
-    λ b owned masks H e.
+    λ b rules owned masks H e.
     let at = c .before .loop in
     let end : at .i ≡ grammar.definitions b = omega (arith, at .inv .0, c .loop-test .left, e) in
-    rw end at (at .inv .2 b owned masks H e)
+    rw end at (at .inv .2 b rules owned masks H e)
 
 pub mark-givers-spec : {M : Type 1} → statement M
 mark-givers-spec =

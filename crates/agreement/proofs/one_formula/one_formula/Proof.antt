@@ -9,15 +9,15 @@ use Rattle.agreement.proofs.one_formula.one_formula.Tie as tie
 
 -- the entry, as the place after the attributes' owners are read knows it
 abbrev entry : tie.After-owned → tie.Start
-entry c = c .before .before .before .before .before .before .before .before .before .before .before .before
+entry c = c .before .before .before .before .before .before .before .before .before .before .before .before .before
 
 slice-aggregate-owned : tie.Need-slice-aggregate-owned
 slice-aggregate-owned c = search needs
 
 owned-requires : tie.Need-owned-requires
 owned-requires c κs =
-    let g = c .before .before .before .before .before .before .before .before .before .before .before .pre .0 in
-    ((g .0 .inheritedOwners, g .3, sym (g .4), λ K l. owner-low (g .2) K (omega (arith, l, g .4))), refl)
+    let g = c .before .before .before .before .before .before .before .before .before .before .before .before .pre .0 in
+    ((g .0 .inheritedOwners, g .3, sym (g .4), λ K l. owner-low (g .2 .formulas-held) K (omega (arith, l, g .4))), refl)
 
 slice-aggregate-mark-givers : tie.Need-slice-aggregate-mark-givers
 slice-aggregate-mark-givers c = search needs
@@ -25,7 +25,8 @@ slice-aggregate-mark-givers c = search needs
 mark-givers-requires : tie.Need-mark-givers-requires
 mark-givers-requires c κs =
     let g = entry (c .before .before) .pre .0 in
-    ((g .0, held-lines (g .2) .0, _, held-lines (g .2) .1, g .2 .definitions-counted), refl)
+    let H = g .2 .formulas-held in
+    ((g .0, _, held-lines H .0, _, held-lines H .1, H .definitions-counted), refl)
 
 slice-aggregate-states-right : tie.Need-slice-aggregate-states-right
 slice-aggregate-states-right c = search needs
@@ -51,8 +52,9 @@ states-right-requires c κs =
     let o = m .before .before .before in
     let s = entry o in
     let g = s .pre .0 in
+    let H = g .2 .formulas-held in
     let sets = owned-all (g .4) (o .owned .ensures (g .0 .inheritedOwners) (g .3) (sym (g .4))) in (
-      (g .0, g .1, g .2, sets, m .mark-givers .ensures (g .0) _ _ (held-lines (g .2) .1) (g .2 .definitions-counted)),
+      (g .0, g .1, g .2, sets, m .mark-givers .ensures (g .0) _ _ _ (held-lines H .1) (H .definitions-counted)),
       refl,
       record { words-long = refl; marks-long = refl; table-long = s .pre .1; heads-long = refl; nexts-long = s .pre .2 },
     )
@@ -64,11 +66,12 @@ same-length-2 : tie.Need-same-length-2
 same-length-2 c = search needs
 
 returns : tie.Need-returns
-returns c = λ b firsts H I e.
+returns c = λ b firsts W I e.
+    let H = W .formulas-held in
     let v = c .before .before .before .before .before .before .before .before in
     let m = v .before .before .before .before .before .before .before .before .before .before in
     let sets = owned-all e (m .before .before .before .owned .ensures (b .inheritedOwners) I (sym e)) in
-    v .states-right .ensures b firsts H sets (m .mark-givers .ensures b _ _ (held-lines H .1) (H .definitions-counted)) ∙ states-told H
+    v .states-right .ensures b firsts W sets (m .mark-givers .ensures b _ _ _ (held-lines H .1) (H .definitions-counted)) ∙ states-told H
 
 pub one-formula-spec : {M : Type 1} → statement M
 one-formula-spec =

@@ -9,7 +9,7 @@ use Rattle.agreement.proofs.one_formula.state_right.Tie as tie
 
 -- the entry, as the places where the state is tested and where the sets are made know it
 abbrev start : tie.After-slice-known6 → tie.Start
-start c = c .before .before .before .before .before .before .before .before .before .before .before .before .before .before .before
+start c = c .before .before .before .before .before .before .before .before .before .before .before .before .before .before .before .before
 
 abbrev entry : tie.After-masks-arg → tie.Start
 entry c = start (c .before .before .before)
@@ -17,29 +17,33 @@ entry c = start (c .before .before .before)
 single-requires : tie.Need-single-requires
 single-requires c κs =
     let g = start c .pre .0 in
-    ((g .0, _, g .3 .marks-held .items-in, omega (arith, g .6, g .3 .states-are)), g .5 .long)
+    let H = g .3 .formulas-held in
+    ((g .0, _, _, H .marks-held .items-in, g .3 .fronts-in, omega (arith, g .6, H .states-are)), g .5 .long)
 
 returns : tie.Need-returns
-returns c = λ b firsts states H O L l.
+returns c = λ b firsts states W O L l.
+    let H = W .formulas-held in
     let v = c .before in
     state-single H (start (v .before) .args .state)
-    (v .single .ensures (c .if1 .taken) b _ (H .ordered) (H .marks-held .items-in) L (omega (arith, l, H .states-are)))
+    (v .single .ensures (c .if1 .taken) b _ _ (H .ordered) (H .marks-held .items-in) (W .fronts-in) L (omega (arith, l, H .states-are)))
 
 masks-requires : tie.Need-masks-requires
 masks-requires c κs =
     let s = entry c in
     let g = s .pre .0 in
-    (g .0, g .1, _, g .3 .marks-held, held-check (g .3) (g .4) (s .pre .1), g .3 .definitions-counted, omega (arith, g .6, g .3 .states-are))
+    let H = g .3 .formulas-held in
+    (g .0, g .1, _, H .marks-held, held-check H (g .4) (s .pre .1), H .definitions-counted, omega (arith, g .6, H .states-are))
 
 check-state-requires : tie.Need-check-state-requires
 check-state-requires c κs =
     let m = c .before .before .before .before .before .before .before .before in
     let s = entry (m .before) in
     let g = s .pre .0 in
-    let C = held-check (g .3) (g .4) (s .pre .1) in
-    let M = m .masks .ensures (g .0) (g .1) _ (g .3 .marks-held) C (g .3 .definitions-counted) (omega (arith, g .6, g .3 .states-are)) in (
-      (g .0, held-check (g .3) (g .4) (M .long), g .3 .definitions-counted),
-      terminals-low (g .3),
+    let H = g .3 .formulas-held in
+    let C = held-check H (g .4) (s .pre .1) in
+    let M = m .masks .ensures (g .0) (g .1) _ (H .marks-held) C (H .definitions-counted) (omega (arith, g .6, H .states-are)) in (
+      (g .0, held-check H (g .4) (M .long), H .definitions-counted),
+      terminals-low H,
       s .pre .2,
     )
 
@@ -62,7 +66,8 @@ same-length-6 : tie.Need-same-length-6
 same-length-6 c = search needs
 
 returns-2 : tie.Need-returns-2
-returns-2 c = λ b firsts states H O L l.
+returns-2 c = λ b firsts states W O L l.
+    let H = W .formulas-held in
     let v = c .before .before .before .before .before .before .before .before .before .before in
     let m = v .before .before .before .before .before .before .before .before .before in
     let s = entry (m .before) in

@@ -14,27 +14,27 @@ use Rattle.grammar.specs.Formulas.FormulaCheck as grammar
 use Rattle.attributes.specs.Owned.{OwnedIn}
 use Rattle.agreement.specs.Given.{GivenIn}
 use Rattle.agreement.specs.CheckLaws.{all-start, all-turn, one-fails}
-use Rattle.agreement.specs.OneFormula.{FormulasHeld, stateRight, states-low}
+use Rattle.agreement.specs.OneFormula.{FrontsHeld, stateRight, states-low}
 use Rattle.agreement.proofs.one_formula.states_right.Statement.{statement}
 use Rattle.agreement.proofs.one_formula.states_right.Tie as tie
 
 abbrev Inv-loop : tie.InvT-loop
-Inv-loop rules count definitions lines owned given kernels starts closures nulls reaches terminals states sets₀ slots₀ done₀ table₀ heads₀ nexts₀
+Inv-loop rules count definitions lines owned given leaders kernels starts closures fronts nulls reaches terminals states sets₀ slots₀ done₀ table₀ heads₀ nexts₀
     n state₀ sets slots done table heads nexts state =
     (state ≤ states) × (length sets ≡ length sets₀) × (length slots ≡ length slots₀) × (length done ≡ length done₀)
     × (length table ≡ length table₀) × (length heads ≡ length heads₀) × (length nexts ≡ length nexts₀)
-    × ((b : Book) (firsts : List ℕ) → FormulasHeld b rules count definitions lines kernels starts closures nulls firsts reaches terminals states
-    → OwnedIn (b .inheritedOwners) (attributes b) owned → GivenIn b (grammar.definitions b) given → allBelow state (stateRight b) ≡ true)
+    × ((b : Book) (firsts : List ℕ) → FrontsHeld b rules count definitions lines kernels starts closures fronts nulls firsts reaches terminals states
+    → OwnedIn (b .inheritedOwners) (attributes b) owned → GivenIn b (grammar.definitions b) given leaders → allBelow state (stateRight b) ≡ true)
 
 abbrev μ-loop : tie.MeasureT-loop
-μ-loop rules count definitions lines owned given kernels starts closures nulls reaches terminals states sets₀ slots₀ done₀ table₀ heads₀ nexts₀
+μ-loop rules count definitions lines owned given leaders kernels starts closures fronts nulls reaches terminals states sets₀ slots₀ done₀ table₀ heads₀ nexts₀
     n state₀ sets slots done table heads nexts state =
     states - state
 
 -- Places: the entry, and the turn whose state was checked
 
 abbrev entry : tie.At-loop Inv-loop μ-loop → tie.Start Inv-loop μ-loop
-entry c = c .before .before .before .before .before .before .before .before .before .before .before .before .before .before .before .before
+entry c = c .before .before .before .before .before .before .before .before .before .before .before .before .before .before .before .before .before
 
 abbrev turn : tie.After-state-right Inv-loop μ-loop → tie.In-loop Inv-loop μ-loop
 turn c = c .before .before .before .before .before .before .before
@@ -80,13 +80,13 @@ returns : tie.Need-returns Inv-loop μ-loop
 returns c = λ b firsts H O L.
     let v = c .before .before .before .before .before .before .before .before .before .before .before .before .before in
     let l = turn v .before in
-    one-fails (stateRight b) (l .loop .state) _ (omega (arith, turn v .loop-test .taken, H .states-are))
+    one-fails (stateRight b) (l .loop .state) _ (omega (arith, turn v .loop-test .taken, H .formulas-held .states-are))
     (v .state-right .ensures b firsts (entry l .args .states) H O L (turn v .loop-test .taken)) (c .if1 .taken)
 
 add-state : tie.Need-add-state Inv-loop μ-loop
 add-state c =
     let t = turn (c .before .before .before .before .before .before .before .before .before .before .before .before .before) in
-    omega (arith, t .loop-test .taken, states-low (entry (t .before) .pre .0 .2))
+    omega (arith, t .loop-test .taken, states-low (entry (t .before) .pre .0 .2 .formulas-held))
 
 loop-less : tie.Need-loop-less Inv-loop μ-loop
 loop-less c = search needs
@@ -128,7 +128,7 @@ same-length-12 c = c .before .loop .inv .6
 returns-2 : tie.Need-returns-2 Inv-loop μ-loop
 returns-2 c = λ b firsts H O L.
     let at = c .before .loop in
-    let end : at .state ≡ b .states = omega (arith, at .inv .0, c .loop-test .left, H .states-are) in
+    let end : at .state ≡ b .states = omega (arith, at .inv .0, c .loop-test .left, H .formulas-held .states-are) in
     sym (rw end at (at .inv .7 b firsts H O L))
 
 pub states-right-spec : {M : Type 1} → statement M

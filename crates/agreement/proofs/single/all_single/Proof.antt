@@ -11,8 +11,9 @@ slice-aggregate-mark-givers c = search needs
 
 mark-givers-requires : tie.Need-mark-givers-requires
 mark-givers-requires c κs =
-    let (b, count, nulls, firsts, reaches, terminals, H) = c .before .before .before .before .before .before .pre in
-    ((b, held-lines H .0, _, held-lines H .1, H .definitions-counted), refl)
+    let (b, rules, count, closures, nulls, firsts, reaches, terminals, W) = c .before .before .before .before .before .pre in
+    let H = W .formulas-held in
+    ((b, rules, held-lines H .0, _, held-lines H .1, H .definitions-counted), refl)
 
 slice-aggregate-states-single : tie.Need-slice-aggregate-states-single
 slice-aggregate-states-single c = search needs
@@ -22,10 +23,11 @@ states-single-requires c κs = search needs
 
 returns : tie.Need-returns
 returns c =
-    λ e b count nulls firsts reaches terminals H.
+    λ e b rules count closures nulls firsts reaches terminals W.
+    let H = W .formulas-held in
     let m = c .before .before .before in
-    let G = m .mark-givers .ensures b _ _ (held-lines H .1) (H .definitions-counted) in
-    states-single H (c .states-single .ensures e b _ (H .ordered) (H .marks-held .items-in) G (H .states-are))
+    let G = m .mark-givers .ensures b _ _ _ (held-lines H .1) (H .definitions-counted) in
+    states-single H (c .states-single .ensures e b _ _ (H .ordered) (H .marks-held .items-in) (W .fronts-in) G (H .states-are))
 
 pub all-single-spec : {M : Type 1} → statement M
 all-single-spec =

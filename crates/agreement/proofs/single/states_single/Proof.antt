@@ -13,27 +13,28 @@ use Rattle.grammar.specs.Automaton.FirstSets.{setsOf}
 use Rattle.grammar.specs.Automaton.TestLaws.{true-false}
 use Rattle.grammar.specs.Formulas.FormulaCheck as grammar
 use Rattle.automaton.specs.StatesIn.{ItemsIn}
+use Rattle.automaton.specs.Fronts.{FrontsIn}
 use Rattle.agreement.specs.Given.{GivenIn}
 use Rattle.agreement.specs.SingleState.{Single}
 use Rattle.agreement.proofs.single.states_single.Statement.{statement}
 use Rattle.agreement.proofs.single.states_single.Tie as tie
 
 abbrev Inv-loop : tie.InvT-loop
-Inv-loop kernels starts closures states given state₀ state =
+Inv-loop kernels starts fronts states given leaders state₀ state =
     (state ≤ states)
-    × ((b : Book) (rules : List ℕ) → Ordered b → ItemsIn b (setsOf (b .rules)) rules kernels starts closures → GivenIn b (grammar.definitions b) given
-    → states ≡ b .states → (S : ℕ) → S < state → Single b S)
+    × ((b : Book) (rules closures : List ℕ) → Ordered b → ItemsIn b (setsOf (b .rules)) rules kernels starts closures
+    → FrontsIn b rules closures fronts → GivenIn b (grammar.definitions b) given leaders → states ≡ b .states → (S : ℕ) → S < state → Single b S)
 
 abbrev μ-loop : tie.MeasureT-loop
-μ-loop kernels starts closures states given state₀ state = states - state
+μ-loop kernels starts fronts states given leaders state₀ state = states - state
 
 loop-holds : tie.Need-loop-holds Inv-loop μ-loop
-loop-holds c = (omega arith, λ b rules o I G e S l. absurd (omega arith))
+loop-holds c = (omega arith, λ b rules closures o I W G e S l. absurd (omega arith))
 
 single-requires : tie.Need-single-requires Inv-loop μ-loop
 single-requires c κs =
     let s = c .before .before .before .before .before .before .pre in
-    ((s .0 .0, s .0 .1, s .0 .2, omega (arith, c .loop-test .taken, s .0 .3)), s .1)
+    ((s .0 .0, s .0 .1, s .0 .2, s .0 .3, s .0 .4, omega (arith, c .loop-test .taken, s .0 .5)), s .1)
 
 returns : tie.Need-returns Inv-loop μ-loop
 returns c = λ e. true-false e refl
@@ -50,13 +51,13 @@ loop-again c =
     let t = v .before in
     let at = t .before .loop in (
       omega (arith, t .loop-test .taken),
-      λ b rules o I G e S l.
-          below-suc (Single b) (at .state) S (omega arith) (at .inv .1 b rules o I G e S)
-          (v .single .ensures (not-false _ (c .if1 .left)) b rules o I G (omega (arith, t .loop-test .taken, e))),
+      λ b rules closures o I W G e S l.
+          below-suc (Single b) (at .state) S (omega arith) (at .inv .1 b rules closures o I W G e S)
+          (v .single .ensures (not-false _ (c .if1 .left)) b rules closures o I W G (omega (arith, t .loop-test .taken, e))),
     )
 
 returns-2 : tie.Need-returns-2 Inv-loop μ-loop
-returns-2 c = λ _ b rules o I G e S l. c .before .loop .inv .1 b rules o I G e S (omega (arith, c .loop-test .left, e))
+returns-2 c = λ _ b rules closures o I W G e S l. c .before .loop .inv .1 b rules closures o I W G e S (omega (arith, c .loop-test .left, e))
 
 pub states-single-spec : {M : Type 1} → statement M
 states-single-spec =

@@ -1,5 +1,6 @@
 -- `compile::check` meets its contract: the formulas are asked of a book that is ready. Assumes nothing.
-use Rattle.compiler.specs.Compiling.{asked-formulas, attributes-counted, checked-refused, checked-formulas, checked-all}
+use Rattle.compiler.specs.Compiling.{asked-fronts, attributes-counted, checked-refused, checked-formulas, checked-all}
+use mathlib.Core.Path.{refl}
 use borrow.Author.Needs.{needs}
 use Rattle.compiler.proofs.compile.check.Statement.{statement}
 use Rattle.compiler.proofs.compile.check.Tie as tie
@@ -7,22 +8,30 @@ use Rattle.compiler.proofs.compile.check.Tie as tie
 -- from each call back to the one before
 
 abbrev lent-at : tie.After-prepare → tie.After-slice-known8
-lent-at c = c .before .before .before .before .before .before .before .before
+lent-at c = c .before .before .before .before .before .before .before .before .before
+
+abbrev entry : tie.After-slice-known8 → tie.Start
+entry c = c .before .before .before .before .before .before .before .before .before .before .before .before .before .before
 
 abbrev start : tie.After-prepare → tie.Start
-start c = lent-at c .before .before .before .before .before .before .before .before .before .before .before .before .before .before
+start c = entry (lent-at c)
 
 abbrev prepared-of : tie.After-slice-known15 → tie.After-prepare
-prepared-of c = c .before .before .before .before .before .before .before .before .before .before .before .before .before .before
+prepared-of c = c .before .before .before .before .before .before .before .before .before .before .before .before .before .before .before
 
 abbrev prepare-at : tie.Else1 → tie.After-prepare
 prepare-at c = prepared-of (c .before)
 
 abbrev ready-at : tie.After-formulas-right → tie.Else1
-ready-at c = c .before .before .before .before .before .before
+ready-at c = c .before .before .before .before .before .before .before
+
+slice-aggregate-prepare : tie.Need-slice-aggregate-prepare
+slice-aggregate-prepare c = search needs
 
 prepare-requires : tie.Need-prepare-requires
-prepare-requires c κs = search needs
+prepare-requires c κs =
+    let s = entry (c .before .before .before .before .before .before .before .before) in
+    (s .pre .0, (s .pre .1 .0, refl))
 
 same-length : tie.Need-same-length
 same-length c = search needs
@@ -48,12 +57,16 @@ same-length-7 c = search needs
 returns : tie.Need-returns
 returns c = λ b h. checked-refused (prepared-of (c .before) .prepare .ensures b h) (c .if1 .taken)
 
+slice-aggregate-formulas-right : tie.Need-slice-aggregate-formulas-right
+slice-aggregate-formulas-right c = search needs
+
 formulas-right-requires : tie.Need-formulas-right-requires
-formulas-right-requires c κs = let e = c .before .before .before .before .before in
+formulas-right-requires c κs = let e = c .before .before .before .before .before .before in
     let p = prepare-at e in
     let (b, h) = start p .pre .0 in
-    let R = p .prepare .ensures b h .ready (e .if1 .left) in
-    ((b, _, asked-formulas R, R .arrays-in .inherited-in, attributes-counted R), start p .pre .1 .1)
+    let P = p .prepare .ensures b h in
+    let R = P .ready (e .if1 .left) in
+    ((b, _, asked-fronts R (P .fronts-in (e .if1 .left)), R .arrays-in .inherited-in, attributes-counted R), start p .pre .1 .1)
 
 same-length-8 : tie.Need-same-length-8
 same-length-8 c = search needs
@@ -84,7 +97,8 @@ returns-2 c = λ b h.
     let e = ready-at (c .before .before .before) in
     let P = prepare-at e .prepare .ensures b h in
     let R = P .ready (e .if1 .left) in
-    let f = c .before .before .before .formulas-right .ensures b _ (asked-formulas R) (R .arrays-in .inherited-in) (attributes-counted R) in
+    let H = asked-fronts R (P .fronts-in (e .if1 .left)) in
+    let f = c .before .before .before .formulas-right .ensures b _ H (R .arrays-in .inherited-in) (attributes-counted R) in
     checked-all P (e .if1 .left) f (c .if2 .taken)
 
 same-length-16 : tie.Need-same-length-16
@@ -116,13 +130,15 @@ returns-3 c = λ b h.
     let e = ready-at (c .before .before .before) in
     let P = prepare-at e .prepare .ensures b h in
     let R = P .ready (e .if1 .left) in
-    let f = c .before .before .before .formulas-right .ensures b _ (asked-formulas R) (R .arrays-in .inherited-in) (attributes-counted R) in
+    let H = asked-fronts R (P .fronts-in (e .if1 .left)) in
+    let f = c .before .before .before .formulas-right .ensures b _ H (R .arrays-in .inherited-in) (attributes-counted R) in
     checked-formulas P (e .if1 .left) f (c .if2 .left)
 
 pub check-spec : {M : Type 1} → statement M
 check-spec =
     tie.close
     (tie.spec
+    slice-aggregate-prepare
     prepare-requires
     same-length
     same-length-2
@@ -132,6 +148,7 @@ check-spec =
     same-length-6
     same-length-7
     returns
+    slice-aggregate-formulas-right
     formulas-right-requires
     same-length-8
     same-length-9

@@ -8,7 +8,7 @@ all-single-requires : tie.Need-all-single-requires
 all-single-requires c κs = search needs
 
 returns : tie.Need-returns
-returns c = λ b begins H O e. c .before .all-single .ensures (c .if1 .taken) b _ _ _ _ _ H
+returns c = λ b begins H O e. c .before .all-single .ensures (c .if1 .taken) b _ _ _ _ _ _ _ H
 
 slice-aggregate-one-formula : tie.Need-slice-aggregate-one-formula
 slice-aggregate-one-formula c = search needs

@@ -11,8 +11,8 @@ returns : tie.Need-returns
 returns c = λ b h. prepared-refused h (c .before .conditions .ensures b h) (c .if1 .taken)
 
 tables-requires : tie.Need-tables-requires
-tables-requires c κs = let e = c .before .before .before .before .before .before .before in
-    let s = e .before .before .before .before .before .before .before .before .before .before .before .before .before .before .before in
+tables-requires c κs = let e = c .before .before .before .before .before .before .before .before in
+    let s = e .before .before .before .before .before .before .before .before .before .before .before .before .before .before .before .before in
     let (b, h) = s .pre .0 in
     ((b, asked-tables h (e .before .conditions .ensures b h) (e .if1 .left)), s .pre .1)
 
@@ -37,10 +37,13 @@ same-length-6 c = search needs
 same-length-7 : tie.Need-same-length-7
 same-length-7 c = search needs
 
+same-length-8 : tie.Need-same-length-8
+same-length-8 c = search needs
+
 returns-2 : tie.Need-returns-2
 returns-2 c = λ b h.
-    let t = c .before .before .before .before .before .before .before .before .before .before .before .before .before .before in
-    let e = t .before .before .before .before .before .before .before .before in
+    let t = c .before .before .before .before .before .before .before .before .before .before .before .before .before .before .before .before in
+    let e = t .before .before .before .before .before .before .before .before .before in
     let told = e .before .conditions .ensures b h in
     prepared-tables h told (e .if1 .left) (t .tables .ensures b (asked-tables h told (e .if1 .left)))
 
@@ -58,4 +61,5 @@ prepare-spec =
     same-length-5
     same-length-6
     same-length-7
+    same-length-8
     returns-2)

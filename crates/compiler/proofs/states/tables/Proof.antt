@@ -2,7 +2,6 @@
 use Prim.Native.Nat.{ℕ, _≤_}
 use mathlib.Core.List.{List}
 use native.Mathlib.Omega.{arith}
-use lib.ListN.{replicate, length-replicate}
 use Rattle.grammar.specs.Limits.{MAX-STATES}
 use Rattle.grammar.specs.Data.Book.{Book}
 use borrow.Author.Needs.{needs}
@@ -19,7 +18,7 @@ few H = omega (arith, H .kernels-held .states-are, H .kernels-held .limits .stat
 -- from each call back to the one before
 
 abbrev start : tie.After-kernel-states → tie.Start
-start c = c .before .before .before .before .before .before .before .before .before .before .before .before
+start c = c .before .before .before .before .before .before .before .before .before .before .before .before .before
 
 abbrev kernels-at : tie.After-fill-items → tie.After-kernel-states
 kernels-at c = c .before .before .before .before .before .before .before .before .before
@@ -28,7 +27,7 @@ abbrev items-at : tie.After-fill-fronts → tie.After-fill-items
 items-at c = c .before .before .before .before .before .before .before .before .before .before .before
 
 abbrev fronts-at : tie.After-moves → tie.After-fill-fronts
-fronts-at c = c .before .before .before .before .before .before
+fronts-at c = c .before .before .before .before .before .before .before
 
 abbrev moves-at : tie.After-actions → tie.After-moves
 moves-at c = c .before .before .before .before .before .before .before .before
@@ -47,12 +46,9 @@ fill-items-requires : tie.Need-fill-items-requires
 fill-items-requires c κs =
     let s = c .before .before .before .before .before .before .before .before in
     let (b, H) = start s .pre .0 in
-    let room = start s .pre .1 in
+    let room = start s .pre .1 .0 in
     let (k, T) = s .kernel-states .ensures b (H .kernels-held) (H .kernels-counted) in
     ((b, H .kernels-held, H .rules-counted, T), (room .vanishes-long, room .begins-long, room .reached-long, room .closures-blank (few H)))
-
-slice-aggregate-fill-fronts : tie.Need-slice-aggregate-fill-fronts
-slice-aggregate-fill-fronts c = search needs
 
 fill-fronts-requires : tie.Need-fill-fronts-requires
 fill-fronts-requires c κs =
@@ -60,20 +56,17 @@ fill-fronts-requires c κs =
     let (b, H) = start (kernels-at i) .pre .0 in
     let (k, T) = kernels-at i .kernel-states .ensures b (H .kernels-held) (H .kernels-counted) in
     let I = i .fill-items .ensures b (H .kernels-held) (H .rules-counted) T in
-    ask-fronts (H .kernels-held) (H .rules-counted) (I .closures-in) (replicate 128 0) (length-replicate {A = ℕ} 128 0)
-
-slice-aggregate-moves : tie.Need-slice-aggregate-moves
-slice-aggregate-moves c = search needs
+    ask-fronts (H .kernels-held) (H .rules-counted) (I .closures-in) (start (kernels-at i) .args .fronts .now) (start (kernels-at i) .pre .1 .1)
 
 moves-requires : tie.Need-moves-requires
 moves-requires c κs =
-    let f = c .before .before .before .before .before in
+    let f = c .before .before .before .before .before .before in
     let i = items-at f in
     let (b, H) = start (kernels-at i) .pre .0 in
     let (k, T) = kernels-at i .kernel-states .ensures b (H .kernels-held) (H .kernels-counted) in
     let I = i .fill-items .ensures b (H .kernels-held) (H .rules-counted) T in
     let W = held-fronts (H .kernels-held) (H .rules-counted) (f .fill-fronts .ensures) in
-    ((b, H .kernels-held, H .goes-in, H .goes-counted, T, I .closures-in, W), start (kernels-at i) .pre .1 .table-long (few H))
+    ((b, H .kernels-held, H .goes-in, H .goes-counted, T, I .closures-in, W), start (kernels-at i) .pre .1 .0 .table-long (few H))
 
 same-length-2 : tie.Need-same-length-2
 same-length-2 c = search needs
@@ -93,6 +86,9 @@ same-length-6 c = search needs
 same-length-7 : tie.Need-same-length-7
 same-length-7 c = search needs
 
+same-length-8 : tie.Need-same-length-8
+same-length-8 c = search needs
+
 returns-2 : tie.Need-returns-2
 returns-2 c = λ b H.
     let m = c .before .before .before in
@@ -104,9 +100,6 @@ returns-2 c = λ b H.
     let (g, G) = m .moves .ensures b (H .kernels-held) (H .goes-in) (H .goes-counted) T (I .closures-in) W in
     tabled-goes k (not-false _ (i .before .before .before .before .before .before .if1 .left)) g (not-true _ (c .if2 .taken))
 
-slice-aggregate-actions : tie.Need-slice-aggregate-actions
-slice-aggregate-actions c = search needs
-
 actions-requires : tie.Need-actions-requires
 actions-requires c κs =
     let f = fronts-at (c .before .before .before .before .before .before .before) in
@@ -116,10 +109,7 @@ actions-requires c κs =
     let I = i .fill-items .ensures b (H .kernels-held) (H .rules-counted) T in
     let W = held-fronts (H .kernels-held) (H .rules-counted) (f .fill-fronts .ensures) in
     let K = held-closures (H .kernels-held) T (I .closures-in) in
-    (start (kernels-at i) .pre .1 .actions-long, (b, setsOf (b .rules), K, H .terminals-are, H .kernels-held .states-are, W))
-
-same-length-8 : tie.Need-same-length-8
-same-length-8 c = search needs
+    (start (kernels-at i) .pre .1 .0 .actions-long, (b, setsOf (b .rules), K, H .terminals-are, H .kernels-held .states-are, W))
 
 same-length-9 : tie.Need-same-length-9
 same-length-9 c = search needs
@@ -128,16 +118,22 @@ same-length-10 : tie.Need-same-length-10
 same-length-10 c = search needs
 
 same-length-11 : tie.Need-same-length-11
-same-length-11 c = kernels-at (items-at (fronts-at (moves-at (c .before .before .before)))) .kernel-states .kept .1 .1 .1 .1 .0
+same-length-11 c = search needs
 
 same-length-12 : tie.Need-same-length-12
-same-length-12 c = search needs
+same-length-12 c = kernels-at (items-at (fronts-at (moves-at (c .before .before .before)))) .kernel-states .kept .1 .1 .1 .1 .0
 
 same-length-13 : tie.Need-same-length-13
 same-length-13 c = search needs
 
 same-length-14 : tie.Need-same-length-14
 same-length-14 c = search needs
+
+same-length-15 : tie.Need-same-length-15
+same-length-15 c = search needs
+
+same-length-16 : tie.Need-same-length-16
+same-length-16 c = search needs
 
 returns-3 : tie.Need-returns-3
 returns-3 c = λ b H.
@@ -154,26 +150,29 @@ returns-3 c = λ b H.
     g (not-false _ (c .before .before .before .before .before .before .before .before .if2 .left)) A
     (not-true _ (c .if3 .taken))
 
-same-length-15 : tie.Need-same-length-15
-same-length-15 c = search needs
-
-same-length-16 : tie.Need-same-length-16
-same-length-16 c = search needs
-
 same-length-17 : tie.Need-same-length-17
 same-length-17 c = search needs
 
 same-length-18 : tie.Need-same-length-18
-same-length-18 c = kernels-at (items-at (fronts-at (moves-at (c .before .before .before)))) .kernel-states .kept .1 .1 .1 .1 .0
+same-length-18 c = search needs
 
 same-length-19 : tie.Need-same-length-19
 same-length-19 c = search needs
 
 same-length-20 : tie.Need-same-length-20
-same-length-20 c = search needs
+same-length-20 c = kernels-at (items-at (fronts-at (moves-at (c .before .before .before)))) .kernel-states .kept .1 .1 .1 .1 .0
 
 same-length-21 : tie.Need-same-length-21
 same-length-21 c = search needs
+
+same-length-22 : tie.Need-same-length-22
+same-length-22 c = search needs
+
+same-length-23 : tie.Need-same-length-23
+same-length-23 c = search needs
+
+same-length-24 : tie.Need-same-length-24
+same-length-24 c = search needs
 
 returns-4 : tie.Need-returns-4
 returns-4 c = λ b H.
@@ -188,7 +187,7 @@ returns-4 c = λ b H.
     let A = c .before .before .before .actions .ensures b (setsOf (b .rules)) K (H .terminals-are) (H .kernels-held .states-are) W in
     tabled-all k (not-false _ (i .before .before .before .before .before .before .if1 .left))
     g (not-false _ (c .before .before .before .before .before .before .before .before .if2 .left)) A
-    (not-false _ (c .if3 .left)) I T G
+    (not-false _ (c .if3 .left)) I T G W
 
 pub tables-spec : {M : Type 1} → statement M
 tables-spec =
@@ -198,9 +197,7 @@ tables-spec =
     same-length
     returns
     fill-items-requires
-    slice-aggregate-fill-fronts
     fill-fronts-requires
-    slice-aggregate-moves
     moves-requires
     same-length-2
     same-length-3
@@ -208,22 +205,24 @@ tables-spec =
     same-length-5
     same-length-6
     same-length-7
-    returns-2
-    slice-aggregate-actions
-    actions-requires
     same-length-8
+    returns-2
+    actions-requires
     same-length-9
     same-length-10
     same-length-11
     same-length-12
     same-length-13
     same-length-14
-    returns-3
     same-length-15
     same-length-16
+    returns-3
     same-length-17
     same-length-18
     same-length-19
     same-length-20
     same-length-21
+    same-length-22
+    same-length-23
+    same-length-24
     returns-4)

@@ -1,4 +1,4 @@
--- States at whose items no inherited attribute is defined: nothing is to be checked there. The places of the definitions stand in 608 words: word 9 * P + D
+-- States at whose items no inherited attribute is defined: no definition sets a cell there. The places of the definitions stand in 608 words: word 9 * P + D
 -- is full if a definition is of the symbol behind the dot of the item (P, D), word 576 + A if one is of the first symbol of a rule of A. Assumes nothing.
 use Prim.Native.Nat.{ℕ, _+_, _*_, _-_, _<_, _≤_}
 use native.Mathlib.Omega.{arith}

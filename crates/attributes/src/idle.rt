@@ -1,4 +1,4 @@
-// The states at whose items no inherited attribute is defined: nothing is to be checked there.
+// The states at whose items no inherited attribute is defined: no definition sets a cell there.
 // Word 9 * P + D of `places` is full if a definition is of the symbol behind the dot of the item (P, D), word 576 + A if one is of the first symbol of
 // a rule of A; the other words are 0.
 ghost use mathlib.Core.Path.{_≡_};

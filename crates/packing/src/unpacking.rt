@@ -154,7 +154,7 @@ pub fn unpack(words: &[u32], text: &mut [u8]) -> usize
     4 * i
 }
 
-// How many words are looked at together where all should be 0: so many that the loop over them does not depend on where its code lies.
+// How many words are looked at together where all should be 0.
 const ZEROS: usize = 64;
 
 // Some bits, with those of a block of words.

@@ -1,9 +1,9 @@
 -- `unpacking::block_bits` meets its contract: the loop keeps the bits of all words from the block on.
 -- Assumes nothing.
 use Prim.Native.Nat.{_+_, _-_, _≤_}
-use mathlib.Core.Path.{_≡_, refl}
+use mathlib.Core.Path.{_≡_}
 use native.Mathlib.Omega.{arith}
-use lib.ListN.{length, drop}
+use lib.ListN.{drop}
 use Rattle.packing.specs.Words.{gathered}
 use Rattle.packing.specs.PackingLoops.{gathering-turn}
 use borrow.Author.Needs.{needs}

@@ -1,7 +1,6 @@
 -- `unpacking::put_four` meets its contract: four words, one after the other.
 -- Assumes nothing.
 use mathlib.Core.Path.{refl}
-use native.Mathlib.Omega.{arith}
 use Rattle.packing.specs.PackingLoops.{unpacking-four}
 use borrow.Author.Needs.{needs}
 use Rattle.packing.proofs.unpacking.put_four.Statement.{statement}

@@ -1,17 +1,18 @@
--- The words of a definition's line, as code makes them: nodes written into a line of zeros, and four numbers before them.
+-- The words of a definition's line, as code makes them: nodes written into a line of zeros, and four numbers before them, in the line's part of an array.
 -- Assumes nothing.
-use Prim.Native.Nat.{ℕ, zero, suc, _+_, _*_, _≤_}
+use Prim.Native.Nat.{ℕ, zero, suc, _+_, _-_, _*_, _<_, _≤_}
 use mathlib.Core.Path.{_≡_, refl, sym, ap, _∙_}
 use mathlib.Core.List.{List, [], _∷_, _++_, append-assoc}
 use native.Mathlib.Omega.{arith}
-use lib.ListN.{length, set, replicate, length-append}
-use lib.Seq.{set-at, append-snoc}
+use lib.ListN.{length, set, replicate, take, drop, length-append, length-drop, take-append-drop}
+use lib.Seq.{set-at, append-snoc, length-take-le}
 use borrow.Author.Tests.{lt-ltb}
 use Rattle.grammar.specs.Limits.{MAX-NODES}
 use Rattle.grammar.specs.Data.Term.{add, sub, min, max}
 use Rattle.grammar.specs.Data.Book.{Place, own, at, val}
 use Rattle.grammar.specs.Data.Postfix.{Step, push, load, operate, select}
-use Rattle.book.specs.Layout.{writeAt, nodeWords, nodesWords, definitionWords}
+use Rattle.book.specs.Layout.{writeAt, putLine, nodeWords, nodesWords, definitionWords}
+use Rattle.book.specs.LayoutLaws.{put-in, room-for}
 use Rattle.definitions.specs.Expressions.{DEFINITION-WORDS, putNode, storeNodes}
 use Rattle.definitions.specs.ExpressionsLaws.{node-out, three-words}
 
@@ -64,3 +65,23 @@ unfolding definitionWords nodesWords
 line-made P J K n steps line e h =
     let z : line ≡ 0 ∷ 0 ∷ 0 ∷ 0 ∷ nodesWords MAX-NODES steps = e ∙ store-over MAX-NODES 0 steps (0 ∷ 0 ∷ 0 ∷ 0 ∷ []) refl refl in
     rw (z, h)
+
+-- an array whose part for line k was lent, and came back as this line
+abbrev pub lineBack : ℕ → List ℕ → List ℕ → List ℕ
+lineBack k line out =
+    take (k * DEFINITION-WORDS) out
+    ++ (line ++ drop (k * DEFINITION-WORDS + DEFINITION-WORDS - k * DEFINITION-WORDS) (drop (k * DEFINITION-WORDS) out))
+
+pub line-in-place : (room k : ℕ) (line out : List ℕ) → k < room → room * DEFINITION-WORDS ≤ length out → length line ≡ DEFINITION-WORDS
+    → lineBack k line out ≡ putLine room k line out
+line-in-place room k line out h fits long =
+    let place : ℕ = k * DEFINITION-WORDS in
+    let width : place + DEFINITION-WORDS - place ≡ DEFINITION-WORDS = omega arith in
+    let within = room-for DEFINITION-WORDS h fits in
+    let front : length (take place out) ≡ place = length-take-le place out (omega (arith, within)) in
+    let olds : length (take DEFINITION-WORDS (drop place out)) ≡ DEFINITION-WORDS =
+    length-take-le DEFINITION-WORDS (drop place out) (simp length-drop (omega (arith, within))) in
+    let over = write-over place (take place out) line (take DEFINITION-WORDS (drop place out)) (drop DEFINITION-WORDS (drop place out))
+    front (long ∙ sym olds) in
+    rw (put-in room k line out h, long, width)
+    (sym over ∙ rw (take-append-drop DEFINITION-WORDS (drop place out), take-append-drop place out))

@@ -1,7 +1,7 @@
 -- Lines of definitions in code: the words of one line, and what the loop over them keeps true. The lines stand in the array from place `first` on.
 -- Assumes nothing.
-use Prim.Native.Nat.{ℕ, suc, _+_, _≤_, _<_}
-use mathlib.Core.Path.{_≡_, refl, ap, _∙_}
+use Prim.Native.Nat.{ℕ, suc, _+_, _*_, _≤_, _<_}
+use mathlib.Core.Path.{_≡_, refl, sym, ap, _∙_}
 use mathlib.Core.Bool.{Bool, true, false}
 use mathlib.Core.List.{List, [], _∷_}
 use native.Mathlib.Omega.{arith}
@@ -18,14 +18,14 @@ use Rattle.grammar.specs.Format.ExpressionReads.{steps-size}
 use Rattle.grammar.specs.Format.Parse.{isBefore}
 use Rattle.book.specs.declared.order.Key.{Key}
 use Rattle.book.specs.Layout.{definitionWords, putLine, storeLines}
-use Rattle.book.specs.LayoutLaws.{length-put}
+use Rattle.book.specs.LayoutLaws.{length-put, put-out}
 use Rattle.book.specs.Sections.{Gives, Puts, Shrinks, size-section, Reading, keepFrom, reading-start, reading-less, reading-turn, reading-done}
 use Rattle.book.specs.Order.{lastKey}
 use Rattle.definitions.specs.Expressions.{DEFINITION-WORDS}
 use Rattle.definitions.specs.ExpressionsLoop.{Expresses}
 use Rattle.definitions.specs.Definitions.{Defined, Definition, wordsOf, ascending, nextKey, inheritedDefined, synthesizedDefined, definedBy}
 use Rattle.definitions.specs.Definitions.{definition, wordFor, definitions}
-use Rattle.definitions.specs.DefinitionsLine.{line-made}
+use Rattle.definitions.specs.DefinitionsLine.{line-made, lineBack, line-in-place}
 
 -- what a line defines, as the code holds it
 abbrev pub definedOf : Key → Defined
@@ -59,17 +59,33 @@ worded {line = line} {d = d} {n = n} a e x z f =
       words-is = rw (← e) (line-made (d .rule) (d .position) (d .attribute) n _ line (x .line-is ∙ rw z) (x .count-is));
     }
 
+-- the words of a line at its place, where there is room for it, and the position after it
+pub record Stores (d : Defined) (o : Rest) (room place : ℕ) (text out₀ : List ℕ) (next : ℕ) (out : List ℕ) : Type 0 where
+  pub line : List ℕ
+  pub worded : Worded d o text next line
+  pub array-is : out ≡ putLine room place line out₀
+
+module _ {text line out : List ℕ} {d : Defined} {o : Rest} {next room place : ℕ} (w : Worded d o text next line) where
+  -- written in its part of the array
+  pub stores-in : place < room → room * DEFINITION-WORDS ≤ length out → length line ≡ DEFINITION-WORDS
+      → Stores d o room place text out next (lineBack place line out)
+  stores-in h fits long = record { line = line; worded = w; array-is = line-in-place room place line out h fits long }
+
+  -- not kept
+  pub stores-out : room ≤ place → Stores d o room place text out next out
+  stores-out h = record { line = line; worded = w; array-is = sym (put-out room place line out h) }
+
 -- a line read and kept: what it defines, the position after it, and the array
 pub record Keeps (p : Parsed Definition) (room place : ℕ) (text out₀ : List ℕ) (d : Defined) (next : ℕ) (out : List ℕ) : Type 0 where
   pub defined-is : d ≡ result p .defined
   pub puts : Puts wordsOf room place p text out₀ next out
 
-pub line-kept : {text line out₀ out : List ℕ} {d : Defined} {p₁ p₂ p₃ room place : ℕ} (inherited fine : Bool) (last : List ℕ) (at : ℕ)
+pub line-kept : {text out₀ out : List ℕ} {d : Defined} {p₁ p₂ p₃ room place : ℕ} (inherited fine : Bool) (last : List ℕ) (at : ℕ)
     → Gives (definedBy inherited (rest text at)) text d p₁
-    → Worded d (rest text p₁) text p₂ line → out ≡ putLine room place line out₀ → fine ≡ isBefore last (ascending d)
+    → Stores d (rest text p₁) room place text out₀ p₂ out → fine ≡ isBefore last (ascending d)
     → rest text p₃ ≡ must fine (rest text p₂) → Keeps (definition inherited last (rest text at)) room place text out₀ d p₃ out
 unfolding definition wordsOf result remaining
-line-kept inherited fine last at g w e b r =
+line-kept inherited fine last at g s b r =
     record {
       defined-is = g .result-is;
       puts = record { remaining-is = cc; array-is = cc };

@@ -10,7 +10,7 @@ ghost use Rattle.book.specs.Sections.{Gives};
 ghost use Rattle.book.specs.Order.{keyOf, lastKey};
 ghost use Rattle.definitions.specs.Expressions.{DEFINITION-WORDS, WaitsRoom};
 ghost use Rattle.definitions.specs.Definitions.{definedBy, definition, wordFor, definitions};
-ghost use Rattle.definitions.specs.DefinitionsLoop.{definedOf, Worded, Keeps, Defines};
+ghost use Rattle.definitions.specs.DefinitionsLoop.{definedOf, Worded, Stores, Keeps, Defines};
 ghost use Rattle.definitions.specs.Both.{DefinesBoth};
 use super::ended::ended;
 use super::expression::expression;
@@ -25,7 +25,6 @@ use book::spelling::S;
 use book::spelling::SYNDEF;
 use book::spelling::closing;
 use book::spelling::naming;
-use book::store::put_line;
 use lines::line_head;
 
 // The words of a definition: rule, position, attribute, number of nodes, and 3 words for each of the nodes that a definition may have.
@@ -140,7 +139,19 @@ fn names(t: &[u8; 256], text: &[u8], at: usize, inherited: bool) -> Keyed
     synthesized_names(t, text, at)
 }
 
-// ` e)`: the words of the line, into zeros.
+// Every word of a line becomes 0.
+fn clear_line(line: &mut [u32])
+    requires { ⌜ length (now line) ≡ DEFINITION-WORDS ⌝ }
+    ensures { λ _. ⌜ now (line .exit) ≡ replicate DEFINITION-WORDS 0 ⌝ }
+{
+    let mut i = 0;
+    while i < WORDS {
+        line[i] = 0;
+        i += 1;
+    }
+}
+
+// ` e)`: the words of the line, over what was there.
 fn words(
     t: &[u8; 256],
     text: &[u8],
@@ -149,9 +160,10 @@ fn words(
     waits: &mut [u8],
     line: &mut [u32],
 ) -> usize
-    requires { ⌜ Lent (now t) (now text) × WaitsRoom (now text) (now waits) × (now line ≡ replicate DEFINITION-WORDS 0) ⌝ }
+    requires { ⌜ Lent (now t) (now text) × WaitsRoom (now text) (now waits) × (length (now line) ≡ DEFINITION-WORDS) ⌝ }
     ensures { λ r. ⌜ Worded (definedOf key) (rest (now (text .entry)) at) (now (text .entry)) r (now (line .exit)) ⌝ }
 {
+    clear_line(line);
     let a = text::mark(t, text, at, text::SPACE);
     let nodes = expression(t, text, a, waits, line);
     line[0] = key.first;
@@ -159,6 +171,30 @@ fn words(
     line[2] = key.third;
     line[3] = nodes.value;
     closing(t, text, nodes.at)
+}
+
+// The words of line k, written at its place, where there is room for it; a line past the room is read and not kept.
+fn store_words(
+    t: &[u8; 256],
+    text: &[u8],
+    at: usize,
+    key: Key,
+    waits: &mut [u8],
+    room: usize,
+    k: u32,
+    out: &mut [u32],
+) -> usize
+    requires { ⌜ Lent (now t) (now text) × WaitsRoom (now text) (now waits) × (room * DEFINITION-WORDS ≤ length (now out)) ⌝ }
+    ensures { λ r. ⌜ Stores (definedOf key) (rest (now (text .entry)) at) room k (now (text .entry)) (now (out .entry)) r (now (out .exit)) ⌝ }
+{
+    let i = k as usize;
+    if i < room {
+        let place = i * WORDS;
+        let end = place + WORDS;
+        return words(t, text, at, key, waits, &mut out[place..end]);
+    }
+    let mut line = [0u32; WORDS];
+    words(t, text, at, key, waits, &mut line)
 }
 
 // Line k, after its head: it goes to its place after the first ones, and its key must stand after the last key.
@@ -181,9 +217,7 @@ fn definition_line(
 {
     let named = names(t, text, at, inherited);
     let key = named.key;
-    let mut line = [0u32; WORDS];
-    let a = words(t, text, named.at, key, waits, &mut line);
-    put_line(out, room, first + k, &line);
+    let a = store_words(t, text, named.at, key, waits, room, first + k, out);
     Keyed {
         key,
         at: text::require(text, a, ascends(k, last, key)),

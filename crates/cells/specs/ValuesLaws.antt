@@ -60,6 +60,24 @@ step-words ρ R stack (suc (suc (suc k))) select r =
     let b : suc (suc (suc k)) - 1 ≡ suc (suc k) = omega arith in
     rw (e, d, b)
 
+-- ---------------------------------------------------------------- the only step of e, over any stack of no words
+
+module _ {dot : ℕ} {e : Expr} (reads : Leaves (MayRead dot) e) (one : nodes e ≡ 1) where
+  alone : postfix e ≡ nodeAt e 0 ∷ []
+  alone =
+      let short : length (postfix e) ≤ 1 = omega (arith, length-postfix e) in
+      let none : drop 1 (postfix e) ≡ [] = drop-of-length-le (postfix e) short in
+      drop-cons (postfix e) 0 select (omega (arith, length-postfix e)) ∙ ap (λ (steps : List (Step Place)). nodeAt e 0 ∷ steps) none
+
+  pub only-ready : Ready (MayRead dot) 0 (nodeAt e 0)
+  only-ready = rw alone at (fits (MayRead dot) reads) .0
+
+  pub only-value : (ρ : Place → ℕ) (stack : List ℕ) → stepValue ρ stack 0 (nodeAt e 0) ≡ eval e ρ
+  unfolding run
+  only-value ρ stack =
+      let goes : step (evaluating ρ) (nodeAt e 0) [] ≡ eval e ρ ∷ [] = rw (append-nil, alone) at (run-eval ρ e [] []) in
+      cc (goes, step-words ρ (MayRead dot) stack 0 (nodeAt e 0) only-ready)
+
 -- ---------------------------------------------------------------- a run after i steps of e
 
 pub record Running (ρ : Place → ℕ) (dot : ℕ) (e : Expr) (stack : List ℕ) (top i : ℕ) : Type 0 where

@@ -88,6 +88,7 @@ fn step_value<'a>(
 }
 
 // The value of the definition in a line, on a stack of `height` symbols of which the rule's first `dot` right symbols are the top ones.
+// A definition of one node is a number or a leaf, and needs no stack of values.
 pub fn value<'a>(
     definitions: &[u32],
     line: usize,
@@ -103,6 +104,18 @@ pub fn value<'a>(
 {
     let first = 49 * line;
     let nodes = definitions[first + 3] as usize;
+    if nodes == 1 {
+        let none = [0u32; 0];
+        return step_value(
+            step_at(definitions, first + 4),
+            dot,
+            height,
+            inherited,
+            synthesized,
+            &none,
+            0,
+        );
+    }
     let mut stack = [0u32; 16];
     let mut top: usize = 0;
     let mut i = 0;

@@ -2,10 +2,11 @@
 -- Assumes nothing.
 use Prim.Native.Nat.{ℕ, _+_, _*_, _-_, _<_, _≤_}
 use native.Mathlib.Omega.{arith}
-use mathlib.Core.Path.{_≡_}
+use mathlib.Core.Path.{_≡_, _∙_}
 use mathlib.Core.Bool.{Bool}
 use mathlib.Core.List.{List}
 use lib.ListN.{length, getD, set, replicate, length-replicate}
+use lib.Seq.{getD-set-same, getD-set-other}
 use Rattle.grammar.specs.Limits.{MAX-INHERITED}
 use Rattle.grammar.specs.Data.Book.{Book}
 use Rattle.grammar.specs.Format.Ordered.{Ordered}
@@ -19,40 +20,64 @@ use Rattle.attributes.specs.StateMarks.{StateMarksIn}
 use Rattle.plans.specs.Planning.{plan}
 use Rattle.plans.specs.PlanningLaws.{plan-short}
 use Rattle.plans.specs.PlanRows.{PlanRow, Elsewhere}
-use Rattle.plans.specs.Plans.{planOf, PlansIn, PlansHeld, StatesHeld, NoLines}
-use Rattle.plans.specs.PlansLaws.{plan-marked, plan-idle, plans-more, plans-nothing}
+use Rattle.plans.specs.PlanRowsLaws.{elsewhere-then, elsewhere-wider, elsewhere-set}
+use Rattle.plans.specs.Plans.{planOf, PlanIn, lastSlot, PlansIn, PlanTold, PlansHeld, StatesHeld, NoLines}
+use Rattle.plans.specs.PlansLaws.{plan-marked, plan-idle, plans-beside, noted-here, plans-noted, plans-nothing}
 
 -- a plan has few lines
 pub row-short : (b : Book) (member : ℕ → ℕ → Bool) {row : List ℕ} {from n : ℕ} → PlanRow (plan b member) row from n → n ≤ MAX-INHERITED
 row-short b member R = omega (arith, R .count-is, plan-short b member)
 
+-- a row of lines in a slot, after which their number is stored
+pub slot-filled : (slot n : ℕ) {lists new : List ℕ} → Elsewhere (17 * slot + 1) (17 * slot + 1 + MAX-INHERITED) lists new
+    → Elsewhere (17 * slot) (17 * slot + 17) lists (set new (17 * slot) n)
+slot-filled slot n {new = new} E =
+    elsewhere-then (elsewhere-wider (omega arith) (omega arith) E) (elsewhere-set _ _ (17 * slot) new n (omega arith) (omega arith))
+
 module _ {b : Book} {rules : List ℕ} {count : ℕ} {definitions : List ℕ} {lines : ℕ} {owned kernels starts closures nulls reaches : List ℕ}
     (H : PlansHeld b rules count definitions lines owned kernels starts closures nulls reaches) where
-  pub few-states : b .states ≤ 128
-  few-states = OneFormula.limits (H .formulas-held) .states-limit .high
-
-  pub place-low : {S a : ℕ} → S < b .states → a < 32 → 32 * S + a < 4096
-  place-low s low = omega (arith, few-states)
-
   -- for the plan of a state's items
   pub plans-check : {masks : List ℕ} → length masks ≡ 576 → CheckHeld b definitions rules owned masks
   plans-check = held-check (H .formulas-held) (H .owned-in)
 
-  module _ {counts lists : List ℕ} (M : PlansIn b counts lists) {S a : ℕ} (s : S < b .states) (low : a < 32) where
-    pub plan-known : (getD counts (32 * S + a) 0 ≡ 0 → ⊥)
-        → PlansIn b counts lists × PlanRow (planOf b S a) lists (16 * (32 * S + a)) (getD counts (32 * S + a) 0 - 1)
-    plan-known k =
-        let P = M .plan-at S a s low k in
-        (M, record { count-is = omega (arith, P .count-is); line-is = P .line-is })
-
-    pub plan-new : {masks new : List ℕ} {n : ℕ} → StateMarksIn b S masks → PlanRow (plan b (memberOf masks a)) new (16 * (32 * S + a)) n
-        → Elsewhere (16 * (32 * S + a)) lists new
-        → PlansIn b (set counts (32 * S + a) (n + 1)) new × PlanRow (planOf b S a) new (16 * (32 * S + a)) n
-    plan-new {new = new} {n = n} marks R E =
+  module _ {S a : ℕ} (low : a < 32) where
+    -- the row is the plan of the state's items
+    pub plan-filled : (slot : ℕ) {masks new : List ℕ} {n : ℕ} → StateMarksIn b S masks → 17 * slot < length new
+        → PlanRow (plan b (memberOf masks a)) new (17 * slot + 1) n → PlanIn (planOf b S a) (set new (17 * slot) n) slot
+    plan-filled slot {new = new} {n} marks there R =
         let H′ = H .formulas-held in
         let is = plan-marked (H′ .ordered) (OneFormula.limits H′) (OneFormula.declared H′) S a marks low in
-        let R′ : PlanRow (planOf b S a) new (16 * (32 * S + a)) n = rw is at R in
-        (plans-more M few-states s low E R′, R′)
+        let R′ : PlanRow (planOf b S a) new (17 * slot + 1) n = rw is at R in
+        record {
+          count-is = getD-set-same new (17 * slot) n 0 there ∙ R′ .count-is;
+          line-is = λ i h. getD-set-other new (17 * slot) (17 * slot + 1 + i) n 0 (λ e. absurd (omega arith)) ∙ R′ .line-is i h;
+        }
+
+    module _ {slots lists : List ℕ} (M : PlansIn b slots lists) (s : S < b .states) where
+      -- the plan is known
+      pub told-known : (getD slots (32 * S + a) 0 ≡ 0 → ⊥) → PlanTold b slots lists S a (getD slots (32 * S + a) 0 - 1)
+      told-known k =
+          let N = M .noted S a (getD slots (32 * S + a) 0 - 1) s low (omega (arith, k)) in
+          record { plans-in = M; slot-low = omega (arith, N .in-use, M .last-low); plan-in = N .plan-in }
+
+      -- it is worked out into the next slot, which is the spare one, or is noted
+      module _ {new : List ℕ} {slot : ℕ} (next : slot ≡ lastSlot lists + 1) (P : PlanIn (planOf b S a) new slot)
+          (E : Elsewhere (17 * slot) (17 * slot + 17) lists new) where
+        pub told-spare : PlanTold b slots new S a slot
+        told-spare =
+            let few : slot < 255 = omega (arith, next, M .last-low) in
+            record { plans-in = plans-beside M (omega (arith, next)) few E; slot-low = few; plan-in = P }
+
+        pub told-new : (slot ≡ 254 → ⊥) → PlanTold b (set slots (32 * S + a) (slot + 1)) (set new 4335 slot) S a slot
+        told-new n =
+            let T = told-spare in
+            let few : slot < 254 = omega (arith, n, T .slot-low) in
+            let unused : lastSlot new < slot = omega (arith, next, E .behind 4335 (omega arith)) in
+            record {
+              plans-in = plans-noted (T .plans-in) s low unused few P;
+              slot-low = T .slot-low;
+              plan-in = noted-here (T .plans-in) s low unused few P .plan-in;
+            }
 
 -- what is asked to find the states at whose items nothing is defined
 module _ {b : Book} {definitions : List ℕ} {lines : ℕ} {rules kernels starts closures : List ℕ} {states : ℕ}
@@ -65,7 +90,7 @@ module _ {b : Book} {definitions : List ℕ} {lines : ℕ} {rules kernels starts
 
 -- the plans of a state at whose items nothing is defined
 pub plans-idle : {b : Book} {rules kernels starts closures : List ℕ} → Ordered b → ItemsIn b (setsOf (b .rules)) rules kernels starts closures
-    → (S : ℕ) → Idle b S → {counts new lists : List ℕ} → NoLines S 32 counts new → PlansIn b counts lists → PlansIn b new lists
+    → (S : ℕ) → Idle b S → {slots new lists : List ℕ} → NoLines S 32 slots new → PlansIn b slots lists → PlansIn b new lists
 plans-idle ordered I S idle none M =
     let G = I .states-in .grammar-in in
     plans-nothing M S (λ a l. plan-idle ordered (G .limits) (G .declared) S a idle) none

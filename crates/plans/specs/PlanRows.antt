@@ -16,11 +16,11 @@ pub record PlanRow (lines row : List ℕ) (from count : ℕ) : Type 0 where
   pub count-is : count ≡ length lines
   pub line-is : (i : ℕ) → i < length lines → getD row (from + i) 0 ≡ getD lines i 0
 
--- the bytes outside the row's 16 are as they were
-pub record Elsewhere (from : ℕ) (old new : List ℕ) : Type 0 where
+-- the bytes outside a part of a row, from byte `from` up to byte `to`, are as they were
+pub record Elsewhere (from to : ℕ) (old new : List ℕ) : Type 0 where
   pub long : length new ≡ length old
   pub before : (i : ℕ) → i < from → getD new i 0 ≡ getD old i 0
-  pub behind : (i : ℕ) → from + MAX-INHERITED ≤ i → getD new i 0 ≡ getD old i 0
+  pub behind : (i : ℕ) → to ≤ i → getD new i 0 ≡ getD old i 0
 
 -- a plan that is being made
 pub record PlanningIn (b : Book) (member : ℕ → ℕ → Bool) (s : Planning) (row : List ℕ) (from known count : ℕ) : Type 0 where

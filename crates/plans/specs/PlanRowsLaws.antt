@@ -1,6 +1,6 @@
 -- Laws of a plan that is being made in a row of bytes: what a visit of a definition does, what the passes do, and that nothing else changes.
 -- Assumes nothing.
-use Prim.Native.Nat.{ℕ, _+_, _*_, _<_}
+use Prim.Native.Nat.{ℕ, _+_, _*_, _<_, _≤_}
 use native.Mathlib.Omega.{arith}
 use native.Mathlib.Decide.{ℕ-discrete}
 use mathlib.Core.Path.{_≡_, refl, sym, ap, _∙_}
@@ -26,23 +26,30 @@ use Rattle.plans.specs.PlanningLaws.{planLine-by, planLine-sets, planned
 use Rattle.plans.specs.DueLaws.{slotsFor, known-for, due-for}
 use Rattle.plans.specs.PlanRows.{PlanRow, Elsewhere, PlanningIn}
 
--- Outside the row
+-- Outside a part of the row
 
-pub elsewhere-same : {from : ℕ} {row : List ℕ} → Elsewhere from row row
+pub elsewhere-same : {from to : ℕ} {row : List ℕ} → Elsewhere from to row row
 elsewhere-same = record { long = refl; before = λ i h. refl; behind = λ i h. refl }
 
-pub elsewhere-then : {from : ℕ} {old row new : List ℕ} → Elsewhere from old row → Elsewhere from row new → Elsewhere from old new
+pub elsewhere-then : {from to : ℕ} {old row new : List ℕ} → Elsewhere from to old row → Elsewhere from to row new → Elsewhere from to old new
 elsewhere-then E F = record {
   long = F .long ∙ E .long;
   before = λ i h. F .before i h ∙ E .before i h;
   behind = λ i h. F .behind i h ∙ E .behind i h;
 }
 
-pub elsewhere-set : (from count : ℕ) (row : List ℕ) (x : ℕ) → count < MAX-INHERITED → Elsewhere from row (set row (from + count) x)
-elsewhere-set from count row x low = record {
-  long = length-set row (from + count) x;
-  before = λ i h. getD-set-other row (from + count) i x 0 (λ e. absurd (omega arith));
-  behind = λ i h. getD-set-other row (from + count) i x 0 (λ e. absurd (omega arith));
+pub elsewhere-wider : {from to first last : ℕ} {old new : List ℕ} → first ≤ from → to ≤ last → Elsewhere from to old new → Elsewhere first last old new
+elsewhere-wider low high E = record {
+  long = E .long;
+  before = λ i h. E .before i (omega arith);
+  behind = λ i h. E .behind i (omega arith);
+}
+
+pub elsewhere-set : (from to k : ℕ) (row : List ℕ) (x : ℕ) → from ≤ k → k < to → Elsewhere from to row (set row k x)
+elsewhere-set from to k row x low high = record {
+  long = length-set row k x;
+  before = λ i h. getD-set-other row k i x 0 (λ e. absurd (omega arith));
+  behind = λ i h. getD-set-other row k i x 0 (λ e. absurd (omega arith));
 }
 
 -- A visit

@@ -1,6 +1,8 @@
--- The plans of all partial states of a book, and the memory of those that are worked out: for the partial state (S, a) byte 32 * S + a of the counts is 0,
--- or one more than the number of the plan's lines, which then stand in the sixteen bytes of the lists from 16 * (32 * S + a) on. Assumes nothing.
-use Prim.Native.Nat.{ℕ, suc, _+_, _*_, _<_, _≤_}
+-- The plans of all partial states of a book, and the memory of those that are worked out. Its lists are 255 slots of seventeen bytes, the number of a plan's
+-- lines and the lines, and one byte behind them, the number of the last slot in use. For the partial state (S, a) byte 32 * S + a of the slots is 0, or one
+-- more than the number of the slot that has its plan. Slot 0 has the plan without lines. Slot 254 is never in use: a plan that finds no other is worked out
+-- there, and not noted. Assumes nothing.
+use Prim.Native.Nat.{ℕ, _+_, _*_, _<_, _≤_}
 use mathlib.Core.Path.{_≡_}
 use mathlib.Core.List.{List}
 use lib.ListN.{length, getD}
@@ -13,23 +15,40 @@ use Rattle.grammar.specs.Formulas.Slots.{attributes}
 use Rattle.attributes.specs.Owned.{OwnedIn}
 use Rattle.agreement.specs.OneFormula.{FormulasHeld}
 use Rattle.plans.specs.Planning.{plan}
+use Rattle.plans.specs.PlanRows.{PlanRow}
 
 -- the plan of the partial state (S, a)
 abbrev pub planOf : Book → ℕ → ℕ → List ℕ
 planOf b S a = plan b (listed (partialAt b (setsOf (b .rules)) (reachSets (b .rules) (setsOf (b .rules))) S a))
 
--- a plan that is worked out, at a place of the memory
-pub record PlanAt (lines counts lists : List ℕ) (place : ℕ) : Type 0 where
-  pub count-is : getD counts place 0 ≡ suc (length lines)
-  pub line-is : (i : ℕ) → i < length lines → getD lists (16 * place + i) 0 ≡ getD lines i 0
+-- a plan in a slot
+abbrev pub PlanIn : List ℕ → List ℕ → ℕ → Type 0
+PlanIn lines lists slot = PlanRow lines lists (17 * slot + 1) (getD lists (17 * slot) 0)
+
+-- the last slot in use
+abbrev pub lastSlot : List ℕ → ℕ
+lastSlot lists = getD lists 4335 0
+
+-- a plan in a slot in use
+pub record PlanNoted (lines lists : List ℕ) (slot : ℕ) : Type 0 where
+  pub in-use : slot ≤ lastSlot lists
+  pub plan-in : PlanIn lines lists slot
 
 -- the memory
-pub record PlansIn (b : Book) (counts lists : List ℕ) : Type 0 where
-  pub counts-long : length counts ≡ 4096
-  pub lists-long : 512 * b .states ≤ length lists
-  pub plan-at : (S a : ℕ) → S < b .states → a < 32 → (getD counts (32 * S + a) 0 ≡ 0 → ⊥) → PlanAt (planOf b S a) counts lists (32 * S + a)
+pub record PlansIn (b : Book) (slots lists : List ℕ) : Type 0 where
+  pub slots-long : 32 * b .states ≤ length slots
+  pub lists-long : length lists ≡ 4336
+  pub last-low : lastSlot lists < 254
+  pub first-none : getD lists 0 0 ≡ 0
+  pub noted : (S a slot : ℕ) → S < b .states → a < 32 → getD slots (32 * S + a) 0 ≡ slot + 1 → PlanNoted (planOf b S a) lists slot
 
--- the plans of the first n partial states of state S are known to have no lines, and the other counts are as they were
+-- the slot of a plan, in use or not
+pub record PlanTold (b : Book) (slots lists : List ℕ) (S a slot : ℕ) : Type 0 where
+  pub plans-in : PlansIn b slots lists
+  pub slot-low : slot < 255
+  pub plan-in : PlanIn (planOf b S a) lists slot
+
+-- the plans of the first n partial states of state S are known to have no lines, and the other slots are as they were
 pub record NoLines (S n : ℕ) (old new : List ℕ) : Type 0 where
   pub long : length new ≡ length old
   pub none : (a : ℕ) → a < n → getD new (32 * S + a) 0 ≡ 1

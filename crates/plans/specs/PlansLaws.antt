@@ -1,9 +1,8 @@
 -- Laws of the plans of a book: that sets of terminals give them, that they set the cells, and how the memory of them grows. Assumes nothing.
-use Prim.Native.Nat.{ℕ, suc, _+_, _*_, _<_, _≤_}
-use native.Mathlib.Numerals.{add-one}
+use Prim.Native.Nat.{ℕ, _+_, _*_, _<_, _≤_}
 use native.Mathlib.Omega.{arith}
 use native.Mathlib.Decide.{ℕ-discrete, decLt}
-use mathlib.Core.Path.{_≡_, refl, ap, _∙_}
+use mathlib.Core.Path.{_≡_, refl, sym, _∙_}
 use mathlib.Core.List.{List, []}
 use lib.ListN.{length, getD, set, replicate, length-set, length-replicate, getD-replicate}
 use lib.Seq.{getD-set-same, getD-set-other}
@@ -30,8 +29,8 @@ use Rattle.attributes.specs.Telling.{marks-tell}
 use Rattle.plans.specs.Planning.{applied, plan}
 use Rattle.plans.specs.PlanningLaws.{plan-short, plan-none, plan-same}
 use Rattle.plans.specs.PlanCell.{planned-cell}
-use Rattle.plans.specs.PlanRows.{PlanRow, Elsewhere}
-use Rattle.plans.specs.Plans.{planOf, PlanAt, PlansIn, NoLines}
+use Rattle.plans.specs.PlanRows.{Elsewhere}
+use Rattle.plans.specs.Plans.{planOf, PlanIn, lastSlot, PlanNoted, PlansIn, NoLines}
 
 -- The plan of a partial state
 
@@ -56,58 +55,87 @@ plan-sets-cell {b} spelled s S a =
 -- The memory
 
 -- nothing is worked out
-pub plans-none : (b : Book) {counts lists : List ℕ} → counts ≡ replicate 4096 0 → 512 * b .states ≤ length lists → b .states ≤ 128 → PlansIn b counts lists
-plans-none b {counts} {lists} e l few = record {
-  counts-long = ap (length {A = ℕ}) e ∙ length-replicate {A = ℕ} 4096 0;
-  lists-long = l;
-  plan-at = λ S a s low n.
-      absurd (n (ap (λ (c : List ℕ). getD c (32 * S + a) 0) e ∙ getD-replicate {A = ℕ} 4096 (32 * S + a) 0 0 (omega arith)));
+pub plans-none : (b : Book) → b .states ≤ 128 → PlansIn b (replicate 4096 0) (replicate 4336 0)
+plans-none b few = record {
+  slots-long = omega (arith, length-replicate {A = ℕ} 4096 0);
+  lists-long = length-replicate {A = ℕ} 4336 0;
+  last-low = omega (arith, getD-replicate {A = ℕ} 4336 4335 0 0 (omega arith));
+  first-none = getD-replicate {A = ℕ} 4336 0 0 0 (omega arith);
+  noted = λ S a slot s low e. absurd (omega (arith, e, getD-replicate {A = ℕ} 4096 (32 * S + a) 0 0 (omega arith)));
 }
 
--- one plan more
-module _ {b : Book} {counts lists new : List ℕ} (M : PlansIn b counts lists) (few : b .states ≤ 128) {S a n : ℕ} (s : S < b .states) (low : a < 32)
-    (E : Elsewhere (16 * (32 * S + a)) lists new) (R : PlanRow (planOf b S a) new (16 * (32 * S + a)) n) where
+-- a plan stays in its slot if the slot's bytes do
+plan-stays : {lines old new : List ℕ} (slot : ℕ) → length lines ≤ MAX-INHERITED
+    → ((i : ℕ) → i < 17 * slot + 17 → getD new i 0 ≡ getD old i 0) → PlanIn lines old slot → PlanIn lines new slot
+plan-stays slot few same P = record {
+  count-is = same (17 * slot) (omega arith) ∙ P .count-is;
+  line-is = λ i h. same (17 * slot + 1 + i) (omega (arith, h, few)) ∙ P .line-is i h;
+}
+
+-- a slot that is not in use is written
+module _ {b : Book} {slots lists new : List ℕ} (M : PlansIn b slots lists) {slot : ℕ} (unused : lastSlot lists < slot) (low : slot < 255)
+    (E : Elsewhere (17 * slot) (17 * slot + 17) lists new) where
+  last-stays : lastSlot new ≡ lastSlot lists
+  last-stays = E .behind 4335 (omega arith)
+
+  pub plans-beside : PlansIn b slots new
+  plans-beside = record {
+    slots-long = M .slots-long;
+    lists-long = E .long ∙ M .lists-long;
+    last-low = omega (arith, last-stays, M .last-low);
+    first-none = E .before 0 (omega arith) ∙ M .first-none;
+    noted = λ S a k s l e.
+        let P = M .noted S a k s l e in
+        record {
+          in-use = omega (arith, last-stays, P .in-use);
+          plan-in = plan-stays k (plan-short b _) (λ i h. E .before i (omega (arith, P .in-use))) (P .plan-in);
+        };
+  }
+
+-- and comes into use
+module _ {b : Book} {slots lists : List ℕ} (M : PlansIn b slots lists) {S a slot : ℕ} (s : S < b .states) (l : a < 32) (unused : lastSlot lists < slot)
+    (low : slot < 254) (P : PlanIn (planOf b S a) lists slot) where
   abbrev place : ℕ
   place = 32 * S + a
 
-  pub more-here : PlanAt (planOf b S a) (set counts place (n + 1)) new place
-  more-here = record {
-    count-is = getD-set-same counts place (n + 1) 0 (omega (arith, M .counts-long)) ∙ add-one n ∙ ap suc (R .count-is);
-    line-is = R .line-is;
-  }
+  abbrev used : List ℕ
+  used = set lists 4335 slot
 
-  more-there : (S′ a′ : ℕ) → S′ < b .states → a′ < 32 → (32 * S′ + a′ ≡ place → ⊥) → PlanAt (planOf b S′ a′) counts lists (32 * S′ + a′)
-      → PlanAt (planOf b S′ a′) (set counts place (n + 1)) new (32 * S′ + a′)
-  more-there S′ a′ s′ low′ other P = record {
-    count-is = getD-set-other counts place (32 * S′ + a′) (n + 1) 0 other ∙ P .count-is;
-    line-is = λ i h. by i (omega (arith, h, few-lines)) (decLt (32 * S′ + a′) place) ∙ P .line-is i h;
-  }
-    where
-      few-lines : length (planOf b S′ a′) ≤ MAX-INHERITED
-      few-lines = plan-short b _
+  last-is : lastSlot used ≡ slot
+  last-is = getD-set-same lists 4335 slot 0 (omega (arith, M .lists-long))
 
-      by : (i : ℕ) → i < 16 → Dec (32 * S′ + a′ < place) → getD new (16 * (32 * S′ + a′) + i) 0 ≡ getD lists (16 * (32 * S′ + a′) + i) 0
-      by i h (yes l) = E .before _ (omega arith)
-      by i h (no m) = E .behind _ (omega (arith, other))
+  stays : (i : ℕ) → i < 4335 → getD used i 0 ≡ getD lists i 0
+  stays i h = getD-set-other lists 4335 i slot 0 (λ e. absurd (omega arith))
 
-  pub plans-more : PlansIn b (set counts place (n + 1)) new
-  plans-more = record {
-    counts-long = length-set counts place (n + 1) ∙ M .counts-long;
-    lists-long = omega (arith, E .long, M .lists-long);
-    plan-at = λ S′ a′ s′ low′ k. by S′ a′ s′ low′ k (ℕ-discrete (32 * S′ + a′) place);
+  note-stays : {lines : List ℕ} {k : ℕ} → length lines ≤ MAX-INHERITED → k ≤ slot → PlanIn lines lists k → PlanNoted lines used k
+  note-stays {k = k} few h Q = record { in-use = omega (arith, last-is); plan-in = plan-stays k few (λ i j. stays i (omega arith)) Q }
+
+  pub noted-here : PlanNoted (planOf b S a) used slot
+  noted-here = note-stays (plan-short b _) (omega arith) P
+
+  pub plans-noted : PlansIn b (set slots place (slot + 1)) used
+  plans-noted = record {
+    slots-long = omega (arith, length-set slots place (slot + 1), M .slots-long);
+    lists-long = length-set lists 4335 slot ∙ M .lists-long;
+    last-low = omega (arith, last-is);
+    first-none = stays 0 (omega arith) ∙ M .first-none;
+    noted = λ S′ a′ k s′ l′ e. by S′ a′ k s′ l′ e (ℕ-discrete (32 * S′ + a′) place);
   }
     where
-      by : (S′ a′ : ℕ) → S′ < b .states → a′ < 32 → (getD (set counts place (n + 1)) (32 * S′ + a′) 0 ≡ 0 → ⊥) → Dec (32 * S′ + a′ ≡ place)
-          → PlanAt (planOf b S′ a′) (set counts place (n + 1)) new (32 * S′ + a′)
-      by S′ a′ s′ low′ k (yes e) =
+      by : (S′ a′ k : ℕ) → S′ < b .states → a′ < 32 → getD (set slots place (slot + 1)) (32 * S′ + a′) 0 ≡ k + 1 → Dec (32 * S′ + a′ ≡ place)
+          → PlanNoted (planOf b S′ a′) used k
+      by S′ a′ k s′ l′ e (yes h) =
           let same : S′ ≡ S = omega arith in
           let also : a′ ≡ a = omega arith in
-          rw (same, also) more-here
-      by S′ a′ s′ low′ k (no m) =
-          more-there S′ a′ s′ low′ m (M .plan-at S′ a′ s′ low′ (λ z. k (getD-set-other counts place (32 * S′ + a′) (n + 1) 0 m ∙ z)))
+          let here : getD (set slots place (slot + 1)) place 0 ≡ k + 1 = rw h at e in
+          let this : k ≡ slot = omega (arith, here, getD-set-same slots place (slot + 1) 0 (omega (arith, M .slots-long))) in
+          rw (same, also, this) noted-here
+      by S′ a′ k s′ l′ e (no n) =
+          let N = M .noted S′ a′ k s′ l′ (sym (getD-set-other slots place (32 * S′ + a′) (slot + 1) 0 n) ∙ e) in
+          note-stays (plan-short b _) (omega (arith, N .in-use)) (N .plan-in)
 
--- all plans of a state, one count after the other
-pub none-start : (S : ℕ) {counts : List ℕ} → NoLines S 0 counts counts
+-- all plans of a state, one slot after the other
+pub none-start : (S : ℕ) {slots : List ℕ} → NoLines S 0 slots slots
 none-start S = record { long = refl; none = λ a l. absurd (omega arith); before = λ i l. refl; behind = λ i l. refl }
 
 pub none-more : (S : ℕ) {a : ℕ} {old new : List ℕ} → 32 * S + a < length new → NoLines S a old new → NoLines S (a + 1) old (set new (32 * S + a) 1)
@@ -123,22 +151,26 @@ none-more S {a} {old} {new} there N = record {
     by c l (no n) = getD-set-other new (32 * S + a) (32 * S + c) 1 0 (λ e. n (omega arith)) ∙ N .none c (omega (arith, n))
 
 -- where none of them has a line
-pub plans-nothing : {b : Book} {counts new lists : List ℕ} → PlansIn b counts lists → (S : ℕ) → ((a : ℕ) → a < 32 → planOf b S a ≡ [])
-    → NoLines S 32 counts new → PlansIn b new lists
-plans-nothing {b} {counts} {new} {lists} M S empty N = record {
-  counts-long = N .long ∙ M .counts-long;
+pub plans-nothing : {b : Book} {slots new lists : List ℕ} → PlansIn b slots lists → (S : ℕ) → ((a : ℕ) → a < 32 → planOf b S a ≡ [])
+    → NoLines S 32 slots new → PlansIn b new lists
+plans-nothing {b} {slots} {new} {lists} M S empty N = record {
+  slots-long = omega (arith, N .long, M .slots-long);
   lists-long = M .lists-long;
-  plan-at = λ S′ a s low k. by S′ a s low k (ℕ-discrete S′ S);
+  last-low = M .last-low;
+  first-none = M .first-none;
+  noted = λ S′ a k s low e. by S′ a k s low e (ℕ-discrete S′ S);
 }
   where
-    same : (S′ a : ℕ) → a < 32 → (S′ ≡ S → ⊥) → Dec (S′ < S) → getD new (32 * S′ + a) 0 ≡ getD counts (32 * S′ + a) 0
+    same : (S′ a : ℕ) → a < 32 → (S′ ≡ S → ⊥) → Dec (S′ < S) → getD new (32 * S′ + a) 0 ≡ getD slots (32 * S′ + a) 0
     same S′ a low other (yes l) = N .before (32 * S′ + a) (omega arith)
     same S′ a low other (no m) = N .behind (32 * S′ + a) (omega (arith, other))
 
-    by : (S′ a : ℕ) → S′ < b .states → a < 32 → (getD new (32 * S′ + a) 0 ≡ 0 → ⊥) → Dec (S′ ≡ S) → PlanAt (planOf b S′ a) new lists (32 * S′ + a)
-    by S′ a s low k (yes e) =
-        rw (e, empty a low) (record { count-is = N .none a low; line-is = λ i l. absurd (omega arith) })
-    by S′ a s low k (no other) =
-        let is = same S′ a low other (decLt S′ S) in
-        let P = M .plan-at S′ a s low (λ z. k (is ∙ z)) in
-        record { count-is = is ∙ P .count-is; line-is = P .line-is }
+    by : (S′ a k : ℕ) → S′ < b .states → a < 32 → getD new (32 * S′ + a) 0 ≡ k + 1 → Dec (S′ ≡ S) → PlanNoted (planOf b S′ a) lists k
+    by S′ a k s low e (yes q) =
+        let here : getD new (32 * S + a) 0 ≡ k + 1 = rw q at e in
+        let first : k ≡ 0 = omega (arith, here, N .none a low) in
+        rw (q, empty a low, first) (record {
+          in-use = omega arith;
+          plan-in = record { count-is = M .first-none; line-is = λ i l. absurd (omega arith) };
+        })
+    by S′ a k s low e (no other) = M .noted S′ a k s low (sym (same S′ a low other (decLt S′ S)) ∙ e)

@@ -38,7 +38,7 @@ fn visit(
         → line < grammar.definitions b
         → PlanningIn b (memberOf (now (masks .entry)) terminal) s (now (row .entry)) from (p .known) (p .count)
         → PlanningIn b (memberOf (now (masks .entry)) terminal) (planLine b (memberOf (now (masks .entry)) terminal) line s) (now (row .exit)) from
-        (r .known) (r .count)) × Elsewhere from (now (row .entry)) (now (row .exit)) ⌝ }
+        (r .known) (r .count)) × Elsewhere from (from + 16) (now (row .entry)) (now (row .exit)) ⌝ }
 {
     let attribute = definitions[49 * line + 2];
     if sets::has(p.known, attribute) {
@@ -75,7 +75,7 @@ fn pass(
         → lines ≡ grammar.definitions b
         → PlanningIn b (memberOf (now (masks .entry)) terminal) s (now (row .entry)) from (p .known) (p .count)
         → PlanningIn b (memberOf (now (masks .entry)) terminal) (visits (planLine b (memberOf (now (masks .entry)) terminal)) lines s) (now (row .exit)) from
-        (r .known) (r .count)) × Elsewhere from (now (row .entry)) (now (row .exit)) ⌝ }
+        (r .known) (r .count)) × Elsewhere from (from + 16) (now (row .entry)) (now (row .exit)) ⌝ }
 {
     let mut i = skips[0] as usize;
     while i < lines {
@@ -106,7 +106,7 @@ fn passes(
         → PlanningIn b (memberOf (now (masks .entry)) terminal) s (now (row .entry)) from (p .known) (p .count)
         → PlanningIn b (memberOf (now (masks .entry)) terminal)
         (fixpoint.passes (planLine b (memberOf (now (masks .entry)) terminal)) knownIn (grammar.definitions b) s) (now (row .exit)) from
-        (r .known) (r .count)) × Elsewhere from (now (row .entry)) (now (row .exit)) ⌝ }
+        (r .known) (r .count)) × Elsewhere from (from + 16) (now (row .entry)) (now (row .exit)) ⌝ }
 {
     loop {
         let before = p.count;
@@ -144,7 +144,7 @@ pub fn plan(
         × (terminal < 32) × (from + 16 ≤ length (now row)) × Skips (now definitions) (now masks) lines (now skips) ⌝ }
     ensures { λ r. ⌜ ((b : Book) → CheckHeld b (now (definitions .entry)) (now (rules .entry)) (now (owned .entry)) (now (masks .entry))
         → lines ≡ grammar.definitions b → PlanRow (specs.plan b (memberOf (now (masks .entry)) terminal)) (now (row .exit)) from r)
-        × Elsewhere from (now (row .entry)) (now (row .exit)) ⌝ }
+        × Elsewhere from (from + 16) (now (row .entry)) (now (row .exit)) ⌝ }
 {
     let p = Progress { known: 0, count: 0 };
     passes(

@@ -13,12 +13,12 @@ use Rattle.plans.proofs.memory.plan_idle.Statement.{statement}
 use Rattle.plans.proofs.memory.plan_idle.Tie as tie
 
 abbrev Inv-loop : tie.InvT-loop
-Inv-loop definitions lines rules kernels starts closures states counts₀ places state₀ counts state =
-    (length counts ≡ length counts₀)
-    × ((b : Book) (lists : List ℕ) → StatesHeld b definitions lines rules kernels starts closures states → PlansIn b counts₀ lists → PlansIn b counts lists)
+Inv-loop definitions lines rules kernels starts closures states slots₀ places state₀ slots state =
+    (length slots ≡ length slots₀)
+    × ((b : Book) (lists : List ℕ) → StatesHeld b definitions lines rules kernels starts closures states → PlansIn b slots₀ lists → PlansIn b slots lists)
 
 abbrev μ-loop : tie.MeasureT-loop
-μ-loop definitions lines rules kernels starts closures states counts₀ places state₀ counts state = states - state
+μ-loop definitions lines rules kernels starts closures states slots₀ places state₀ slots state = states - state
 
 slice-aggregate-mark-places : tie.Need-slice-aggregate-mark-places Inv-loop μ-loop
 slice-aggregate-mark-places c = search needs
@@ -40,9 +40,8 @@ plan-if-idle-requires c κs =
     let m = at .before .before in
     let s = m .before .before .before .before .before .before .before .before in
     let (b, H) = s .pre .0 in (
-      (b, _, states-items H, omega (arith, c .before .before .loop-test .taken, H .states-are)),
+      (b, _, states-items H, omega (arith, c .before .before .loop-test .taken, H .states-are), omega (arith, at .loop .inv .0, s .pre .1, H .states-are)),
       m .mark-places .ensures b _ _ (states-check H) (H .plans-held .formulas-held .definitions-counted) .long,
-      omega (arith, at .loop .inv .0, s .pre .1),
     )
 
 add-state : tie.Need-add-state Inv-loop μ-loop

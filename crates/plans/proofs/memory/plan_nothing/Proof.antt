@@ -1,4 +1,4 @@
--- `memory::plan_nothing` meets its contract: the counts before the turn's are 1.
+-- `memory::plan_nothing` meets its contract: the slots before the turn's are 1.
 -- Assumes nothing.
 use Prim.Native.Nat.{_+_, _*_, _-_, _<_, _≤_}
 use mathlib.Core.Path.{_≡_}
@@ -11,12 +11,12 @@ use Rattle.plans.proofs.memory.plan_nothing.Statement.{statement}
 use Rattle.plans.proofs.memory.plan_nothing.Tie as tie
 
 abbrev Inv-loop : tie.InvT-loop
-Inv-loop counts₀ state a₀ counts a = (a ≤ 32) × NoLines state a counts₀ counts
+Inv-loop slots₀ state a₀ slots a = (a ≤ 32) × NoLines state a slots₀ slots
 
 abbrev μ-loop : tie.MeasureT-loop
-μ-loop counts₀ state a₀ counts a = 32 - a
+μ-loop slots₀ state a₀ slots a = 32 - a
 
-there : (c : tie.In-loop Inv-loop μ-loop) → 32 * c .before .before .args .state + c .before .loop .a < length (c .before .loop .counts)
+there : (c : tie.In-loop Inv-loop μ-loop) → 32 * c .before .before .args .state + c .before .loop .a < length (c .before .loop .slots)
 there c =
     let s = c .before .before in
     omega (arith, s .pre .0, s .pre .1, c .loop-test .taken, c .before .loop .inv .1 .long)
@@ -24,14 +24,14 @@ there c =
 loop-holds : tie.Need-loop-holds Inv-loop μ-loop
 loop-holds c = (omega arith, none-start _)
 
-mul-counts : tie.Need-mul-counts Inv-loop μ-loop
-mul-counts c = omega (arith, c .before .before .pre .0)
+mul-slots : tie.Need-mul-slots Inv-loop μ-loop
+mul-slots c = omega (arith, c .before .before .pre .0)
 
-add-counts : tie.Need-add-counts Inv-loop μ-loop
-add-counts c = omega (arith, c .before .before .pre .0, c .loop-test .taken)
+add-slots : tie.Need-add-slots Inv-loop μ-loop
+add-slots c = omega (arith, c .before .before .pre .0, c .loop-test .taken)
 
-slice-write-counts : tie.Need-slice-write-counts Inv-loop μ-loop
-slice-write-counts c = there c
+slice-write-slots : tie.Need-slice-write-slots Inv-loop μ-loop
+slice-write-slots c = there c
 
 add-a : tie.Need-add-a Inv-loop μ-loop
 add-a c = search needs
@@ -54,4 +54,4 @@ returns c =
 pub plan-nothing-spec : {M : Type 1} → statement M
 plan-nothing-spec =
     tie.close
-    (tie.spec Inv-loop μ-loop loop-holds mul-counts add-counts slice-write-counts add-a loop-less loop-again same-length returns)
+    (tie.spec Inv-loop μ-loop loop-holds mul-slots add-slots slice-write-slots add-a loop-less loop-again same-length returns)

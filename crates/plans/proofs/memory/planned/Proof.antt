@@ -1,40 +1,23 @@
--- `memory::planned` meets its contract: a plan that is known is told, any other is worked out from the sets of its state's items.
+-- `memory::planned` meets its contract: a plan that is known is told, any other is worked out into the next slot.
 -- Assumes nothing.
-use Prim.Native.Nat.{_≤_, _<_, _+_, _*_}
+use Prim.Native.Nat.{_+_, _*_}
 use native.Mathlib.Omega.{arith}
 use mathlib.Core.Path.{refl}
 use borrow.Author.Needs.{needs}
-use Rattle.grammar.specs.Limits.{MAX-INHERITED}
-use Rattle.plans.specs.MemoryLaws.{row-short, place-low, plans-check, plan-known, plan-new}
+use Rattle.plans.specs.MemoryLaws.{told-known, told-spare, told-new}
 use Rattle.plans.proofs.memory.planned.Statement.{statement}
 use Rattle.plans.proofs.memory.planned.Tie as tie
 
--- the entry, as the place after the count is read knows it
+-- from each place back to the one before, and to the entry
+
 abbrev entry : tie.After-slice-known4 → tie.Start
 entry c = c .before .before .before .before .before .before .before .before .before .before .before .before
 
--- where the state's items are worked out
-abbrev asked : tie.After-masks → tie.After-slice-known4
-asked c = c .before .before .before
+abbrev start : tie.After-plan-into → tie.Start
+start c = entry (c .before .before .before .before .before)
 
--- where it is known which definitions are of these items
-abbrev marked : tie.After-skip → tie.After-masks
-marked c = c .before .before .before .before .before
-
-abbrev skipped : tie.After-plan → tie.After-skip
-skipped c = c .before .before .before .before .before
-
-place : (c : tie.After-slice-known4) → 32 * entry c .args .state + entry c .args .terminal < 4096
-place c = let s = entry c in place-low (s .pre .0 .1) (s .pre .0 .2) (s .pre .1)
-
--- a plan is short
-few : (c : tie.After-plan) → c .plan .result ≤ MAX-INHERITED
-few c =
-    let m = marked (skipped c) in
-    let (b, H, l, M) = entry (asked m) .pre .0 in
-    let F = H .formulas-held in
-    let marks = m .masks .ensures b (H .firsts) _ (F .marks-held) (plans-check H (entry (asked m) .pre .2)) (F .definitions-counted) l in
-    row-short b _ (c .plan .ensures .0 b (plans-check H (marks .long)) (F .definitions-counted))
+abbrev filled : tie.After-slice-known7 → tie.After-plan-into
+filled c = c .before .before .before .before
 
 mul-place : tie.Need-mul-place
 mul-place c = search needs
@@ -52,59 +35,22 @@ sub-result : tie.Need-sub-result
 sub-result c = search needs
 
 returns : tie.Need-returns
-returns c = λ b H s M. plan-known H M s (entry (c .before) .pre .1) (c .if1 .taken)
+returns c = λ b H s M. told-known H (entry (c .before) .pre .1) M s (c .if1 .taken)
 
-masks-requires : tie.Need-masks-requires
-masks-requires c κs =
-    let s = entry (c .before .before) in
+slice-read-slot : tie.Need-slice-read-slot
+slice-read-slot c = search needs
+
+cast-slot : tie.Need-cast-slot
+cast-slot c = search needs
+
+add-slot : tie.Need-add-slot
+add-slot c = search needs
+
+plan-into-requires : tie.Need-plan-into-requires
+plan-into-requires c κs =
+    let s = entry (c .before .before .before .before) in
     let (b, H, l, M) = s .pre .0 in
-    let F = H .formulas-held in
-    (b, H .firsts, _, F .marks-held, plans-check H (s .pre .2), F .definitions-counted, l)
-
-slice-aggregate-skip : tie.Need-slice-aggregate-skip
-slice-aggregate-skip c = search needs
-
-skip-requires : tie.Need-skip-requires
-skip-requires c κs =
-    let m = c .before .before .before .before in
-    let (b, H, l, M) = entry (asked m) .pre .0 in
-    let F = H .formulas-held in
-    let marks = m .masks .ensures b (H .firsts) _ (F .marks-held) (plans-check H (entry (asked m) .pre .2)) (F .definitions-counted) l in
-    ((b, _, _, plans-check H (marks .long), F .definitions-counted), refl)
-
-slice-aggregate-plan : tie.Need-slice-aggregate-plan
-slice-aggregate-plan c = search needs
-
-mul-plan : tie.Need-mul-plan
-mul-plan c =
-    omega (arith, place (asked (marked (c .before .before .before .before))))
-
-plan-requires : tie.Need-plan-requires
-plan-requires c κs =
-    let v = c .before .before .before .before in
-    let m = marked v in
-    let s = entry (asked m) in
-    let (b, H, l, M) = s .pre .0 in
-    let F = H .formulas-held in
-    let marks = m .masks .ensures b (H .firsts) _ (F .marks-held) (plans-check H (entry (asked m) .pre .2)) (F .definitions-counted) l in (
-      (b, plans-check H (marks .long), F .definitions-counted),
-      omega (arith, s .pre .1),
-      omega (arith, l, s .pre .1, M .lists-long),
-      v .skip .ensures,
-    )
-
-cast-counts : tie.Need-cast-counts
-cast-counts c =
-    omega (arith, few (c .before .before))
-
-add-counts : tie.Need-add-counts
-add-counts c =
-    omega (arith, few (c .before .before))
-
-slice-write-counts : tie.Need-slice-write-counts
-slice-write-counts c =
-    let e = asked (marked (skipped (c .before .before))) in
-    omega (arith, place e, entry e .pre .0 .3 .counts-long)
+    ((b, _, H, l), s .pre .1, omega (arith, M .last-low), s .pre .2, M .lists-long)
 
 same-length : tie.Need-same-length
 same-length c = search needs
@@ -112,17 +58,39 @@ same-length c = search needs
 same-length-2 : tie.Need-same-length-2
 same-length-2 c = search needs
 
+returns-2 : tie.Need-returns-2
+returns-2 c = λ b H l M.
+    let p = filled (c .before) in
+    told-spare H (start p .pre .1) M l refl (p .plan-into .ensures .0 b _ H l) (p .plan-into .ensures .1)
+
+cast-slots : tie.Need-cast-slots
+cast-slots c = search needs
+
+add-slots : tie.Need-add-slots
+add-slots c = search needs
+
+slice-write-slots : tie.Need-slice-write-slots
+slice-write-slots c = search needs
+
+cast-lists : tie.Need-cast-lists
+cast-lists c = search needs
+
+slice-write-lists : tie.Need-slice-write-lists
+slice-write-lists c = search needs
+
 same-length-3 : tie.Need-same-length-3
 same-length-3 c = search needs
 
-returns-2 : tie.Need-returns-2
-returns-2 c =
-    λ b H l M.
-    let p = c .before .before in
-    let m = marked (skipped p) in
-    let F = H .formulas-held in
-    let marks = m .masks .ensures b (H .firsts) _ (F .marks-held) (plans-check H (entry (asked m) .pre .2)) (F .definitions-counted) l in
-    plan-new H M l (entry (asked m) .pre .1) marks (p .plan .ensures .0 b (plans-check H (marks .long)) (F .definitions-counted)) (p .plan .ensures .1)
+same-length-4 : tie.Need-same-length-4
+same-length-4 c = search needs
+
+same-length-5 : tie.Need-same-length-5
+same-length-5 c = search needs
+
+returns-3 : tie.Need-returns-3
+returns-3 c = λ b H l M.
+    let p = filled (c .before) in
+    told-new H (start p .pre .1) M l refl (p .plan-into .ensures .0 b _ H l) (p .plan-into .ensures .1) (c .if2 .left)
 
 pub planned-spec : {M : Type 1} → statement M
 planned-spec =
@@ -134,16 +102,19 @@ planned-spec =
     cast-result
     sub-result
     returns
-    masks-requires
-    slice-aggregate-skip
-    skip-requires
-    slice-aggregate-plan
-    mul-plan
-    plan-requires
-    cast-counts
-    add-counts
-    slice-write-counts
+    slice-read-slot
+    cast-slot
+    add-slot
+    plan-into-requires
     same-length
     same-length-2
+    returns-2
+    cast-slots
+    add-slots
+    slice-write-slots
+    cast-lists
+    slice-write-lists
     same-length-3
-    returns-2)
+    same-length-4
+    same-length-5
+    returns-3)

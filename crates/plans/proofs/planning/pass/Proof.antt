@@ -19,7 +19,7 @@ use Rattle.plans.proofs.planning.pass.Tie as tie
 
 abbrev Inv-loop : tie.InvT-loop
 Inv-loop definitions lines terminal skips masks rules owned row₀ from p₀ i₀ row p i =
-    (i ≤ lines) × Elsewhere from row₀ row × ((b : Book) (s : Planning) → CheckHeld b definitions rules owned masks → lines ≡ grammar.definitions b
+    (i ≤ lines) × Elsewhere from (from + 16) row₀ row × ((b : Book) (s : Planning) → CheckHeld b definitions rules owned masks → lines ≡ grammar.definitions b
     → PlanningIn b (memberOf masks terminal) s row₀ from (p₀ .known) (p₀ .count)
     → PlanningIn b (memberOf masks terminal) (visits (planLine b (memberOf masks terminal)) i s) row from (p .known) (p .count))
 

@@ -1,6 +1,6 @@
 -- `planning::passes` meets its contract: the loop keeps `Passing`, for every book and plan that the arrays hold.
 -- Assumes nothing.
-use Prim.Native.Nat.{_-_}
+use Prim.Native.Nat.{_+_, _-_}
 use mathlib.Core.Path.{_≡_}
 use native.Mathlib.Omega.{arith}
 use Rattle.grammar.specs.Limits.{MAX-INHERITED}
@@ -16,7 +16,7 @@ use Rattle.plans.proofs.planning.passes.Tie as tie
 
 abbrev Inv-loop : tie.InvT-loop
 Inv-loop definitions lines terminal skips masks rules owned row₀ from p₀ row p =
-    Elsewhere from row₀ row × ((b : Book) (s : Planning) → CheckHeld b definitions rules owned masks → lines ≡ grammar.definitions b
+    Elsewhere from (from + 16) row₀ row × ((b : Book) (s : Planning) → CheckHeld b definitions rules owned masks → lines ≡ grammar.definitions b
     → PlanningIn b (memberOf masks terminal) s row₀ from (p₀ .known) (p₀ .count)
     → Passing b (memberOf masks terminal) s row from (p .known) (p .count))
 

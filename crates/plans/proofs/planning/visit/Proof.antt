@@ -101,7 +101,7 @@ returns-3 c =
           (due-told b (now (given .args .masks)) (w .single .ensures) (given .pre .1) (slotsFor (knownOf s)) (lineAt b (given .args .line))
           (d .due .ensures b (slotsFor (knownOf s)) H l (due-known H l s R)))
           (c .before .before .before .if2 .left)),
-      elsewhere-set _ _ _ _ (room e),
+      elsewhere-set _ _ _ _ _ (omega arith) (omega (arith, room e)),
     )
 
 pub visit-spec : {M : Type 1} → statement M

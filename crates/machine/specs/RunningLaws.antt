@@ -43,16 +43,16 @@ module _ (b : Book) (T : Tables) where
 -- ---- the run
 
 -- a configuration that comes to the machine's answer, in the arrays, with the plans that are worked out
-pub record Underway (b : Book) (ks : List Token) (states inherited synthesized starts rows counts lists : List ℕ) (top : Top) : Type 0 where
+pub record Underway (b : Book) (ks : List Token) (states inherited synthesized starts rows slots lists : List ℕ) (top : Top) : Type 0 where
   pub at : Config
   pub config-in : ConfigIn b ks states inherited synthesized starts rows top at
-  pub plans-in : PlansIn b counts lists
+  pub plans-in : PlansIn b slots lists
   pub ends : Ends b (tablesOf b) at (evaluate b (tablesOf b) ks)
 
 -- "Start: state 0, no symbols, no rows, first token next"
-pub underway-start : {b : Book} {ks : List Token} {inherited synthesized starts rows counts lists : List ℕ} {top : Top} (states : List ℕ)
-    → PlansIn b counts lists → length states ≡ 129 → rows ≡ replicate 5120 0 → top .depth ≡ 0 → top .rows ≡ 0 → top .position ≡ 0
-    → Underway b ks (set states 0 0) inherited synthesized starts rows counts lists top
+pub underway-start : {b : Book} {ks : List Token} {inherited synthesized starts rows slots lists : List ℕ} {top : Top} (states : List ℕ)
+    → PlansIn b slots lists → length states ≡ 129 → rows ≡ replicate 5120 0 → top .depth ≡ 0 → top .rows ≡ 0 → top .position ≡ 0
+    → Underway b ks (set states 0 0) inherited synthesized starts rows slots lists top
 unfolding page filled
 underway-start {b} {ks} states P l r d n p = record {
   at = start ks;
@@ -78,12 +78,12 @@ rows-of : {b : Book} {ks : List Token} {c : Config} {states inherited synthesize
     → ConfigIn b ks states inherited synthesized starts rows top c → top .rows ≡ rowCount c
 rows-of (stands C) = C .count-is
 
-module _ {b : Book} {ks : List Token} {states inherited synthesized starts rows counts lists : List ℕ} {top : Top}
-    (U : Underway b ks states inherited synthesized starts rows counts lists top) where
+module _ {b : Book} {ks : List Token} {states inherited synthesized starts rows slots lists : List ℕ} {top : Top}
+    (U : Underway b ks states inherited synthesized starts rows slots lists top) where
   -- a move more
   module _ {states′ inherited′ synthesized′ starts′ rows′ : List ℕ} {next : Top}
       (on : GoesOn b ks (U .at) states′ inherited′ synthesized′ starts′ rows′ next) where
-    underway-more : {counts′ lists′ : List ℕ} → PlansIn b counts′ lists′ → Underway b ks states′ inherited′ synthesized′ starts′ rows′ counts′ lists′ next
+    underway-more : {slots′ lists′ : List ℕ} → PlansIn b slots′ lists′ → Underway b ks states′ inherited′ synthesized′ starts′ rows′ slots′ lists′ next
     underway-more P = record { at = on .then; config-in = on .holds; plans-in = P; ends = ends-more b (tablesOf b) (U .ends) (on .moves) }
 
     -- and a row more
@@ -97,33 +97,33 @@ module _ {b : Book} {ks : List Token} {states inherited synthesized starts rows 
 
 -- ---- what a step tells
 
-module _ (b : Book) (ks : List Token) (top : Top) (states inherited synthesized starts rows counts lists : List ℕ) where
+module _ (b : Book) (ks : List Token) (top : Top) (states inherited synthesized starts rows slots lists : List ℕ) where
   pub data Stepped : Moved → Type 0 where
-    goes-on : {next : Top} → Underway b ks states inherited synthesized starts rows counts lists next → 512 - next .rows < 512 - top .rows → Stepped (On next)
+    goes-on : {next : Top} → Underway b ks states inherited synthesized starts rows slots lists next → 512 - next .rows < 512 - top .rows → Stepped (On next)
     answers : {r : Outcome} → Answered (evaluate b (tablesOf b) ks) r rows → Stepped (Stopped r)
 
 -- by its answer
-module _ {b : Book} {ks : List Token} {top : Top} {states inherited synthesized starts rows counts lists : List ℕ} where
-  pub step-more : {m : Moved} {next : Top} → Stepped b ks top states inherited synthesized starts rows counts lists m → m ≡ On next
-      → Underway b ks states inherited synthesized starts rows counts lists next
+module _ {b : Book} {ks : List Token} {top : Top} {states inherited synthesized starts rows slots lists : List ℕ} where
+  pub step-more : {m : Moved} {next : Top} → Stepped b ks top states inherited synthesized starts rows slots lists m → m ≡ On next
+      → Underway b ks states inherited synthesized starts rows slots lists next
   step-more {next = next} (goes-on {next = n} u l) e = let same : n ≡ next = cc in rw same at u
   step-more (answers a) e = absurd (let z : _≡_ {A = ℕ} 0 1 = cc in omega arith)
 
-  pub step-less : {m : Moved} {next : Top} → Stepped b ks top states inherited synthesized starts rows counts lists m → m ≡ On next
+  pub step-less : {m : Moved} {next : Top} → Stepped b ks top states inherited synthesized starts rows slots lists m → m ≡ On next
       → 512 - next .rows < 512 - top .rows
   step-less {next = next} (goes-on {next = n} u l) e = let same : n ≡ next = cc in rw same at l
   step-less (answers a) e = absurd (let z : _≡_ {A = ℕ} 0 1 = cc in omega arith)
 
-  pub step-answers : {m : Moved} {r : Outcome} → Stepped b ks top states inherited synthesized starts rows counts lists m → m ≡ Stopped r
+  pub step-answers : {m : Moved} {r : Outcome} → Stepped b ks top states inherited synthesized starts rows slots lists m → m ≡ Stopped r
       → Answered (evaluate b (tablesOf b) ks) r rows
   step-answers (goes-on u l) e = absurd (let z : _≡_ {A = ℕ} 0 1 = cc in omega arith)
   step-answers {r = r} (answers {r = s} a) e = let same : s ≡ r = cc in rw same at a
 
 -- what a move told is what the step tells
-stepped : {b : Book} {ks : List Token} {states inherited synthesized starts rows counts lists : List ℕ} {top : Top}
-    (U : Underway b ks states inherited synthesized starts rows counts lists top)
-    {states′ inherited′ synthesized′ starts′ rows′ counts′ lists′ : List ℕ} {m : Moved} → PlansIn b counts′ lists′
-    → Told b ks (U .at) states′ inherited′ synthesized′ starts′ rows′ m → Stepped b ks top states′ inherited′ synthesized′ starts′ rows′ counts′ lists′ m
+stepped : {b : Book} {ks : List Token} {states inherited synthesized starts rows slots lists : List ℕ} {top : Top}
+    (U : Underway b ks states inherited synthesized starts rows slots lists top)
+    {states′ inherited′ synthesized′ starts′ rows′ slots′ lists′ : List ℕ} {m : Moved} → PlansIn b slots′ lists′
+    → Told b ks (U .at) states′ inherited′ synthesized′ starts′ rows′ m → Stepped b ks top states′ inherited′ synthesized′ starts′ rows′ slots′ lists′ m
 stepped U P (told-on on) = goes-on (underway-more U on P) (underway-less U on)
 stepped {b} U P (told-accepted {r = r} a z n) = answers {r = r} (rw (ends-stop b (tablesOf b) (U .ends) (a .stops)) (z, n, a .rows-are))
 stepped {b} U P (told-refused {r = r} e z) = answers {r = r} (rw (ends-stop b (tablesOf b) (U .ends) e) (refl, z))
@@ -132,9 +132,9 @@ stepped {b} U P (told-refused {r = r} e z) = answers {r = r} (rw (ends-stop b (t
 
 module _ {b : Book} {ks : List Token} {rules : List ℕ} {count : ℕ} {definitions : List ℕ} {lines : ℕ}
     {owned kernels heads closures nulls reaches firsts down up table actions tokens : List ℕ}
-    {states inherited synthesized starts rows counts lists : List ℕ} {top : Top}
+    {states inherited synthesized starts rows slots lists : List ℕ} {top : Top}
     (R : RunIn b ks rules count definitions lines owned kernels heads closures nulls reaches firsts down up table actions tokens) (M : Message b ks)
-    (U : Underway b ks states inherited synthesized starts rows counts lists top) where
+    (U : Underway b ks states inherited synthesized starts rows slots lists top) where
   pub run-low : TopLow top
   run-low = top-low M (U .config-in)
 
@@ -149,12 +149,12 @@ module _ {b : Book} {ks : List Token} {rules : List ℕ} {count : ℕ} {definiti
     run-asked = config-asked (R .driven .book-in) (U .config-in) (run-facing refl .state-is) refl
 
     -- where what `set_top` ensures is known: the law takes it whole, so that its long terms are written once
-    module _ {counts′ lists′ inherited′ : List ℕ}
+    module _ {slots′ lists′ inherited′ : List ℕ}
         (sets : (b : Book) (states starts : List ℕ) (st : List Frame)
         → TopAsked b definitions inherited synthesized state (top .depth) states starts st → state < b .states
-        → PlansHeld b rules count definitions lines owned kernels heads closures nulls reaches → PlansIn b counts lists
-        → TopSet b counts′ lists′ inherited inherited′ synthesized state kind states starts st) where
-      cell-set : TopSet b counts′ lists′ inherited inherited′ synthesized state kind states starts (framesOf (U .at))
+        → PlansHeld b rules count definitions lines owned kernels heads closures nulls reaches → PlansIn b slots lists
+        → TopSet b slots′ lists′ inherited inherited′ synthesized state kind states starts st) where
+      cell-set : TopSet b slots′ lists′ inherited inherited′ synthesized state kind states starts (framesOf (U .at))
       cell-set = sets b states starts (framesOf (U .at)) run-asked (run-facing refl .state-there) (R .driven .plans-held) (U .plans-in)
 
       pub run-poised : Poised b ks (U .at) states inherited′ synthesized starts rows top
@@ -171,19 +171,19 @@ module _ {b : Book} {ks : List Token} {rules : List ℕ} {count : ℕ} {definiti
           (moved : (b : Book) (ks : List Token) (c : Config) → MovesIn b rules definitions firsts down up table actions
           → Poised b ks c states inherited′ synthesized starts rows top → Facing b c state kind value
           → Told b ks c states′ inherited′ synthesized′ starts′ rows′ m) where
-        pub run-stepped : Stepped b ks top states′ inherited′ synthesized′ starts′ rows′ counts′ lists′ m
+        pub run-stepped : Stepped b ks top states′ inherited′ synthesized′ starts′ rows′ slots′ lists′ m
         run-stepped = stepped U (cell-set .plans-in) (moved b ks (U .at) run-moves run-poised (run-facing value-is))
 
 -- the arrays as they are lent, after a step
-pub record RoomsLeft (room : ℕ) (states inherited synthesized starts rows sets counts lists : List ℕ) : Type 0 where
+pub record RoomsLeft (room : ℕ) (states inherited synthesized starts rows sets slots lists : List ℕ) : Type 0 where
   pub rooms : Rooms states inherited synthesized starts rows sets
-  pub counts-long : length counts ≡ 4096
-  pub lists-long : length lists ≡ room
+  pub slots-long : length slots ≡ room
+  pub lists-long : length lists ≡ 4336
 
-pub rooms-kept : {room : ℕ} {states inherited synthesized starts rows sets counts lists states′ inherited′ synthesized′ starts′ rows′ sets′ counts′ lists′ : List ℕ}
-    → RoomsLeft room states inherited synthesized starts rows sets counts lists → length states′ ≡ length states → length inherited′ ≡ length inherited
+pub rooms-kept : {room : ℕ} {states inherited synthesized starts rows sets slots lists states′ inherited′ synthesized′ starts′ rows′ sets′ slots′ lists′ : List ℕ}
+    → RoomsLeft room states inherited synthesized starts rows sets slots lists → length states′ ≡ length states → length inherited′ ≡ length inherited
     → length synthesized′ ≡ length synthesized → length starts′ ≡ length starts → length rows′ ≡ length rows → length sets′ ≡ length sets
-    → length counts′ ≡ length counts → length lists′ ≡ length lists → RoomsLeft room states′ inherited′ synthesized′ starts′ rows′ sets′ counts′ lists′
+    → length slots′ ≡ length slots → length lists′ ≡ length lists → RoomsLeft room states′ inherited′ synthesized′ starts′ rows′ sets′ slots′ lists′
 rooms-kept R a b c d e f g h = record {
   rooms = record {
     stacks = record {
@@ -195,6 +195,6 @@ rooms-kept R a b c d e f g h = record {
     cells-long = b ∙ R .rooms .cells-long;
     sets-long = f ∙ R .rooms .sets-long;
   };
-  counts-long = g ∙ R .counts-long;
+  slots-long = g ∙ R .slots-long;
   lists-long = h ∙ R .lists-long;
 }

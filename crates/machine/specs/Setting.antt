@@ -43,8 +43,8 @@ pub record TopAsked (b : Book) (definitions inherited synthesized : List ℕ) (s
   pub path : Path (tablesOf b) state st
 
 -- the plans' memory and the cell after it is set
-pub record TopSet (b : Book) (counts lists old new synthesized : List ℕ) (state kind : ℕ) (states starts : List ℕ) (st : List Frame) : Type 0 where
-  pub plans-in : PlansIn b counts lists
+pub record TopSet (b : Book) (slots lists old new synthesized : List ℕ) (state kind : ℕ) (states starts : List ℕ) (st : List Frame) : Type 0 where
+  pub plans-in : PlansIn b slots lists
   pub cell-in : CellSet b states synthesized starts st (planOf b state kind) old new
 
 -- the test of the items of a partial state
@@ -71,9 +71,9 @@ module _ {b : Book} {definitions inherited synthesized : List ℕ} {state height
   pub top-short : {lists : List ℕ} {from n : ℕ} → PlanRow (planOf b state a) lists from n → n ≤ 16
   top-short R = omega (arith, R .count-is, plan-short b (partialItems b state a))
 
-  pub top-set : {counts lists new : List ℕ} → length inherited ≡ 2064 → height ≤ 128 → PlansIn b counts lists
+  pub top-set : {slots lists new : List ℕ} → length inherited ≡ 2064 → height ≤ 128 → PlansIn b slots lists
       → new ≡ linesSet b synthesized height (planOf b state a) (cleared (16 * height) 16 inherited)
-      → TopSet b counts lists inherited new synthesized state a states starts st
+      → TopSet b slots lists inherited new synthesized state a states starts st
   top-set long low M e = record {
     plans-in = M;
     cell-in = rw (e, A .height-is) (cell-set b definitions (planOf b state a) inherited (A .frames-in) (omega (arith, A .height-is)) plan-deep);
@@ -94,9 +94,9 @@ module _ {b : Book} {rules definitions table : List ℕ} (B : BookIn b rules def
     path = rw s (C .path);
   }
 
-  module _ {counts lists new : List ℕ} {state kind : ℕ} where
+  module _ {slots lists new : List ℕ} {state kind : ℕ} where
     pub config-set : {c : Config} → ConfigIn b ks states inherited synthesized starts rows top c → state ≡ stateOf c → kind ≡ kindOf c
-        → TopSet b counts lists inherited new synthesized state kind states starts (framesOf c) → ConfigIn b ks states new synthesized starts rows top c
+        → TopSet b slots lists inherited new synthesized state kind states starts (framesOf c) → ConfigIn b ks states new synthesized starts rows top c
     config-set (stands C) s k T = stands (record {
       frames-in = T .cell-in .frames-in;
       state-is = C .state-is;
@@ -112,7 +112,7 @@ module _ {b : Book} {rules definitions table : List ℕ} (B : BookIn b rules def
     })
 
     pub config-cell : {c : Config} → ConfigIn b ks states inherited synthesized starts rows top c → state ≡ stateOf c → kind ≡ kindOf c
-        → TopSet b counts lists inherited new synthesized state kind states starts (framesOf c) → CellIn b new c
+        → TopSet b slots lists inherited new synthesized state kind states starts (framesOf c) → CellIn b new c
     config-cell (stands {S = S} {z = z} C) s k T =
         sym (cell-taken (B .sound) (B .spelled) S (next z) (partialItems b S (next z)) (partial-tells (B .spelled) (B .sound) S (next z))
         (rw (s, k) at (T .cell-in)))

@@ -41,7 +41,7 @@ pub fn run(
     actions: &[u8],
     tokens: &[u32],
     sets: &mut [u32],
-    counts: &mut [u8],
+    slots: &mut [u8],
     lists: &mut [u8],
     states: &mut [u32],
     inherited: &mut [u32],
@@ -53,12 +53,12 @@ pub fn run(
     requires { ⌜ ((b : Book) × (ks : List Token)
         × RunIn b ks (now rules) count (now definitions) lines (now owned) (now kernels) (now heads) (now closures) (now nulls) (now reaches) (now firsts)
         (now down) (now up) (now table) (now actions) (now tokens)
-        × Message b ks × PlansIn b (now counts) (now lists)) ⌝ }
+        × Message b ks × PlansIn b (now slots) (now lists)) ⌝ }
     ensures { λ r. ⌜ ((b : Book) (ks : List Token)
         → RunIn b ks (now (rules .entry)) count (now (definitions .entry)) lines (now (owned .entry)) (now (kernels .entry)) (now (heads .entry))
         (now (closures .entry)) (now (nulls .entry)) (now (reaches .entry)) (now (firsts .entry)) (now (down .entry)) (now (up .entry)) (now (table .entry))
         (now (actions .entry)) (now (tokens .entry))
-        → Message b ks → PlansIn b (now (counts .entry)) (now (lists .entry)) → Answered (evaluate b (tablesOf b) ks) r (now (rows .exit))) ⌝ }
+        → Message b ks → PlansIn b (now (slots .entry)) (now (lists .entry)) → Answered (evaluate b (tablesOf b) ks) r (now (rows .exit))) ⌝ }
 {
     states[0] = 0;
     let mut top = Top::empty();
@@ -82,7 +82,7 @@ pub fn run(
             actions,
             tokens,
             sets,
-            counts,
+            slots,
             lists,
             states,
             inherited,

@@ -28,7 +28,7 @@ pub fn set_top(
     kind: u32,
     height: usize,
     sets: &mut [u32],
-    counts: &mut [u8],
+    slots: &mut [u8],
     lists: &mut [u8],
     inherited: &mut [u32],
     synthesized: &[u32],
@@ -37,16 +37,16 @@ pub fn set_top(
     requires { ⌜ ((b : Book) × (states : List ℕ) × (starts : List ℕ) × (st : List Frame)
         × TopAsked b (now definitions) (now inherited) (now synthesized) state height states starts st × (state < b .states)
         × PlansHeld b (now rules) count (now definitions) lines (now owned) (now kernels) (now heads) (now closures) (now nulls) (now reaches)
-        × PlansIn b (now counts) (now lists)) ⌝ }
+        × PlansIn b (now slots) (now lists)) ⌝ }
     ensures { λ _. ⌜ ((b : Book) (states starts : List ℕ) (st : List Frame)
         → TopAsked b (now (definitions .entry)) (now (inherited .entry)) (now (synthesized .entry)) state height states starts st → state < b .states
         → PlansHeld b (now (rules .entry)) count (now (definitions .entry)) lines (now (owned .entry)) (now (kernels .entry)) (now (heads .entry))
         (now (closures .entry)) (now (nulls .entry)) (now (reaches .entry))
-        → PlansIn b (now (counts .entry)) (now (lists .entry))
-        → TopSet b (now (counts .exit)) (now (lists .exit)) (now (inherited .entry)) (now (inherited .exit)) (now (synthesized .entry)) state kind states
+        → PlansIn b (now (slots .entry)) (now (lists .entry))
+        → TopSet b (now (slots .exit)) (now (lists .exit)) (now (inherited .entry)) (now (inherited .exit)) (now (synthesized .entry)) state kind states
         starts st) ⌝ }
 {
-    let n = planned(
+    let slot = planned(
         rules,
         count,
         definitions,
@@ -60,9 +60,10 @@ pub fn set_top(
         state,
         kind,
         sets,
-        counts,
+        slots,
         lists,
     );
-    let from = 16 * (32 * state + kind as usize);
+    let n = lists[17 * slot] as usize;
+    let from = 17 * slot + 1;
     set_cell(definitions, lists, from, n, height, inherited, synthesized);
 }

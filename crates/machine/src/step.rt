@@ -123,7 +123,7 @@ pub fn step(
     actions: &[u8],
     tokens: &[u32],
     sets: &mut [u32],
-    counts: &mut [u8],
+    slots: &mut [u8],
     lists: &mut [u8],
     states: &mut [u32],
     inherited: &mut [u32],
@@ -136,16 +136,16 @@ pub fn step(
         × RunIn b ks (now rules) count (now definitions) lines (now owned) (now kernels) (now heads) (now closures) (now nulls) (now reaches) (now firsts)
         (now down) (now up) (now table) (now actions) (now tokens)
         × Message b ks
-        × Underway b ks (now states) (now inherited) (now synthesized) (now starts) (now rows) (now counts) (now lists) top) ⌝ }
+        × Underway b ks (now states) (now inherited) (now synthesized) (now starts) (now rows) (now slots) (now lists) top) ⌝ }
     ensures { λ r. ⌜ ((b : Book) (ks : List Token)
         → RunIn b ks (now (rules .entry)) count (now (definitions .entry)) lines (now (owned .entry)) (now (kernels .entry)) (now (heads .entry))
         (now (closures .entry)) (now (nulls .entry)) (now (reaches .entry)) (now (firsts .entry)) (now (down .entry)) (now (up .entry)) (now (table .entry))
         (now (actions .entry)) (now (tokens .entry))
         → Message b ks
         → Underway b ks (now (states .entry)) (now (inherited .entry)) (now (synthesized .entry)) (now (starts .entry)) (now (rows .entry))
-        (now (counts .entry)) (now (lists .entry)) top
+        (now (slots .entry)) (now (lists .entry)) top
         → Stepped b ks top (now (states .exit)) (now (inherited .exit)) (now (synthesized .exit)) (now (starts .exit)) (now (rows .exit))
-        (now (counts .exit)) (now (lists .exit)) r) ⌝ }
+        (now (slots .exit)) (now (lists .exit)) r) ⌝ }
 {
     let depth = top.depth;
     let at = 2 * top.position;
@@ -166,7 +166,7 @@ pub fn step(
         kind,
         depth,
         sets,
-        counts,
+        slots,
         lists,
         inherited,
         synthesized,

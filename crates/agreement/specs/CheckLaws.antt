@@ -15,14 +15,14 @@ use Rattle.grammar.specs.Data.Book.{Book}
 use Rattle.grammar.specs.Formulas.Formula.{Formula}
 use Rattle.grammar.specs.Formulas.Passes.{passes}
 use Rattle.grammar.specs.Formulas.FormulaCheck.{doneIn, advance, unsplit, fresh, definitions, visit, ended, check}
-use Rattle.grammar.specs.Formulas.FormulaCheckSteps.{fresh-long}
+use Rattle.grammar.specs.Formulas.FormulaCheckSteps.{fresh-long, none-done}
 use Rattle.grammar.specs.Formulas.FormulaCheckAll.{fails-below}
 use Rattle.formulas.specs.Table.{HEADS, Table}
 use Rattle.formulas.specs.Buckets.{empty-table}
 use Rattle.formulas.specs.Formulas as formulas
 use Rattle.attributes.specs.SlotsHeld.{SlotsIn}
 use Rattle.attributes.specs.Owned.{KnownIn}
-use Rattle.attributes.specs.Checking.{markOf, ProgressIn, Room}
+use Rattle.attributes.specs.Checking.{markOf, ProgressIn, NodesRoom, Room}
 
 no-slots : (table : List ℕ) → SlotsIn table 0 (replicate MAX-INHERITED none) (replicate MAX-INHERITED 0)
 no-slots table = record {
@@ -35,9 +35,9 @@ none-known : KnownIn (replicate MAX-INHERITED none) 0
 unfolding empty
 none-known = record { known-is = λ K h. rw (getD-replicate {A = Option Formula} 16 K none none h) (bit-empty K) }
 
-none-done : doneIn (replicate MAX-DEFINITIONS false) ≡ 0
+zero-done : doneIn (replicate MAX-DEFINITIONS false) ≡ 0
 unfolding doneIn
-none-done = refl
+zero-done = refl
 
 fresh-in : {table nexts : List ℕ} → Table table (replicate HEADS 0) nexts 0
     → ProgressIn (replicate MAX-INHERITED none) (replicate MAX-DEFINITIONS false) (replicate MAX-INHERITED 0) (replicate MAX-DEFINITIONS 0)
@@ -50,19 +50,39 @@ fresh-in {table} T = record {
   slots-in = no-slots table;
   known-in = none-known;
   mark-is = λ d h. getD-replicate {A = ℕ} 128 d 0 0 h ∙ ap markOf (sym (getD-replicate {A = Bool} 128 d false true h));
-  count-is = sym none-done;
+  count-is = sym zero-done;
   few = omega arith;
+  within = λ d h e. absurd (none-done MAX-DEFINITIONS d h e);
+}
+
+-- arrays of the same lengths have the same room
+nodes-kept : {n : ℕ} {table nexts table′ nexts′ : List ℕ} → NodesRoom n table nexts → length table′ ≡ length table → length nexts′ ≡ length nexts
+    → NodesRoom n table′ nexts′
+nodes-kept R t l = record {
+  table-long = omega (arith, R .table-long);
+  nexts-low = omega (arith, R .nexts-low);
+  enough = omega (arith, R .enough);
+}
+
+pub room-kept : {n : ℕ} {words marks table heads nexts words′ marks′ table′ heads′ nexts′ : List ℕ} → Room n words marks table heads nexts
+    → length words′ ≡ length words → length marks′ ≡ length marks → length table′ ≡ length table → length heads′ ≡ length heads
+    → length nexts′ ≡ length nexts → Room n words′ marks′ table′ heads′ nexts′
+room-kept R w m t h l = record {
+  words-long = w ∙ R .words-long;
+  marks-long = m ∙ R .marks-long;
+  heads-long = h ∙ R .heads-long;
+  nodes-room = nodes-kept (R .nodes-room) t l;
 }
 
 -- the words where a check begins
-pub begun : {words marks table heads nexts words′ marks′ heads′ : List ℕ} → Room words marks table heads nexts → words′ ≡ replicate 16 0
+pub begun : {n : ℕ} {words marks table heads nexts words′ marks′ heads′ : List ℕ} → Room n words marks table heads nexts → words′ ≡ replicate 16 0
     → marks′ ≡ replicate 128 0 ++ drop 128 marks → heads′ ≡ replicate HEADS 0
     → ProgressIn (replicate MAX-INHERITED none) (replicate MAX-DEFINITIONS false) words′ marks′ table heads′ nexts 0 0 0
 begun {marks = marks} {table = table} {nexts = nexts} R w m h =
     let few : length marks ≤ 128 = omega (arith, R .marks-long) in
     let rest : drop 128 marks ≡ [] = drop-of-length-le marks few in
     let all : replicate 128 0 ++ drop 128 marks ≡ replicate 128 0 = ap (λ (l : List ℕ). replicate 128 0 ++ l) rest ∙ append-nil (replicate 128 0) in
-    rw (w, m, all, h) (fresh-in (empty-table table nexts (R .table-long) (R .nexts-long)))
+    rw (w, m, all, h) (fresh-in (empty-table table nexts (R .nodes-room .table-long) (R .nodes-room .nexts-low)))
 
 pub check-is : (b : Book) (member : ℕ → ℕ → Bool) → unsplit (passes (visit b member) advance (definitions b) fresh) ≡ check b member
 unfolding check ended

@@ -3,8 +3,9 @@
 ghost use mathlib.Core.Path.{_≡_};
 ghost use mathlib.Core.Bool.{Bool, true, false};
 ghost use mathlib.Core.List.{List};
-ghost use Prim.Native.Nat.{ℕ, suc, _<_};
+ghost use Prim.Native.Nat.{ℕ, suc, _+_, _*_, _^_, _<_, _≤_};
 ghost use lib.ListN.{length, replicate};
+ghost use Rattle.grammar.specs.Limits.{MAX-NODES};
 ghost use Rattle.grammar.specs.Conditions.Decides.{allBelow};
 ghost use Rattle.grammar.specs.Data.Book.{Book};
 ghost use Rattle.grammar.specs.Formulas.Formula.{Formula};
@@ -13,7 +14,6 @@ ghost use Rattle.grammar.specs.Formulas.FormulaCheck as grammar;
 ghost use Rattle.grammar.specs.Formulas.FormulaCheck.{progress, advance, unsplit};
 ghost use Rattle.grammar.specs.Formulas.Passes as fixpoint;
 ghost use Rattle.grammar.specs.Formulas.Passes.{visits};
-ghost use Rattle.formulas.specs.Table.{ROOM};
 ghost use Rattle.formulas.specs.Meaning.{Means};
 ghost use Rattle.attributes.specs.Skips.{Skips};
 ghost use Rattle.attributes.specs.Checking.{memberIn, memberOf, CheckHeld, ProgressIn, Reached, Room};
@@ -43,7 +43,7 @@ fn enter(
     known: u32,
     count: u32,
 ) -> Progress
-    requires { ⌜ (attribute < 16) × (length (now slots) ≡ 16) × (number < ROOM) ⌝ }
+    requires { ⌜ (attribute < 16) × (length (now slots) ≡ 16) × (number + 1 < 2 ^ 32) ⌝ }
     ensures { λ r. ⌜ ((s : Slots) (done : List Bool) (marks table heads nexts : List ℕ) (f : Formula)
         → ProgressIn s done (now (slots .entry)) marks table heads nexts used known count → Means table used number f
         → Reached (now (slots .exit)) marks table heads nexts (r .used) (r .known) (r .count) (r .split) (grammar.enter s done attribute f)) ⌝ }
@@ -93,7 +93,7 @@ fn visit(
     requires { ⌜ ((b : Book) × (s : Slots) × (d : List Bool) × CheckHeld b (now definitions) (now rules) (now owned) (now masks)
         × (line < grammar.definitions b)
         × ProgressIn s d (now slots) (now done) (now table) (now heads) (now nexts) (p .used) (p .known) (p .count))
-        × (p .split ≡ false) ⌝ }
+        × (p .split ≡ false) × (MAX-NODES * suc line ≤ length (now nexts)) ⌝ }
     ensures { λ r. ⌜ ((b : Book) (s : Slots) (d : List Bool)
         → CheckHeld b (now (definitions .entry)) (now (rules .entry)) (now (owned .entry)) (now (masks .entry))
         → line < grammar.definitions b
@@ -133,7 +133,7 @@ fn pass(
     requires { ⌜ ((b : Book) × (s : Slots) × (d : List Bool) × CheckHeld b (now definitions) (now rules) (now owned) (now masks)
         × (lines ≡ grammar.definitions b)
         × ProgressIn s d (now slots) (now done) (now table) (now heads) (now nexts) (p .used) (p .known) (p .count))
-        × Skips (now definitions) (now masks) lines (now skips) × (p .split ≡ false) ⌝ }
+        × Skips (now definitions) (now masks) lines (now skips) × (p .split ≡ false) × (MAX-NODES * lines ≤ length (now nexts)) ⌝ }
     ensures { λ r. ⌜ ((b : Book) (s : Slots) (d : List Bool)
         → CheckHeld b (now (definitions .entry)) (now (rules .entry)) (now (owned .entry)) (now (masks .entry))
         → lines ≡ grammar.definitions b
@@ -184,7 +184,7 @@ fn passes(
     requires { ⌜ ((b : Book) × (s : Slots) × (d : List Bool) × CheckHeld b (now definitions) (now rules) (now owned) (now masks)
         × (lines ≡ grammar.definitions b)
         × ProgressIn s d (now slots) (now done) (now table) (now heads) (now nexts) (p .used) (p .known) (p .count))
-        × Skips (now definitions) (now masks) lines (now skips) × (p .split ≡ false) ⌝ }
+        × Skips (now definitions) (now masks) lines (now skips) × (p .split ≡ false) × (MAX-NODES * lines ≤ length (now nexts)) ⌝ }
     ensures { λ r. ⌜ ((b : Book) (s : Slots) (d : List Bool)
         → CheckHeld b (now (definitions .entry)) (now (rules .entry)) (now (owned .entry)) (now (masks .entry))
         → lines ≡ grammar.definitions b
@@ -245,7 +245,7 @@ fn check(
     nexts: &mut [u32],
 ) -> bool
     requires { ⌜ ((b : Book) × CheckHeld b (now definitions) (now rules) (now owned) (now masks) × (lines ≡ grammar.definitions b))
-        × Skips (now definitions) (now masks) lines (now skips) × Room (now slots) (now done) (now table) (now heads) (now nexts) ⌝ }
+        × Skips (now definitions) (now masks) lines (now skips) × Room lines (now slots) (now done) (now table) (now heads) (now nexts) ⌝ }
     ensures { λ r. ⌜ ((b : Book) → CheckHeld b (now (definitions .entry)) (now (rules .entry)) (now (owned .entry)) (now (masks .entry))
         → lines ≡ grammar.definitions b → r ≡ grammar.check b (memberIn (now (masks .entry)) wanted)) ⌝ }
 {
@@ -291,7 +291,7 @@ fn parts_right(
     nexts: &mut [u32],
 ) -> bool
     requires { ⌜ ((b : Book) × CheckHeld b (now definitions) (now rules) (now owned) (now masks) × (lines ≡ grammar.definitions b))
-        × (terminals < 32) × Skips (now definitions) (now masks) lines (now skips) × Room (now slots) (now done) (now table) (now heads) (now nexts) ⌝ }
+        × (terminals < 32) × Skips (now definitions) (now masks) lines (now skips) × Room lines (now slots) (now done) (now table) (now heads) (now nexts) ⌝ }
     ensures { λ r. ⌜ ((b : Book) → CheckHeld b (now (definitions .entry)) (now (rules .entry)) (now (owned .entry)) (now (masks .entry))
         → lines ≡ grammar.definitions b → terminals ≡ b .terminals
         → r ≡ allBelow (suc (b .terminals)) (λ a. grammar.check b (memberOf (now (masks .entry)) a))) ⌝ }
@@ -341,7 +341,7 @@ pub fn check_state(
     nexts: &mut [u32],
 ) -> bool
     requires { ⌜ ((b : Book) × CheckHeld b (now definitions) (now rules) (now owned) (now masks) × (lines ≡ grammar.definitions b))
-        × (terminals < 32) × Room (now slots) (now done) (now table) (now heads) (now nexts) ⌝ }
+        × (terminals < 32) × Room lines (now slots) (now done) (now table) (now heads) (now nexts) ⌝ }
     ensures { λ r. ⌜ ((b : Book) → CheckHeld b (now (definitions .entry)) (now (rules .entry)) (now (owned .entry)) (now (masks .entry))
         → lines ≡ grammar.definitions b → terminals ≡ b .terminals
         → r ≡ allBelow (suc (b .terminals)) (λ a. grammar.check b (memberOf (now (masks .entry)) a))) ⌝ }

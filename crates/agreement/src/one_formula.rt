@@ -2,7 +2,7 @@
 // A contract asks that the arrays hold some book, and says its equation of every book that they hold.
 ghost use mathlib.Core.Path.{_≡_};
 ghost use mathlib.Core.List.{List};
-ghost use Prim.Native.Nat.{ℕ, _*_, _<_};
+ghost use Prim.Native.Nat.{ℕ, _<_};
 ghost use lib.ListN.{length};
 ghost use Rattle.grammar.specs.Limits.{MAX-INHERITED};
 ghost use Rattle.grammar.specs.Conditions.Decides.{allBelow};
@@ -10,9 +10,8 @@ ghost use Rattle.grammar.specs.Data.Book.{Book};
 ghost use Rattle.grammar.specs.Formulas.Slots.{attributes};
 ghost use Rattle.grammar.specs.Formulas.FormulaCheck as grammar;
 ghost use Rattle.book.specs.Held.{OwnersIn};
-ghost use Rattle.formulas.specs.Table.{ROOM};
 ghost use Rattle.attributes.specs.Owned.{OwnedIn};
-ghost use Rattle.attributes.specs.Checking.{Room};
+ghost use Rattle.attributes.specs.Checking.{NodesRoom, Room};
 ghost use Rattle.agreement.specs.Given.{GivenIn};
 ghost use Rattle.agreement.specs.OneFormula.{FrontsHeld, stateRight, formulasRight};
 use super::check::check_state;
@@ -48,7 +47,7 @@ fn state_right(
     requires { ⌜ ((b : Book) × (firsts : List ℕ) × (states : ℕ) × FrontsHeld b (now rules) count (now definitions) lines (now kernels) (now starts)
         (now closures) (now fronts) (now nulls) firsts (now reaches) terminals states × OwnedIn (b .inheritedOwners) (attributes b) (now owned)
         × GivenIn b (grammar.definitions b) (now given) leaders × (state < states))
-        × (length (now sets) ≡ 576) × Room (now slots) (now done) (now table) (now heads) (now nexts) ⌝ }
+        × (length (now sets) ≡ 576) × Room lines (now slots) (now done) (now table) (now heads) (now nexts) ⌝ }
     ensures { λ r. ⌜ ((b : Book) (firsts : List ℕ) (states : ℕ) → FrontsHeld b (now (rules .entry)) count (now (definitions .entry)) lines
         (now (kernels .entry)) (now (starts .entry)) (now (closures .entry)) (now (fronts .entry)) (now (nulls .entry)) firsts (now (reaches .entry))
         terminals states → OwnedIn (b .inheritedOwners) (attributes b) (now (owned .entry)) → GivenIn b (grammar.definitions b) (now (given .entry)) leaders
@@ -111,7 +110,7 @@ fn states_right(
     requires { ⌜ ((b : Book) × (firsts : List ℕ) × FrontsHeld b (now rules) count (now definitions) lines (now kernels) (now starts) (now closures)
         (now fronts) (now nulls) firsts (now reaches) terminals states × OwnedIn (b .inheritedOwners) (attributes b) (now owned)
         × GivenIn b (grammar.definitions b) (now given) leaders)
-        × (length (now sets) ≡ 576) × Room (now slots) (now done) (now table) (now heads) (now nexts) ⌝ }
+        × (length (now sets) ≡ 576) × Room lines (now slots) (now done) (now table) (now heads) (now nexts) ⌝ }
     ensures { λ r. ⌜ ((b : Book) (firsts : List ℕ) → FrontsHeld b (now (rules .entry)) count (now (definitions .entry)) lines (now (kernels .entry))
         (now (starts .entry)) (now (closures .entry)) (now (fronts .entry)) (now (nulls .entry)) firsts (now (reaches .entry)) terminals states
         → OwnedIn (b .inheritedOwners) (attributes b) (now (owned .entry)) → GivenIn b (grammar.definitions b) (now (given .entry)) leaders
@@ -150,7 +149,7 @@ fn states_right(
     true
 }
 
-// In every partial state each inherited attribute has one formula (10). `table` and `nexts` are room for the nodes of formulas.
+// In every partial state each inherited attribute has one formula (10). `table` and `nexts` are room for the nodes of formulas, 15 for each definition.
 pub fn one_formula(
     owners: &[u32],
     attributes: u32,
@@ -171,7 +170,7 @@ pub fn one_formula(
 ) -> bool
     requires { ⌜ ((b : Book) × (firsts : List ℕ) × FrontsHeld b (now rules) count (now definitions) lines (now kernels) (now starts) (now closures)
         (now fronts) (now nulls) firsts (now reaches) terminals states × OwnersIn MAX-INHERITED (b .inheritedOwners) (now owners)
-        × (attributes ≡ length (b .inheritedOwners))) × (length (now table) ≡ 4 * ROOM) × (length (now nexts) ≡ ROOM) ⌝ }
+        × (attributes ≡ length (b .inheritedOwners))) × NodesRoom lines (now table) (now nexts) ⌝ }
     ensures { λ r. ⌜ ((b : Book) (firsts : List ℕ) → FrontsHeld b (now (rules .entry)) count (now (definitions .entry)) lines (now (kernels .entry))
         (now (starts .entry)) (now (closures .entry)) (now (fronts .entry)) (now (nulls .entry)) firsts (now (reaches .entry)) terminals states
         → OwnersIn MAX-INHERITED (b .inheritedOwners) (now (owners .entry)) → attributes ≡ length (b .inheritedOwners) → r ≡ formulasRight b) ⌝ }

@@ -1,10 +1,11 @@
 -- Laws of the one-formula check over words: when a definition is due, what a slot does with a formula, and what a visit does.
 -- Assumes nothing.
-use Prim.Native.Nat.{ℕ, zero, suc, _+_, _*_, _-_, _<_, _≤_}
+use Prim.Native.Nat.{ℕ, zero, suc, _+_, _*_, _-_, _^_, _/_, _<_, _≤_}
 use mathlib.Core.Path.{_≡_, refl, sym, ap, _∙_}
 use mathlib.Core.Bool.{Bool, true, false, not, _||_}
+use mathlib.Core.Logic.{_⊎_, inl, inr}
 use mathlib.Core.Option.{Option, none, some}
-use mathlib.Core.List.{List}
+use mathlib.Core.List.{List, [], _∷_}
 use native.Mathlib.Numerals.{add-one}
 use native.Mathlib.Omega.{arith}
 use native.Mathlib.Decide.{ℕ-discrete}
@@ -13,7 +14,7 @@ use lib.Seq.{getD-set-same, getD-set-other}
 use borrow.Author.Tests.{ne-eqb}
 use Rattle.sets.specs.Sets.{bit, with, subset, meets}
 use Rattle.sets.specs.SetsLaws.{bit-with, with-self}
-use Rattle.grammar.specs.Limits.{MAX-DEFINITIONS}
+use Rattle.grammar.specs.Limits.{MAX-DEFINITIONS, MAX-NODES}
 use Rattle.grammar.specs.Automaton.TestLaws.{true-false}
 use Rattle.grammar.specs.Data.Symbol.{leftOf}
 use Rattle.grammar.specs.Data.Book.{Book}
@@ -21,8 +22,7 @@ use Rattle.grammar.specs.Formulas.Formula.{Formula}
 use Rattle.grammar.specs.Formulas.Slots.{Slots, slotAt, ownAt, settledBelow, attributes, ready}
 use Rattle.grammar.specs.Formulas.FormulaCheck as grammar
 use Rattle.grammar.specs.Formulas.FormulaCheck.{progress, dotOf, doneIn, enter, formulaOf, lineAt, due, visit}
-use Rattle.grammar.specs.Formulas.FormulaCheckSteps.{enter-by, done-more, done-length}
-use Rattle.formulas.specs.Table.{ROOM}
+use Rattle.grammar.specs.Formulas.FormulaCheckSteps.{enter-by, done-more, done-length, done-either}
 use Rattle.formulas.specs.Meaning.{Means, means, one-formula, one-number}
 use Rattle.formulas.specs.Formulas.{SlotIn, empty, full, Asked, Formed}
 use Rattle.formulas.specs.Steps.{inherited-in}
@@ -185,6 +185,7 @@ module _ {slots : Slots} {done : List Bool} {words marks table heads nexts : Lis
         mark-is = R .mark-is;
         count-is = R .count-is;
         few = R .few;
+        within = R .within;
       }) refl)
       (λ o. absurd (differ o)) (λ g o n. absurd (differ o))
     where
@@ -217,6 +218,16 @@ marked false n = absurd (n refl)
 unmarked : (t : Bool) → markOf t ≡ 0 → t ≡ false
 unmarked true e = absurd (let z : _≡_ {A = ℕ} 1 0 = e in omega arith)
 unmarked false e = refl
+
+-- where the definitions that are done are below n, these are at most n
+done-below : (done : List Bool) (n : ℕ) → ((d : ℕ) → d < length done → getD done d true ≡ true → d < n) → doneIn done ≤ n
+unfolding doneIn
+done-below [] n h = omega arith
+done-below (true ∷ done) n h =
+    let first : 0 < n = h 0 (omega arith) refl in
+    let rest = done-below done (n - 1) (λ d l e. let z : suc d < n = h (suc d) (omega arith) e in omega arith) in
+    omega arith
+done-below (false ∷ done) n h = done-below done n (λ d l e. let z : suc d < n = h (suc d) (omega arith) e in omega arith)
 
 module _ {b : Book} {definitions rules owned masks : List ℕ} (H : CheckHeld b definitions rules owned masks) {d : ℕ} (l : d < grammar.definitions b)
     {slots : Slots} {done : List Bool} {words marks table heads nexts : List ℕ} {used known count : ℕ}
@@ -258,43 +269,63 @@ module _ {b : Book} {definitions rules owned masks : List ℕ} (H : CheckHeld b 
     pub count-low : count < 128
     count-low = omega (arith, more-done, done-length (set done d true), length-set done d true, R .long .1)
 
-    pub asked-line : {dot : ℕ} → dot ≡ getD definitions (49 * d + 1) 0 - 1
-        → Asked definitions d dot words table used (lineAt b d .expression) (ownAt slots (dotOf (lineAt b d)))
-    asked-line {dot} e =
-        let is : dot ≡ dotOf (lineAt b d) = omega (arith, position-word H l) in
-        let next : lineAt b d .position ≡ suc (dotOf (lineAt b d)) = omega (arith, H .line-in d l .position-low) in
-        let few = H .line-in d l .few-nodes in
-        let leaves = rw next at (H .premises .line-right d l .leaves-read) in
-        rw is (record {
-          stands = inherited-in (H .definitions-in) d l few;
-          reads = reads-item (R .slots-in) {b = b} {P = lineAt b d .rule} (dotOf (lineAt b d))
-              (omega (arith, H .premises .attributes-limit, R .words-long)) leaves;
-          room = omega (arith, R .few, count-low, few);
-        })
-
-    module _ {dot : ℕ} (e : dot ≡ getD definitions (49 * d + 1) 0 - 1) {new heads′ nexts′ : List ℕ} {number more : ℕ}
-        (F : Formed dot (lineAt b d .expression) (ownAt slots (dotOf (lineAt b d))) table used new heads′ nexts′ number more) where
-      pub formed-means : Means new more number (formulaOf slots (lineAt b d))
-      unfolding formulaOf
-      formed-means = let is : dot ≡ dotOf (lineAt b d) = omega (arith, position-word H l) in rw is at (F .means)
-
-      pub formed-low : number < ROOM
-      formed-low = omega (arith, means-low formed-means, F .table .room)
-
-      pub formed-progress : ProgressIn slots (set done d true) words (set marks d 1) new heads′ nexts′ more known (count + 1)
-      formed-progress = record {
-        table-in = F .table;
-        long = (R .long .0, length-set done d true ∙ R .long .1);
-        words-long = R .words-long;
-        marks-long = length-set marks d 1 ∙ R .marks-long;
-        slots-in = slots-kept (F .grown) (R .slots-in);
-        known-in = R .known-in;
-        mark-is = λ i h. by i h (ℕ-discrete i d);
-        count-is = sym more-done;
-        few = omega (arith, R .few, F .few, H .line-in d l .few-nodes);
-      }
+    -- there is room for the formulas of the definitions up to this one
+    module _ (enough : MAX-NODES * suc d ≤ length nexts) where
+      within-more : (i : ℕ) → i < MAX-DEFINITIONS → getD (set done d true) i true ≡ true → MAX-NODES * suc i ≤ length nexts
+      within-more i h e = by (done-either done d i e)
         where
-          by : (i : ℕ) → i < MAX-DEFINITIONS → Dec (i ≡ d) → getD (set marks d 1) i 0 ≡ markOf (getD (set done d true) i true)
-          by i h (yes p) =
-              rw (p, getD-set-same marks d 1 0 (omega (arith, line-low, R .marks-long)), getD-set-same done d true true (omega (arith, line-low, R .long .1)))
-          by i h (no n) = getD-set-other marks d i 1 0 n ∙ R .mark-is i h ∙ ap markOf (sym (getD-set-other done d i true true n))
+          by : (i ≡ d) ⊎ (getD done i true ≡ true) → MAX-NODES * suc i ≤ length nexts
+          by (inl p) = rw p enough
+          by (inr q) = R .within i h q
+
+      count-room : MAX-NODES * (count + 1) ≤ length nexts
+      count-room =
+          let low : doneIn (set done d true) ≤ length nexts / MAX-NODES =
+          done-below (set done d true) (length nexts / MAX-NODES)
+          (λ i h e. let z = within-more i (omega (arith, length-set done d true, R .long .1)) e in omega arith) in
+          omega (arith, more-done)
+
+      pub asked-line : {dot : ℕ} → dot ≡ getD definitions (49 * d + 1) 0 - 1
+          → Asked definitions d dot words table used (lineAt b d .expression) (ownAt slots (dotOf (lineAt b d)))
+      asked-line {dot} e =
+          let is : dot ≡ dotOf (lineAt b d) = omega (arith, position-word H l) in
+          let next : lineAt b d .position ≡ suc (dotOf (lineAt b d)) = omega (arith, H .line-in d l .position-low) in
+          let few = H .line-in d l .few-nodes in
+          let leaves = rw next at (H .premises .line-right d l .leaves-read) in
+          rw is (record {
+            stands = inherited-in (H .definitions-in) d l few;
+            reads = reads-item (R .slots-in) {b = b} {P = lineAt b d .rule} (dotOf (lineAt b d))
+                (omega (arith, H .premises .attributes-limit, R .words-long)) leaves;
+            room = omega (arith, R .few, count-room, R .table-in .table-long, few);
+          })
+
+      module _ {dot : ℕ} (e : dot ≡ getD definitions (49 * d + 1) 0 - 1) {new heads′ nexts′ : List ℕ} {number more : ℕ}
+          (F : Formed dot (lineAt b d .expression) (ownAt slots (dotOf (lineAt b d))) table used new heads′ nexts′ number more) where
+        pub formed-means : Means new more number (formulaOf slots (lineAt b d))
+        unfolding formulaOf
+        formed-means = let is : dot ≡ dotOf (lineAt b d) = omega (arith, position-word H l) in rw is at (F .means)
+
+        pub formed-low : number + 1 < 2 ^ 32
+        formed-low = omega (arith, means-low formed-means, F .table .room, F .table .nexts-low)
+
+        same-room : length nexts′ ≡ length nexts
+        same-room = omega (arith, F .grown .long, F .table .table-long, R .table-in .table-long)
+
+        pub formed-progress : ProgressIn slots (set done d true) words (set marks d 1) new heads′ nexts′ more known (count + 1)
+        formed-progress = record {
+          table-in = F .table;
+          long = (R .long .0, length-set done d true ∙ R .long .1);
+          words-long = R .words-long;
+          marks-long = length-set marks d 1 ∙ R .marks-long;
+          slots-in = slots-kept (F .grown) (R .slots-in);
+          known-in = R .known-in;
+          mark-is = λ i h. by i h (ℕ-discrete i d);
+          count-is = sym more-done;
+          few = omega (arith, R .few, F .few, H .line-in d l .few-nodes);
+          within = λ i h e. rw same-room (within-more i h e);
+        }
+          where
+            by : (i : ℕ) → i < MAX-DEFINITIONS → Dec (i ≡ d) → getD (set marks d 1) i 0 ≡ markOf (getD (set done d true) i true)
+            by i h (yes p) =
+                rw (p, getD-set-same marks d 1 0 (omega (arith, line-low, R .marks-long)), getD-set-same done d true true (omega (arith, line-low, R .long .1)))
+            by i h (no n) = getD-set-other marks d i 1 0 n ∙ R .mark-is i h ∙ ap markOf (sym (getD-set-other done d i true true n))

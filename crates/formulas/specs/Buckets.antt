@@ -1,6 +1,6 @@
 -- Laws of the search through a bucket and of a row that is added at its head. Nothing is asked of the hash but that it is below HEADS.
 -- Assumes nothing.
-use Prim.Native.Nat.{ℕ, zero, suc, _+_, _*_, _-_, _<_, _≤_}
+use Prim.Native.Nat.{ℕ, zero, suc, _+_, _*_, _-_, _^_, _<_, _≤_}
 use mathlib.Core.Path.{_≡_, refl, sym, ap, _∙_}
 use mathlib.Core.Bool.{Bool, true, false}
 use mathlib.Core.List.{List}
@@ -14,7 +14,7 @@ use borrow.Author.Tests.{eq-eqb, ne-eqb, eqb-true, eqb-false, leb-true, leb-fals
 use Rattle.formulas.specs.declared.nodes.Node.{Node}
 use Rattle.formulas.specs.declared.nodes.Row.{Row}
 use Rattle.formulas.specs.Nodes.{shown, rowOf}
-use Rattle.formulas.specs.Table.{ROOM, HEADS, rowAt, stored, hashOf, hashAt, lastWith, Table, Added, Found}
+use Rattle.formulas.specs.Table.{HEADS, rowAt, stored, hashOf, hashAt, lastWith, Table, Added, Found}
 use Rattle.formulas.specs.Rows.{length-stored, row-other, row-here, grown-same}
 
 pub hash-low : (row : List ℕ) → hashOf row < HEADS
@@ -122,7 +122,7 @@ pub found : {table heads nexts : List ℕ} {used number : ℕ} {node : Node} →
 found T h e = record { table = T; grown = grown-same; few = omega arith; there = h; is = e }
 
 -- a node that was not becomes the last row, and the head of its bucket
-module _ {table heads nexts : List ℕ} {used : ℕ} (T : Table table heads nexts used) (r : Row) (less : used < ROOM)
+module _ {table heads nexts : List ℕ} {used : ℕ} (T : Table table heads nexts used) (r : Row) (less : used < length nexts)
     (other : (j : ℕ) → j < used → rowAt table j ≡ shown r → ⊥) (h : ℕ) (e : h ≡ hashOf (shown r)) where
   abbrev more : List ℕ
   more = stored table used (shown r)
@@ -170,14 +170,17 @@ module _ {table heads nexts : List ℕ} {used : ℕ} (T : Table table heads next
       (λ i b.
       let s : i ≡ used → ⊥ = λ f. omega arith in
       rw (old i b) (getD-set-other nexts used i (getD heads h 0) 0 s ∙ T .nexts-are i b ∙ sym (agrees i (omega arith) (hashAt table i))))
-      (rw new-hash (getD-set-same nexts used (getD heads h 0) 0 (omega (arith, T .nexts-long)) ∙ T .heads-are h low ∙ sym (agrees used (omega arith) h)))
+      (rw new-hash (getD-set-same nexts used (getD heads h 0) 0 less ∙ T .heads-are h low ∙ sym (agrees used (omega arith) h)))
+
+  same-room : length (set nexts used (getD heads h 0)) ≡ length nexts
+  same-room = length-set nexts used (getD heads h 0)
 
   pub table-more : Table more (set heads h (used + 1)) (set nexts used (getD heads h 0)) (used + 1)
   table-more = record {
-    table-long = length-stored table used (shown r) ∙ T .table-long;
+    table-long = omega (arith, length-stored table used (shown r), same-room, T .table-long);
     heads-long = length-set heads h (used + 1) ∙ T .heads-long;
-    nexts-long = length-set nexts used (getD heads h 0) ∙ T .nexts-long;
-    room = omega arith;
+    nexts-low = omega (arith, same-room, T .nexts-low);
+    room = omega (arith, same-room);
     once = once-more;
     heads-are = heads-more;
     nexts-are = nexts-more;
@@ -187,19 +190,19 @@ module _ {table heads nexts : List ℕ} {used : ℕ} (T : Table table heads next
       → Added node table used more (set heads h (used + 1)) (set nexts used (getD heads h 0)) used (used + 1)
   added f = record {
     table = table-more;
-    grown = record { grows = omega arith; kept = old };
+    grown = record { grows = omega arith; long = length-stored table used (shown r); kept = old };
     few = omega arith;
     there = omega arith;
     is = here ∙ f;
   }
 
 -- a table with no rows: only the heads are cleared
-pub empty-table : (table nexts : List ℕ) → length table ≡ 4 * ROOM → length nexts ≡ ROOM → Table table (replicate HEADS 0) nexts 0
+pub empty-table : (table nexts : List ℕ) → length table ≡ 4 * length nexts → length nexts < 2 ^ 32 → Table table (replicate HEADS 0) nexts 0
 unfolding lastWith
-empty-table table nexts t n = record {
+empty-table table nexts t l = record {
   table-long = t;
   heads-long = length-replicate {A = ℕ} HEADS 0;
-  nexts-long = n;
+  nexts-low = l;
   room = omega arith;
   once = λ i j b. absurd (let z : ⊥ = omega arith in z);
   heads-are = λ h b. getD-replicate {A = ℕ} HEADS h 0 0 b;

@@ -1,6 +1,6 @@
 -- The interned formula of a definition for an item with dot D: what its steps put on a stack of numbers, what is asked of the item's slots, and what
 -- the result means (01, "Partial states and chains"). Assumes nothing.
-use Prim.Native.Nat.{ℕ, zero, suc, _+_, _-_, _<_, _≤_}
+use Prim.Native.Nat.{ℕ, zero, suc, _+_, _*_, _-_, _<_, _≤_}
 use mathlib.Core.Path.{_≡_}
 use mathlib.Core.Option.{Option, none, some}
 use mathlib.Core.List.{List}
@@ -16,7 +16,7 @@ use Rattle.formulas.specs.declared.steps.Step.{Step}
 use Rattle.formulas.specs.declared.steps.Step.the-variants.{Push, Own, At, Val, Operate, Select}
 use Rattle.formulas.specs.declared.formulas.Operand.{Operand}
 use Rattle.formulas.specs.declared.formulas.Operand.the-variants.{Known, New}
-use Rattle.formulas.specs.Table.{ROOM, Table, Grown}
+use Rattle.formulas.specs.Table.{Table, Grown}
 use Rattle.formulas.specs.Meaning.{Means, Builds}
 use Rattle.formulas.specs.Steps.{ExpressionIn}
 
@@ -78,7 +78,7 @@ pub record Numbered (operand : Operand) (old : List ℕ) (used : ℕ) (new heads
 pub record Asked (definitions : List ℕ) (line D : ℕ) (slots table : List ℕ) (used : ℕ) (e : Expr) (f : ℕ → Formula) : Type 0 where
   pub stands : ExpressionIn e definitions line
   pub reads : Leaves (Reads table used D slots f) e
-  pub room : used + nodes e ≤ ROOM
+  pub room : 4 * (used + nodes e) ≤ length table
 
 -- the number of the formula of e
 pub record Formed (D : ℕ) (e : Expr) (f : ℕ → Formula) (old : List ℕ) (used : ℕ) (new heads nexts : List ℕ) (number count : ℕ) : Type 0 where

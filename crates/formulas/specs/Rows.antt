@@ -63,7 +63,11 @@ module _ (table : List ℕ) (i : ℕ) (row : List ℕ) where
 -- growth
 
 pub grown-same : {table : List ℕ} {used : ℕ} → Grown table used table used
-grown-same = record { grows = omega arith; kept = λ i h. refl }
+grown-same = record { grows = omega arith; long = refl; kept = λ i h. refl }
 
 pub grown-more : {a b c : List ℕ} {i j k : ℕ} → Grown a i b j → Grown b j c k → Grown a i c k
-grown-more G H = record { grows = omega (arith, G .grows, H .grows); kept = λ i h. H .kept i (omega (arith, G .grows)) ∙ G .kept i h }
+grown-more G H = record {
+  grows = omega (arith, G .grows, H .grows);
+  long = H .long ∙ G .long;
+  kept = λ i h. H .kept i (omega (arith, G .grows)) ∙ G .kept i h;
+}

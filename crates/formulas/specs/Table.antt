@@ -1,7 +1,7 @@
 -- A table of nodes without duplicates: rows of four words, found through buckets by a hash. `heads` has for each hash the number of the last row
 -- with that hash, and `nexts` for each row the number of the row before it with the same hash, each plus one and 0 where there is none.
 -- Assumes nothing.
-use Prim.Native.Nat.{ℕ, zero, suc, _+_, _*_, _%_, _<_, _≤_}
+use Prim.Native.Nat.{ℕ, zero, suc, _+_, _*_, _%_, _^_, _<_, _≤_}
 use mathlib.Core.Path.{_≡_}
 use mathlib.Core.Bool.{Bool, true, false}
 use mathlib.Core.List.{List, [], _∷_}
@@ -9,10 +9,6 @@ use lib.Dec.{eqb}
 use lib.ListN.{length, getD, set}
 use Rattle.formulas.specs.declared.nodes.Node.{Node}
 use Rattle.formulas.specs.Nodes.{rowOf}
-
--- the most nodes that formulas of one partial state have: 128 definitions of 15 nodes
-abbrev pub ROOM : ℕ
-ROOM = 1920
 
 abbrev pub HEADS : ℕ
 HEADS = 64
@@ -36,19 +32,20 @@ unfoldable pub lastWith : (ℕ → ℕ) → ℕ → ℕ → ℕ
 lastWith f h zero = 0
 lastWith f h (suc k) = elim (eqb (f k) h) [ true ↦ suc k | false ↦ lastWith f h k ]
 
--- the first `used` rows are the nodes
+-- the first `used` rows are the nodes; there is room for as many as `nexts` is long, and a row's number plus one is a word
 pub record Table (table heads nexts : List ℕ) (used : ℕ) : Type 0 where
-  pub table-long : length table ≡ 4 * ROOM
+  pub table-long : length table ≡ 4 * length nexts
   pub heads-long : length heads ≡ HEADS
-  pub nexts-long : length nexts ≡ ROOM
-  pub room : used ≤ ROOM
+  pub nexts-low : length nexts < 2 ^ 32
+  pub room : used ≤ length nexts
   pub once : (i j : ℕ) → i < used → j < used → rowAt table i ≡ rowAt table j → i ≡ j
   pub heads-are : (h : ℕ) → h < HEADS → getD heads h 0 ≡ lastWith (hashAt table) h used
   pub nexts-are : (i : ℕ) → i < used → getD nexts i 0 ≡ lastWith (hashAt table) (hashAt table i) i
 
--- a table with more rows: the old ones are as they were
+-- a table with more rows: the old ones are as they were, and its room is
 pub record Grown (old : List ℕ) (used : ℕ) (new : List ℕ) (count : ℕ) : Type 0 where
   pub grows : used ≤ count
+  pub long : length new ≡ length old
   pub kept : (i : ℕ) → i < used → rowAt new i ≡ rowAt old i
 
 -- what interning a node does to a table of `used` rows: `number` is the node's row, of then `count` rows

@@ -4,7 +4,7 @@ ghost use Prim.Native.Nat.{ℕ, _+_, _*_, _<_, _≤_};
 ghost use lib.ListN.{length};
 ghost use Rattle.grammar.specs.Data.Book.{Expr};
 ghost use Rattle.grammar.specs.Formulas.Formula.{Formula};
-ghost use Rattle.formulas.specs.Table.{ROOM, Table};
+ghost use Rattle.formulas.specs.Table.{Table};
 ghost use Rattle.formulas.specs.PostfixLaws.{Ready};
 ghost use Rattle.formulas.specs.Steps.{stepOf};
 ghost use Rattle.formulas.specs.Formulas.{ownFor, operandFor, Safe, Numbered, Asked, Formed};
@@ -62,7 +62,7 @@ fn number_of(
     nexts: &mut [u32],
     used: u32,
 ) -> Interned
-    requires { ⌜ Table (now table) (now heads) (now nexts) used × (used < ROOM) ⌝ }
+    requires { ⌜ Table (now table) (now heads) (now nexts) used × (used < length (now nexts)) ⌝ }
     ensures { λ r. ⌜ Numbered operand (now (table .entry)) used (now (table .exit)) (now (heads .exit)) (now (nexts .exit)) (r .number) (r .used) ⌝ }
 {
     match operand {

@@ -1,9 +1,9 @@
 // A table of nodes without duplicates, so that equal formulas have equal numbers. A row is found through the bucket of its hash.
 ghost use mathlib.Core.Path.{_≡_};
-ghost use Prim.Native.Nat.{_+_, _*_, _<_, _≤_};
+ghost use Prim.Native.Nat.{_+_, _*_, _^_, _<_, _≤_};
 ghost use lib.ListN.{length, getD, set, replicate};
 ghost use Rattle.formulas.specs.Nodes.{shown};
-ghost use Rattle.formulas.specs.Table.{ROOM, HEADS, hashOf, stored, Table, Added, Same, Found};
+ghost use Rattle.formulas.specs.Table.{HEADS, hashOf, stored, Table, Added, Same, Found};
 use super::nodes::Node;
 use super::nodes::Row;
 use super::nodes::row_of;
@@ -84,7 +84,7 @@ fn put_row(table: &mut [u32], i: usize, row: Row)
 
 // Row `number` becomes the head of its bucket.
 fn link(heads: &mut [u32], nexts: &mut [u32], number: u32, bucket: usize)
-    requires { ⌜ (length (now heads) ≡ HEADS) × (length (now nexts) ≡ ROOM) × (number < ROOM) × (bucket < HEADS) ⌝ }
+    requires { ⌜ (length (now heads) ≡ HEADS) × (length (now nexts) < 2 ^ 32) × (number < length (now nexts)) × (bucket < HEADS) ⌝ }
     ensures { λ _. ⌜ now (heads .exit) ≡ set (now (heads .entry)) bucket (number + 1) ⌝ }
     ensures { λ _. ⌜ now (nexts .exit) ≡ set (now (nexts .entry)) number (getD (now (heads .entry)) bucket 0) ⌝ }
 {
@@ -101,7 +101,7 @@ pub fn intern(
     used: u32,
     node: Node,
 ) -> Interned
-    requires { ⌜ Table (now table) (now heads) (now nexts) used × (used < ROOM) ⌝ }
+    requires { ⌜ Table (now table) (now heads) (now nexts) used × (used < length (now nexts)) ⌝ }
     ensures { λ r. ⌜ Added node (now (table .entry)) used (now (table .exit)) (now (heads .exit)) (now (nexts .exit)) (r .number) (r .used) ⌝ }
 {
     let row = row_of(node);

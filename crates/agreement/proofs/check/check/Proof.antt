@@ -40,6 +40,7 @@ passes-requires c κs =
       ),
       s .pre .1,
       refl,
+      s .pre .2 .nodes-room .enough,
     )
 
 same-length : tie.Need-same-length

@@ -7,6 +7,7 @@ use borrow.Author.Needs.{needs}
 use Rattle.grammar.specs.Formulas.FormulaCheck as grammar
 use Rattle.attributes.specs.Checking.{memberOf}
 use Rattle.attributes.specs.Wanted.{check-whole, all-below}
+use Rattle.agreement.specs.CheckLaws.{room-kept}
 use Rattle.agreement.proofs.check.check_state.Statement.{statement}
 use Rattle.agreement.proofs.check.check_state.Tie as tie
 
@@ -63,13 +64,12 @@ parts-right-requires c κs =
       g .0,
       g .1,
       v .before .before .before .before .before .before .before .before .skip .ensures,
-      record {
-        words-long = v .check .kept .1 .1 .1 .1 .1 .1 .1 .0 ∙ g .2 .words-long;
-        marks-long = v .check .kept .1 .1 .1 .1 .1 .1 .1 .1 .0 ∙ g .2 .marks-long;
-        table-long = v .check .kept .1 .1 .1 .1 .1 .1 .1 .1 .1 .0 ∙ g .2 .table-long;
-        heads-long = v .check .kept .1 .1 .1 .1 .1 .1 .1 .1 .1 .1 .0 ∙ g .2 .heads-long;
-        nexts-long = v .check .kept .1 .1 .1 .1 .1 .1 .1 .1 .1 .1 .1 .0 ∙ g .2 .nexts-long;
-      },
+      room-kept (g .2)
+          (v .check .kept .1 .1 .1 .1 .1 .1 .1 .0)
+          (v .check .kept .1 .1 .1 .1 .1 .1 .1 .1 .0)
+          (v .check .kept .1 .1 .1 .1 .1 .1 .1 .1 .1 .0)
+          (v .check .kept .1 .1 .1 .1 .1 .1 .1 .1 .1 .1 .0)
+          (v .check .kept .1 .1 .1 .1 .1 .1 .1 .1 .1 .1 .1 .0),
     )
 
 same-length-6 : tie.Need-same-length-6

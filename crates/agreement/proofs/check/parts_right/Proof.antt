@@ -11,7 +11,7 @@ use Rattle.grammar.specs.Conditions.Decides.{allBelow}
 use Rattle.grammar.specs.Data.Book.{Book}
 use Rattle.grammar.specs.Formulas.FormulaCheck as grammar
 use Rattle.attributes.specs.Checking.{memberOf, memberIn, CheckHeld}
-use Rattle.agreement.specs.CheckLaws.{all-start, all-turn, one-fails}
+use Rattle.agreement.specs.CheckLaws.{room-kept, all-start, all-turn, one-fails}
 use Rattle.agreement.specs.Alike.{Right, right-start, right-more}
 use Rattle.attributes.specs.Wanted.{check-single}
 use Rattle.agreement.proofs.check.parts_right.Statement.{statement}
@@ -92,17 +92,8 @@ check-requires : tie.Need-check-requires Inv-loop μ-loop
 check-requires c κs =
     let t = c .before .before .before .before .before .before .before .before in
     let at = t .before .loop in
-    let g = entry (t .before) .pre in (
-      g .0,
-      g .2,
-      record {
-        words-long = at .inv .1 ∙ g .3 .words-long;
-        marks-long = at .inv .2 ∙ g .3 .marks-long;
-        table-long = at .inv .3 ∙ g .3 .table-long;
-        heads-long = at .inv .4 ∙ g .3 .heads-long;
-        nexts-long = at .inv .5 ∙ g .3 .nexts-long;
-      },
-    )
+    let g = entry (t .before) .pre in
+    (g .0, g .2, room-kept (g .3) (at .inv .1) (at .inv .2) (at .inv .3) (at .inv .4) (at .inv .5))
 
 same-length : tie.Need-same-length Inv-loop μ-loop
 same-length c = search needs

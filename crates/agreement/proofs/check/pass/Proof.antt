@@ -69,7 +69,7 @@ visit-requires c κs =
     let at = t .before .loop in
     let g = entry (t .before) .pre in
     let (s, d, is, R) = reached-stands (at .inv .7 (g .0 .0) (g .0 .1) (g .0 .2) (g .0 .3) (g .0 .4) (g .0 .5)) (at .inv .1) in
-    ((g .0 .0, s, d, g .0 .3, omega (arith, t .loop-test .taken, g .0 .4), R), at .inv .1)
+    ((g .0 .0, s, d, g .0 .3, omega (arith, t .loop-test .taken, g .0 .4), R), at .inv .1, omega (arith, t .loop-test .taken, g .3, at .inv .6))
 
 same-length : tie.Need-same-length Inv-loop μ-loop
 same-length c = search needs

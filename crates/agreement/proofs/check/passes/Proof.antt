@@ -45,7 +45,7 @@ pass-requires c κs =
     let at = c .before .before .before .before .before in
     let g = entry at .pre in
     let P = at .loop .inv .6 (g .0 .0) (g .0 .1) (g .0 .2) (g .0 .3) (g .0 .4) (g .0 .5) in
-    ((g .0 .0, P .slots, P .done, g .0 .3, g .0 .4, P .holds), g .1, at .loop .inv .0)
+    ((g .0 .0, P .slots, P .done, g .0 .3, g .0 .4, P .holds), g .1, at .loop .inv .0, omega (arith, g .3, at .loop .inv .5))
 
 same-length : tie.Need-same-length Inv-loop μ-loop
 same-length c = search needs

@@ -79,7 +79,7 @@ formula-of-requires c κs =
     let s = entry e in
     let line = lineAt (s .pre .0 .0) (s .args .line) in
     let R = s .pre .0 .5 in
-    (R .table-in, (line .expression, ownAt (s .pre .0 .1) (dotOf line), asked-line (s .pre .0 .3) (s .pre .0 .4) R (mark e) refl))
+    (R .table-in, (line .expression, ownAt (s .pre .0 .1) (dotOf line), asked-line (s .pre .0 .3) (s .pre .0 .4) R (mark e) (s .pre .2) refl))
 
 slice-write-done : tie.Need-slice-write-done
 slice-write-done c =
@@ -100,7 +100,8 @@ enter-requires c κs =
     let H = s .pre .0 .3 in
     let l = s .pre .0 .4 in
     let R = s .pre .0 .5 in
-    (attribute-low H l, R .words-long, formed-low H l R (mark e) refl (g .formula-of .ensures _ _ (asked-line H l R (mark e) refl)))
+    let F = g .formula-of .ensures _ _ (asked-line H l R (mark e) (s .pre .2) refl) in
+    (attribute-low H l, R .words-long, formed-low H l R (mark e) (s .pre .2) refl F)
 
 same-length : tie.Need-same-length
 same-length c = search needs
@@ -121,10 +122,11 @@ returns-3 : tie.Need-returns-3
 returns-3 c = λ b s d H l R.
     let g = c .before .before .before .before .before .before .before .before .before .before .before in
     let e = g .before .before .before .before .before .before .before in
-    let F = g .formula-of .ensures _ _ (asked-line H l R (mark e) refl) in
+    let room = entry e .pre .2 in
+    let F = g .formula-of .ensures _ _ (asked-line H l R (mark e) room refl) in
     rw (visit-enters H l R (mark e) (entry e .args .wanted) (e .before .due .ensures b s H l (R .known-in)) (e .if2 .left))
     (c .before .before .enter .ensures s (set d (entry e .args .line) true) _ _ _ _ (formulaOf s (lineAt b (entry e .args .line)))
-    (formed-progress H l R (mark e) refl F) (formed-means H l R (mark e) refl F))
+    (formed-progress H l R (mark e) room refl F) (formed-means H l R (mark e) room refl F))
 
 pub visit-spec : {M : Type 1} → statement M
 visit-spec =

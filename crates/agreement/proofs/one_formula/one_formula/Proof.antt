@@ -56,7 +56,7 @@ states-right-requires c κs =
     let sets = owned-all (g .4) (o .owned .ensures (g .0 .inheritedOwners) (g .3) (sym (g .4))) in (
       (g .0, g .1, g .2, sets, m .mark-givers .ensures (g .0) _ _ _ (held-lines H .1) (H .definitions-counted)),
       refl,
-      record { words-long = refl; marks-long = refl; table-long = s .pre .1; heads-long = refl; nexts-long = s .pre .2 },
+      record { words-long = refl; marks-long = refl; heads-long = refl; nodes-room = s .pre .1 },
     )
 
 same-length : tie.Need-same-length

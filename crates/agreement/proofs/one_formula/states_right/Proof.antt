@@ -13,7 +13,7 @@ use Rattle.grammar.specs.Formulas.Slots.{attributes}
 use Rattle.grammar.specs.Formulas.FormulaCheck as grammar
 use Rattle.attributes.specs.Owned.{OwnedIn}
 use Rattle.agreement.specs.Given.{GivenIn}
-use Rattle.agreement.specs.CheckLaws.{all-start, all-turn, one-fails}
+use Rattle.agreement.specs.CheckLaws.{room-kept, all-start, all-turn, one-fails}
 use Rattle.agreement.specs.OneFormula.{FrontsHeld, stateRight, states-low}
 use Rattle.agreement.proofs.one_formula.states_right.Statement.{statement}
 use Rattle.agreement.proofs.one_formula.states_right.Tie as tie
@@ -49,13 +49,7 @@ state-right-requires c κs =
     let g = entry (t .before) .pre in (
       (g .0 .0, g .0 .1, entry (t .before) .args .states, g .0 .2, g .0 .3, g .0 .4, t .loop-test .taken),
       at .inv .1 ∙ g .1,
-      record {
-        words-long = at .inv .2 ∙ g .2 .words-long;
-        marks-long = at .inv .3 ∙ g .2 .marks-long;
-        table-long = at .inv .4 ∙ g .2 .table-long;
-        heads-long = at .inv .5 ∙ g .2 .heads-long;
-        nexts-long = at .inv .6 ∙ g .2 .nexts-long;
-      },
+      room-kept (g .2) (at .inv .2) (at .inv .3) (at .inv .4) (at .inv .5) (at .inv .6),
     )
 
 same-length : tie.Need-same-length Inv-loop μ-loop

@@ -103,7 +103,7 @@ number-of-requires : tie.Need-number-of-requires Inv-loop μ-loop
 number-of-requires c κs =
     let R = running (c .before .before .before .before .before .before .before) in
     let A = asked (entry (c .before .before .before .before .before .before .before)) in
-    (R .table, omega (arith, R .few, left (c .before .before .before .before .before .before) A, A .room))
+    (R .table, omega (arith, R .few, left (c .before .before .before .before .before .before) A, A .room, R .grown .long, R .table .table-long))
 
 operands-requires : tie.Need-operands-requires Inv-loop μ-loop
 operands-requires c κs = search needs
@@ -139,13 +139,15 @@ array-read-t20 : tie.Need-array-read-t20 Inv-loop μ-loop
 array-read-t20 c = search needs
 
 same-length : tie.Need-same-length Inv-loop μ-loop
-same-length c = running (c .before) .table .table-long ∙ sym (entry (c .before) .pre .0 .table-long)
+same-length c = running (c .before) .grown .long
 
 same-length-2 : tie.Need-same-length-2 Inv-loop μ-loop
 same-length-2 c = running (c .before) .table .heads-long ∙ sym (entry (c .before) .pre .0 .heads-long)
 
 same-length-3 : tie.Need-same-length-3 Inv-loop μ-loop
-same-length-3 c = running (c .before) .table .nexts-long ∙ sym (entry (c .before) .pre .0 .nexts-long)
+same-length-3 c =
+    let R = running (c .before) in
+    omega (arith, R .grown .long, R .table .table-long, entry (c .before) .pre .0 .table-long)
 
 returns : tie.Need-returns Inv-loop μ-loop
 returns c = λ e f A.

@@ -2,9 +2,9 @@
 -- Assumes nothing.
 use Prim.Native.Nat.{_≤_}
 use native.Mathlib.Omega.{arith}
+use lib.ListN.{length}
 use borrow.Author.Needs.{needs}
 use Rattle.formulas.specs.Nodes.{shown}
-use Rattle.formulas.specs.Table.{ROOM}
 use Rattle.formulas.specs.Buckets.{Seeking, hash-low, seek-start, seek-next, seek-less, seek-hit, seek-end}
 use Rattle.formulas.proofs.interning.find.Statement.{statement}
 use Rattle.formulas.proofs.interning.find.Tie as tie
@@ -20,7 +20,7 @@ abbrev entry : tie.At-loop Inv-loop μ-loop → tie.Start Inv-loop μ-loop
 entry c = c .before .before .before .before .before
 
 -- the row of the turn is in the table
-low : (c : tie.In-loop Inv-loop μ-loop) → c .before .loop .next ≤ ROOM
+low : (c : tie.In-loop Inv-loop μ-loop) → c .before .loop .next ≤ length (entry (c .before) .args .nexts .now)
 low c = omega (arith, c .before .loop .inv .within, entry (c .before) .pre .0 .room)
 
 mul-next : tie.Need-mul-next Inv-loop μ-loop
@@ -52,7 +52,7 @@ mul-next-2 : tie.Need-mul-next-2 Inv-loop μ-loop
 mul-next-2 c = omega (arith, low (c .before .before))
 
 shared-slice-read-next-2 : tie.Need-shared-slice-read-next-2 Inv-loop μ-loop
-shared-slice-read-next-2 c = omega (arith, low (c .before .before .before), entry (c .before .before .before .before) .pre .0 .nexts-long)
+shared-slice-read-next-2 c = omega (arith, low (c .before .before .before))
 
 loop-less : tie.Need-loop-less Inv-loop μ-loop
 loop-less c = seek-less (entry (c .before .before .before .before) .pre .0) _ (omega arith) (c .before .before .before .before .loop .inv)

@@ -43,7 +43,7 @@ link-requires c κs =
     let f = c .before .before .before .before .before .before .before in
     let T = entry f .pre .0 in
     let low = hash-low (shown (f .before .before .before .before .before .row-of .result)) in
-    (T .heads-long, T .nexts-long, entry f .pre .1, omega (arith, f .before .before .before .before .hash .ensures, low))
+    (T .heads-long, T .nexts-low, entry f .pre .1, omega (arith, f .before .before .before .before .hash .ensures, low))
 
 add-t24 : tie.Need-add-t24
 add-t24 c = search needs

@@ -12,7 +12,6 @@ use lib.Dec.{ltb}
 use lib.ListN.{length, getD, drop, replicate, length-append, length-replicate, length-drop, getD-replicate, List·getD-append}
 use borrow.Author.Tests.{ltb-true, ltb-false}
 use Rattle.grammar.specs.Automaton.TestLaws.{true-false}
-use Rattle.grammar.specs.Limits.{MAX-STATES}
 use Rattle.grammar.specs.Data.Book.{Book}
 use Rattle.grammar.specs.Automaton.FirstSets.{Sets}
 use Rattle.grammar.specs.Automaton.CoreItems.{coreItems}
@@ -79,7 +78,7 @@ module _ (b : Book) (F : Sets) {T : ℕ} (t : T ≡ b .terminals) {actions : Lis
     table = λ q. true-false q refl;
   }
 
-  pub acted-all : length actions ≡ 32 * MAX-STATES → Rows b F T (b .states) actions → Acted b F actions true
+  pub acted-all : 32 * b .states ≤ length actions → Rows b F T (b .states) actions → Acted b F actions true
   acted-all l rows = record {
     told = sym (table-clear b (cellsTable b (itemsTable b F)) clear);
     table = λ q. record { long = l; action-is = λ S a s h. rw (cell-at b F S a s h) (rows S s .cell-is a (omega arith)) };
@@ -105,13 +104,13 @@ Bare n states actions = (S a : ℕ) → n ≤ S → S < states → a < 32 → ge
 -- the states below `state` are done
 pub record StatesActing (rules kernels starts closures fronts : List ℕ) (T states : ℕ) (now : List ℕ) (state : ℕ) : Type 0 where
   pub within : state ≤ states
-  pub long : length now ≡ 32 * MAX-STATES
+  pub long : 32 * states ≤ length now
   pub so-far : (b : Book) (F : Sets) → ItemsIn b F rules kernels starts closures → T ≡ b .terminals → states ≡ b .states → FrontsIn b rules closures fronts
       → Rows b F T state now × Bare state states now
 
-pub states-none : (rules kernels starts closures fronts : List ℕ) (T states : ℕ) (old : List ℕ) → length old ≡ 32 * MAX-STATES → 32 * states ≤ length old
+pub states-none : (rules kernels starts closures fronts : List ℕ) (T states : ℕ) (old : List ℕ) → 32 * states ≤ length old
     → StatesActing rules kernels starts closures fronts T states (replicate (32 * states) 0 ++ drop (32 * states) old) 0
-states-none rules kernels starts closures fronts T states old l f = record {
+states-none rules kernels starts closures fronts T states old f = record {
   within = omega arith;
   long = simp (length-append, length-replicate, length-drop) (omega arith);
   so-far = λ b F h t s c. (λ S n. absurd (omega arith), bare);
@@ -137,7 +136,7 @@ module _ {rules kernels starts closures fronts : List ℕ} {T states : ℕ} {now
       → FrontsIn b rules closures fronts → Acted b F now true
   states-all l b F h t s c =
       let e : state ≡ b .states = omega (arith, k .within) in
-      acted-all b F t (k .long) (rw e at (k .so-far b F h t s c .0))
+      acted-all b F t (omega (arith, k .long)) (rw e at (k .so-far b F h t s c .0))
 
   module _ (l : state < states) {new : List ℕ} {r : Bool}
       (f : (b : Book) (F : Sets) → ItemsIn b F rules kernels starts closures → state < b .states → T ≡ b .terminals → FrontsIn b rules closures fronts
@@ -153,7 +152,7 @@ module _ {rules kernels starts closures fronts : List ℕ} {T states : ℕ} {now
     states-fail q b F h t s c = acted-clash b F t (omega arith) (next-state b F h t s c .clash q)
 
     pub states-more : r ≡ true → length new ≡ length now → StatesActing rules kernels starts closures fronts T states new (state + 1)
-    states-more q e = record { within = omega arith; long = e ∙ k .long; so-far = more }
+    states-more q e = record { within = omega arith; long = omega (arith, k .long); so-far = more }
       where
         more : (b : Book) (F : Sets) → ItemsIn b F rules kernels starts closures → T ≡ b .terminals → states ≡ b .states → FrontsIn b rules closures fronts
             → Rows b F T (state + 1) new × Bare (state + 1) states new

@@ -49,7 +49,7 @@ fn acted(old: u8, given: bool, action: u8) -> u8
 
 // Gives a complete rule's action at terminal a, if that is among the lookaheads; whether it met no other. There is one way through.
 fn complete_at(actions: &mut [u8], state: usize, rule: usize, set: u32, a: usize) -> bool
-    requires { ⌜ (length (now actions) ≡ 4096) × (state < 128) × (rule < 64) × (a < 32) ⌝ }
+    requires { ⌜ (32 * state + 32 ≤ length (now actions)) × (state < 128) × (rule < 64) × (a < 32) ⌝ }
     ensures { λ r. ⌜ ((terminals : ℕ) (cells : ℕ → Cell) → terminals < 32 → (bit set a ≡ true → a ≤ terminals)
         → Row terminals state (completedBelow a cells rule set) (now (actions .entry))
         → Melded terminals state (completedBelow (a + 1) cells rule set) (now (actions .entry)) (now (actions .exit)) r) ⌝ }
@@ -72,7 +72,7 @@ fn among(set: u32, terminals: usize) -> u32
 
 // At all its lookaheads, with no way out of the loop.
 fn complete(actions: &mut [u8], state: usize, rule: usize, set: u32, terminals: usize) -> bool
-    requires { ⌜ (length (now actions) ≡ 4096) × (state < 128) × (rule < 64) × (terminals < 32) ⌝ }
+    requires { ⌜ (32 * state + 32 ≤ length (now actions)) × (state < 128) × (rule < 64) × (terminals < 32) ⌝ }
     ensures { λ r. ⌜ ((cells : ℕ → Cell) → Row terminals state cells (now (actions .entry))
         → Melded terminals state (itemCells rule set [] cells) (now (actions .entry)) (now (actions .exit)) r) ⌝ }
 {
@@ -97,7 +97,7 @@ fn give_item(
     dot: usize,
     set: u32,
 ) -> bool
-    requires { ⌜ (length (now actions) ≡ 4096) × ((b : Book) × GrammarIn b (now rules) × Stands b state rule dot × (terminals ≡ b .terminals)) ⌝ }
+    requires { ⌜ (32 * state + 32 ≤ length (now actions)) × ((b : Book) × GrammarIn b (now rules) × Stands b state rule dot × (terminals ≡ b .terminals)) ⌝ }
     ensures { λ r. ⌜ ((b : Book) (cells : ℕ → Cell) → GrammarIn b (now (rules .entry)) → Stands b state rule dot → terminals ≡ b .terminals
         → Row terminals state cells (now (actions .entry))
         → Melded terminals state (itemCells rule set (after (b .rules) rule dot) cells) (now (actions .entry)) (now (actions .exit)) r) ⌝ }
@@ -122,7 +122,7 @@ fn rule_acts(
     state: usize,
     rule: usize,
 ) -> bool
-    requires { ⌜ (length (now actions) ≡ 4096)
+    requires { ⌜ (32 * state + 32 ≤ length (now actions))
         × ((b : Book) × (F : Sets) × GrammarIn b (now rules) × ClosuresIn b F (now closures) × Stands b state rule 0 × (terminals ≡ b .terminals)) ⌝ }
     ensures { λ r. ⌜ ((b : Book) (F : Sets) (items : List Core) → GrammarIn b (now (rules .entry)) → ClosuresIn b F (now (closures .entry))
         → Stands b state rule 0 → terminals ≡ b .terminals → Row terminals state (cellFrom (b .rules) items) (now (actions .entry))
@@ -145,7 +145,7 @@ fn rules_act(
     terminals: usize,
     state: usize,
 ) -> bool
-    requires { ⌜ (length (now actions) ≡ 4096)
+    requires { ⌜ (32 * state + 32 ≤ length (now actions))
         × ((b : Book) × (F : Sets) × GrammarIn b (now rules) × ClosuresIn b F (now closures) × (state < b .states)
         × (terminals ≡ b .terminals) × FrontsIn b (now rules) (now closures) (now fronts)) ⌝ }
     ensures { λ r. ⌜ ((b : Book) (F : Sets) → GrammarIn b (now (rules .entry)) → ClosuresIn b F (now (closures .entry))
@@ -177,7 +177,7 @@ fn kernels_act(
     terminals: usize,
     state: usize,
 ) -> bool
-    requires { ⌜ (length (now actions) ≡ 4096)
+    requires { ⌜ (32 * state + 32 ≤ length (now actions))
         × ((b : Book) × StatesIn b (now rules) (now kernels) (now starts) × (state < b .states) × (terminals ≡ b .terminals)) ⌝ }
     ensures { λ r. ⌜ ((b : Book) (items : List Core) → StatesIn b (now (rules .entry)) (now (kernels .entry)) (now (starts .entry))
         → state < b .states → terminals ≡ b .terminals → Row terminals state (cellFrom (b .rules) items) (now (actions .entry))
@@ -215,7 +215,7 @@ fn state_acts(
     terminals: usize,
     state: usize,
 ) -> bool
-    requires { ⌜ (length (now actions) ≡ 4096)
+    requires { ⌜ (32 * state + 32 ≤ length (now actions))
         × ((b : Book) × (F : Sets) × ItemsIn b F (now rules) (now kernels) (now starts) (now closures)
         × (state < b .states) × (terminals ≡ b .terminals) × FrontsIn b (now rules) (now closures) (now fronts)) ⌝ }
     ensures { λ r. ⌜ ((b : Book) (F : Sets) → ItemsIn b F (now (rules .entry)) (now (kernels .entry)) (now (starts .entry)) (now (closures .entry))
@@ -240,7 +240,7 @@ pub fn actions(
     states: u32,
     actions: &mut [u8],
 ) -> bool
-    requires { ⌜ (length (now actions) ≡ 4096)
+    requires { ⌜ (32 * states ≤ length (now actions))
         × ((b : Book) × (F : Sets) × ItemsIn b F (now rules) (now kernels) (now starts) (now closures)
         × (terminals ≡ b .terminals) × (states ≡ b .states) × FrontsIn b (now rules) (now closures) (now fronts)) ⌝ }
     ensures { λ r. ⌜ ((b : Book) (F : Sets) → ItemsIn b F (now (rules .entry)) (now (kernels .entry)) (now (starts .entry)) (now (closures .entry))

@@ -67,7 +67,7 @@ cellCode conflict = 255
 
 -- the action of state S at terminal a, at 32 * S + a
 pub record ActionsIn (b : Book) (F : Sets) (actions : List ℕ) : Type 0 where
-  pub long : length actions ≡ 32 * MAX-STATES
+  pub long : 32 * b .states ≤ length actions
   pub action-is : (S a : ℕ) → S < b .states → a ≤ b .terminals
       → getD actions (32 * S + a) 0 ≡ cellCode (getD (getD (cellsTable b (itemsTable b F)) S []) a free)
 

@@ -1,6 +1,7 @@
 -- `actions::actions` meets its contract: the states below `state` have their actions. Assumes nothing.
 use Prim.Native.Nat.{_-_}
-use mathlib.Core.Path.{sym, _∙_}
+use mathlib.Core.Path.{refl, _≡_, _∙_}
+use lib.ListN.{length}
 use native.Mathlib.Omega.{arith}
 use borrow.Author.Tests.{not-true, not-false}
 use Rattle.automaton.specs.ActionTable.{StatesActing, states-none, states-more, states-fail, states-all}
@@ -9,8 +10,8 @@ use Rattle.automaton.proofs.actions.actions.Statement.{statement}
 use Rattle.automaton.proofs.actions.actions.Tie as tie
 
 abbrev Inv-loop : tie.InvT-loop
-Inv-loop rules kernels starts closures fronts terminals states actions₀ n state₀ actions state = StatesActing rules kernels starts closures fronts terminals
-    states actions state
+Inv-loop rules kernels starts closures fronts terminals states actions₀ n state₀ actions state =
+    (length actions ≡ length actions₀) × StatesActing rules kernels starts closures fronts terminals states actions state
 
 abbrev μ-loop : tie.MeasureT-loop
 μ-loop rules kernels starts closures fronts terminals states actions₀ n state₀ actions state = states - state
@@ -28,29 +29,30 @@ fill-requires c κs =
 loop-holds : tie.Need-loop-holds Inv-loop μ-loop
 loop-holds c =
     let s = c .before .before .before .before .before .before .before .before .before .before in
-    rw (c .before .before .fill .ensures)
-    (states-none (s .args .rules .now) (s .args .kernels .now) (s .args .starts .now) (s .args .closures .now) (s .args .fronts .now) (s .args .terminals)
-    (s .args .states) (s .args .actions .now) (s .pre .0)
-    (omega (arith, s .pre .0, s .pre .1 .4, s .pre .1 .2 .states-in .grammar-in .limits .states-limit .high)))
+    (
+      refl,
+      rw (c .before .before .fill .ensures)
+          (states-none (s .args .rules .now) (s .args .kernels .now) (s .args .starts .now) (s .args .closures .now) (s .args .fronts .now)
+          (s .args .terminals) (s .args .states) (s .args .actions .now) (s .pre .0)),
+    )
 
 state-acts-requires : tie.Need-state-acts-requires Inv-loop μ-loop
 state-acts-requires c κs =
     let head = c .before .before in
     let p = head .before .before .before .before .before .before .before .before .before .before .before .pre .1 in
-    (head .loop .inv .long, (p .0, p .1, p .2, omega (arith, p .4, c .before .loop-test .taken), p .3, p .5))
+    (omega (arith, head .loop .inv .1 .long, c .before .loop-test .taken), (p .0, p .1, p .2, omega (arith, p .4, c .before .loop-test .taken), p .3, p .5))
 
 same-length : tie.Need-same-length Inv-loop μ-loop
 same-length c =
     let called = c .before .before .before in
     let head = called .before .before .before in
-    let start = head .before .before .before .before .before .before .before .before .before .before .before in
-    called .state-acts .kept .1 .1 .1 .1 .1 .0 ∙ head .loop .inv .long ∙ sym (start .pre .0)
+    called .state-acts .kept .1 .1 .1 .1 .1 .0 ∙ head .loop .inv .0 ∙ head .before .before .before .fill .kept .0
 
 returns : tie.Need-returns Inv-loop μ-loop
 returns c =
     let called = c .before .before .before in
     let head = called .before .before .before in
-    states-fail (head .loop .inv) (called .before .before .loop-test .taken) (called .state-acts .ensures)
+    states-fail (head .loop .inv .1) (called .before .before .loop-test .taken) (called .state-acts .ensures)
     (not-true (called .state-acts .result) (c .if1 .taken))
 
 add-state : tie.Need-add-state Inv-loop μ-loop
@@ -63,16 +65,18 @@ loop-again : tie.Need-loop-again Inv-loop μ-loop
 loop-again c =
     let called = c .before .before .before in
     let head = called .before .before .before in
-    states-more (head .loop .inv) (called .before .before .loop-test .taken) (called .state-acts .ensures)
-    (not-false (called .state-acts .result) (c .if1 .left)) (called .state-acts .kept .1 .1 .1 .1 .1 .0)
+    let same = called .state-acts .kept .1 .1 .1 .1 .1 .0 in (
+      same ∙ head .loop .inv .0,
+      states-more (head .loop .inv .1) (called .before .before .loop-test .taken) (called .state-acts .ensures)
+          (not-false (called .state-acts .result) (c .if1 .left)) same,
+    )
 
 same-length-2 : tie.Need-same-length-2 Inv-loop μ-loop
 same-length-2 c =
-    let start = c .before .before .before .before .before .before .before .before .before .before .before .before in
-    omega (arith, c .before .loop .inv .long, start .pre .0)
+    let head = c .before in head .loop .inv .0 ∙ head .before .before .before .fill .kept .0
 
 returns-2 : tie.Need-returns-2 Inv-loop μ-loop
-returns-2 c = states-all (c .before .loop .inv) (c .loop-test .left)
+returns-2 c = states-all (c .before .loop .inv .1) (c .loop-test .left)
 
 pub actions-spec : {M : Type 1} → statement M
 actions-spec =

@@ -65,7 +65,7 @@ module _ {G : List Rule} {ks : List Kernel} {kernels : List ℕ} (L : ItemLinesI
     line-marks {F} {R} H =
         rw (rule-same, dot-same, L .kernels-in .set-is i h)
         (marks-item G F R H (kernelAt ks i .rule) (kernelAt ks i .dot) (setOf (kernelAt ks i .lookaheads))
-        (omega (arith, L .rule-there i h, L .few-rules)) (omega (arith, L .short i h)))
+        (L .rule-there i h) (L .few-rules) (omega (arith, L .short i h)))
 
 -- the lines from one up to another
 

@@ -1,13 +1,13 @@
 -- The sets of terminals of a state's items (01, "Partial states and chains"): word 9 * P + D has those for which the item (P, D) is in the partial state.
 -- Assumes nothing.
-use Prim.Native.Nat.{ℕ, _+_, _*_, _<_}
+use Prim.Native.Nat.{ℕ, _+_, _*_, _<_, _≤_}
 use native.Mathlib.Omega.{arith}
 use native.Mathlib.Decide.{ℕ-discrete}
 use mathlib.Core.Path.{_≡_, refl, sym, ap, _∙_}
 use mathlib.Core.Logic.{_⊎_, inl, inr}
-use mathlib.Core.Bool.{true}
-use mathlib.Core.List.{List, [], _∷_, List·Memᴰ as Mem, List·Memᴰ·head as in-head, List·Memᴰ·tail as in-tail, List·Memᴰ·not-nil as not-in-nil}
-use lib.ListN.{length, getD, set, replicate, length-set, length-replicate, getD-replicate}
+use mathlib.Core.Bool.{true, false}
+use mathlib.Core.List.{List, [], _∷_, _++_, List·Memᴰ as Mem, List·Memᴰ·head as in-head, List·Memᴰ·tail as in-tail, List·Memᴰ·not-nil as not-in-nil}
+use lib.ListN.{length, getD, set, replicate, length-set, length-replicate, getD-replicate, List·getD-append}
 use lib.Seq.{getD-set-same, getD-set-other}
 use Rattle.sets.specs.Sets.{bit, empty, union}
 use Rattle.sets.specs.SetsLaws.{bit-empty, union-left, union-right, union-either}
@@ -25,23 +25,25 @@ module _ (G : List Rule) (F : Sets) (R : List ℕ) where
 
   pub record MarksIn (items : List Core) (masks : List ℕ) : Type 0 where
     pub long : length masks ≡ 576
-    pub mark-is : (P D a : ℕ) → P < 64 → D < 9 → a < 32 → Decides (bit (getD masks (9 * P + D) 0) a) (ItemReaches items P D a)
+    pub mark-is : (P D a : ℕ) → P < length G → D < 9 → a < 32 → Decides (bit (getD masks (9 * P + D) 0) a) (ItemReaches items P D a)
 
-  -- no items
-  pub marks-none : MarksIn [] (replicate 576 0)
+  -- no items: the words of the rules are 0
+  pub marks-none : {n : ℕ} (rest : List ℕ) → n ≡ 9 * length G → length (replicate n 0 ++ rest) ≡ 576 → MarksIn [] (replicate n 0 ++ rest)
   unfolding empty
-  marks-none = record {
-    long = length-replicate {A = ℕ} 576 0;
-    mark-is = λ P D a p d l. record {
-      sound = λ t.
-          let none = ap (λ (w : ℕ). bit w a) (getD-replicate {A = ℕ} 576 (9 * P + D) 0 0 (omega arith)) ∙ bit-empty a in
-          absurd (true-false t none);
-      complete = λ (M, m, t). absurd (not-in-nil m);
-    };
+  marks-none {n} rest e long = record {
+    long = long;
+    mark-is = λ P D a p d l. record { sound = λ t. absurd (true-false t (none P D a p d)); complete = λ (M, m, t). absurd (not-in-nil m) };
   }
+    where
+      none : (P D a : ℕ) → P < length G → D < 9 → bit (getD (replicate n 0 ++ rest) (9 * P + D) 0) a ≡ false
+      none P D a p d =
+          let front : length {A = ℕ} (replicate n 0) ≡ n = length-replicate n 0 in
+          ap (λ (w : ℕ). bit w a)
+          (List·getD-append (replicate n 0) rest 0 (9 * P + D) (omega arith) ∙ getD-replicate {A = ℕ} n (9 * P + D) 0 0 (omega arith))
+          ∙ bit-empty a
 
   -- the item (Q, E) with the lookaheads N besides
-  module _ {items : List Core} {masks : List ℕ} (H : MarksIn items masks) (Q E N : ℕ) (q : Q < 64) (e : E < 9) where
+  module _ {items : List Core} {masks : List ℕ} (H : MarksIn items masks) (Q E N : ℕ) (q : Q < length G) (few : length G ≤ 64) (e : E < 9) where
     abbrev place : ℕ
     place = 9 * Q + E
 
@@ -67,7 +69,7 @@ module _ (G : List Rule) (F : Sets) (R : List ℕ) where
             ap (λ (w : ℕ). bit w a) word ∙ union-right (getD masks place 0) reach a l (rw same at r)
         to (M, in-tail m, r) = ap (λ (w : ℕ). bit w a) word ∙ union-left (getD masks place 0) reach a l (H .mark-is Q E a q e l .complete (M, m, r))
 
-    other : (P D a : ℕ) → P < 64 → D < 9 → a < 32 → (9 * P + D ≡ place → ⊥)
+    other : (P D a : ℕ) → P < length G → D < 9 → a < 32 → (9 * P + D ≡ place → ⊥)
         → Decides (bit (getD more (9 * P + D) 0) a) (ItemReaches (core Q E N ∷ items) P D a)
     other P D a p d l n = record {
       sound = λ t. let (M, m, r) = H .mark-is P D a p d l .sound (sym (ap (λ (w : ℕ). bit w a) word) ∙ t) in (M, in-tail m, r);
@@ -87,7 +89,7 @@ module _ (G : List Rule) (F : Sets) (R : List ℕ) where
       mark-is = λ P D a p d l. by P D a p d l (ℕ-discrete (9 * P + D) place);
     }
       where
-        by : (P D a : ℕ) → P < 64 → D < 9 → a < 32 → Dec (9 * P + D ≡ place)
+        by : (P D a : ℕ) → P < length G → D < 9 → a < 32 → Dec (9 * P + D ≡ place)
             → Decides (bit (getD more (9 * P + D) 0) a) (ItemReaches (core Q E N ∷ items) P D a)
         by P D a p d l (yes s) =
             let x : P ≡ Q = omega arith in

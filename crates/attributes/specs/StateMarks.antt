@@ -1,11 +1,11 @@
 -- The sets of terminals of a state's items (`coreItems` of the grammar) that definitions are of, from a book in arrays. Assumes nothing.
 use Prim.Native.Nat.{ℕ, _+_, _*_, _<_, _≤_}
 use native.Mathlib.Omega.{arith}
-use mathlib.Core.Path.{_≡_}
+use mathlib.Core.Path.{_≡_, ap}
 use mathlib.Core.Logic.{_⊎_, inl, inr}
 use mathlib.Core.List.{List, [], _++_, List·Memᴰ as Mem, Memᴰ·append-left as append-left, Memᴰ·append-right as append-right}
 use mathlib.Core.List.{List·Memᴰ·append-cases as append-cases}
-use lib.ListN.{length, getD, replicate}
+use lib.ListN.{length, getD, drop, replicate}
 use lib.Seq.{slice}
 use Rattle.sets.specs.Sets.{bit}
 use Rattle.grammar.specs.Conditions.Decides.{Decides, equivalent}
@@ -39,9 +39,9 @@ pub record StateMarksIn (b : Book) (S : ℕ) (masks : List ℕ) : Type 0 where
       (CoreIn b (setsOf (b .rules)) (reachSets (b .rules) (setsOf (b .rules))) S a (lineAt b d .rule) (dotOf (lineAt b d)))
 
 -- the sets of no items
-pub marks-cleared : (b : Book) (F : Sets) (R : List ℕ) (masks : List ℕ) {cleared : List ℕ} → length masks ≡ 576 → cleared ≡ replicate (length masks) 0
-    → MarksIn (b .rules) F R [] cleared
-marks-cleared b F R masks l e = rw (e, l) (marks-none (b .rules) F R)
+pub marks-cleared : (b : Book) (F : Sets) (R : List ℕ) (masks : List ℕ) {count : ℕ} {cleared : List ℕ} → count ≡ length (b .rules)
+    → cleared ≡ replicate (9 * count) 0 ++ drop (9 * count) masks → length cleared ≡ 576 → MarksIn (b .rules) F R [] cleared
+marks-cleared b F R masks {count} c e l = rw e (marks-none (b .rules) F R (drop (9 * count) masks) (ap (λ (n : ℕ). 9 * n) c) (rw e at l))
 
 module _ {b : Book} {rules kernels starts closures nulls firsts reaches : List ℕ} (H : MarksHeld b rules kernels starts closures nulls firsts reaches) where
   pub item-lines : ItemLinesIn (b .rules) (b .kernels) kernels
@@ -115,6 +115,6 @@ module _ {b : Book} {rules kernels starts closures nulls firsts reaches : List �
               long = M .long;
               mark-is = λ d a l low.
                   equivalent (λ (N, m, t). (N, listed-in m, t)) (λ (N, m, t). (N, listed-has d l m, t))
-                  (all .mark-is (lineAt b d .rule) (dotOf (lineAt b d)) a (omega (arith, C .line-in d l .rule-there, C .rules-in .fits))
+                  (all .mark-is (lineAt b d .rule) (dotOf (lineAt b d)) a (C .line-in d l .rule-there)
                   (omega (arith, C .line-in d l .position-high)) low);
             }

@@ -2,7 +2,7 @@
 ghost use mathlib.Core.Path.{_≡_};
 ghost use mathlib.Core.List.{List, [], _∷_, _++_};
 ghost use Prim.Native.Nat.{ℕ, _+_, _*_, _≤_, _<_};
-ghost use lib.ListN.{length, getD, set, replicate};
+ghost use lib.ListN.{length, getD, set, drop, replicate};
 ghost use lib.Seq.{slice};
 ghost use Rattle.sets.specs.Sets.{union};
 ghost use Rattle.grammar.specs.Data.Symbol.{Rule, leftOf, rightOf, after};
@@ -162,11 +162,11 @@ fn mark_lines(
     }
 }
 
-// Sets that have nothing.
-fn clear(masks: &mut [u32])
-    ensures { λ _. ⌜ now (masks .exit) ≡ replicate (length (now (masks .entry))) 0 ⌝ }
+// Sets that have nothing, in the first words.
+fn clear(masks: &mut [u32], n: usize)
+    requires { ⌜ n ≤ length (now masks) ⌝ }
+    ensures { λ _. ⌜ now (masks .exit) ≡ replicate n 0 ++ drop n (now (masks .entry)) ⌝ }
 {
-    let n = masks.len();
     let mut i = 0;
     while i < n {
         masks[i] = 0;
@@ -174,12 +174,13 @@ fn clear(masks: &mut [u32])
     }
 }
 
-// For each item of a state that a definition is of, the terminals with which it is in a partial state: word 9 * P + D is of rule P with the dot after D
-// symbols.
+// For each item of a state that a definition is of, the terminals with which it is in a partial state: word 9 * P + D is of rule P, of `count` rules, with
+// the dot after D symbols.
 pub fn masks(
     definitions: &[u32],
     lines: usize,
     rules: &[u32],
+    count: u32,
     kernels: &[u32],
     starts: &[u32],
     closures: &[u32],
@@ -190,13 +191,14 @@ pub fn masks(
 )
     requires { ⌜ ((b : Book) × (firsts : List ℕ) × (owned : List ℕ)
         × MarksHeld b (now rules) (now kernels) (now starts) (now closures) (now nulls) firsts (now reaches)
-        × CheckHeld b (now definitions) (now rules) owned (now masks) × (lines ≡ grammar.definitions b) × (state < b .states)) ⌝ }
+        × CheckHeld b (now definitions) (now rules) owned (now masks) × (lines ≡ grammar.definitions b) × (count ≡ length (b .rules))
+        × (state < b .states)) ⌝ }
     ensures { λ _. ⌜ ((b : Book) (firsts owned : List ℕ) → MarksHeld b (now (rules .entry)) (now (kernels .entry)) (now (starts .entry))
         (now (closures .entry)) (now (nulls .entry)) firsts (now (reaches .entry))
-        → CheckHeld b (now (definitions .entry)) (now (rules .entry)) owned (now (masks .entry)) → lines ≡ grammar.definitions b → state < b .states
-        → StateMarksIn b state (now (masks .exit))) ⌝ }
+        → CheckHeld b (now (definitions .entry)) (now (rules .entry)) owned (now (masks .entry)) → lines ≡ grammar.definitions b
+        → count ≡ length (b .rules) → state < b .states → StateMarksIn b state (now (masks .exit))) ⌝ }
 {
-    clear(masks);
+    clear(masks, 9 * count as usize);
     mark_fronts(
         definitions,
         lines,

@@ -2,20 +2,19 @@
 -- Assumes nothing.
 use Prim.Native.Nat.{ℕ, _-_, _≤_, _<_}
 use mathlib.Core.Path.{_≡_, refl, ap, _∙_}
-use mathlib.Core.List.{List, _++_, append-nil}
+use mathlib.Core.List.{List, _++_}
 use native.Mathlib.Omega.{arith}
 use lib.ListN.{length, drop, set, replicate, length-set}
-use lib.Seq.{drop-length}
 use borrow.Author.Fill.{fill-more}
 use borrow.Author.Needs.{needs}
 use Rattle.attributes.proofs.masks.clear.Statement.{statement}
 use Rattle.attributes.proofs.masks.clear.Tie as tie
 
 abbrev Inv-loop : tie.InvT-loop
-Inv-loop masks₀ n i₀ masks i = (i ≤ length masks₀) × (length masks ≡ length masks₀) × (masks ≡ replicate i 0 ++ drop i masks₀)
+Inv-loop masks₀ n i₀ masks i = (i ≤ n) × (length masks ≡ length masks₀) × (masks ≡ replicate i 0 ++ drop i masks₀)
 
 abbrev μ-loop : tie.MeasureT-loop
-μ-loop masks₀ n i₀ masks i = length masks₀ - i
+μ-loop masks₀ n i₀ masks i = n - i
 
 loop-holds : tie.Need-loop-holds Inv-loop μ-loop
 loop-holds c = (search needs, refl, refl)
@@ -46,9 +45,8 @@ same-length c = search needs
 
 returns : tie.Need-returns Inv-loop μ-loop
 returns c = let at = c .before in
-    let old = at .before .args .masks .now in
-    let e : at .loop .i ≡ length old = omega arith in
-    at .loop .inv .2 ∙ rw (e, drop-length old) (append-nil _)
+    let e : at .loop .i ≡ at .before .args .n = omega arith in
+    rw e at (at .loop .inv .2)
 
 pub clear-spec : {M : Type 1} → statement M
 clear-spec =

@@ -1,6 +1,9 @@
 -- `masks::masks` meets its contract: first the definitions' items with the dot in front, then those of the kernel lines.
 -- Assumes nothing.
+use Prim.Native.Nat.{_*_, _≤_}
+use native.Mathlib.Omega.{arith}
 use mathlib.Core.Path.{_∙_}
+use lib.ListN.{length}
 use Rattle.grammar.specs.Automaton.FirstSets.{setsOf}
 use Rattle.grammar.specs.Automaton.ReachSets.{reachSets}
 use Rattle.grammar.specs.Automaton.ClosureSets.{closureSets}
@@ -13,8 +16,15 @@ use Rattle.attributes.proofs.masks.masks.Tie as tie
 abbrev entry : tie.After-mark-fronts-arg → tie.Start
 entry c = c .before .before .before .before .before .before .before .before .before .before .before .before .before
 
+-- the words of the rules are words of the sets
+few : (s : tie.Start) → 9 * s .args .count ≤ length (s .args .masks .now)
+few s = let (b, firsts, owned, H, C, e, n, l) = s .pre in omega (arith, n, C .masks-long, H .items-in .states-in .grammar-in .rules-in .fits)
+
+mul-clear : tie.Need-mul-clear
+mul-clear c = omega (arith, few (c .before .before .before .before .before .before .before .before .before))
+
 clear-requires : tie.Need-clear-requires
-clear-requires c κs = search needs
+clear-requires c κs = few (c .before .before .before .before .before .before .before .before .before)
 
 mul-mark-fronts : tie.Need-mul-mark-fronts
 mul-mark-fronts c = search needs
@@ -22,7 +32,7 @@ mul-mark-fronts c = search needs
 mark-fronts-requires : tie.Need-mark-fronts-requires
 mark-fronts-requires c κs =
     let s = entry c in
-    let (b, firsts, owned, H, C, e, l) = s .pre in (
+    let (b, firsts, owned, H, C, e, n, l) = s .pre in (
       (b, owned, _, closureSets b (setsOf (b .rules)) (s .args .state), C, state-looks H l, e),
       looks-below H l,
       H .rests-in .suffixes-in .nulls-long,
@@ -34,14 +44,14 @@ word-requires : tie.Need-word-requires
 word-requires c κs = search needs
 
 add-word : tie.Need-add-word
-add-word c = search needs
+add-word c = let (b, firsts, owned, H, C, e, n, l) = entry (c .before .before .before .before) .pre in omega (arith, starts-below H l)
 
 word-requires-2 : tie.Need-word-requires-2
-word-requires-2 c κs = let g = entry (c .before .before .before .before) .pre in starts-below (g .3) (g .6)
+word-requires-2 c κs = let g = entry (c .before .before .before .before) .pre in starts-below (g .3) (g .7)
 
 mark-lines-requires : tie.Need-mark-lines-requires
 mark-lines-requires c κs =
-    let (b, firsts, owned, H, C, e, l) = entry (c .before .before .before .before .before .before) .pre in
+    let (b, firsts, owned, H, C, e, n, l) = entry (c .before .before .before .before .before .before) .pre in
     let lines = range H l (c .before .before .word .ensures) (c .before .word2 .ensures) in (
       (b .rules, b .kernels, item-lines H, lines .within),
       lines .ordered,
@@ -54,7 +64,7 @@ same-length : tie.Need-same-length
 same-length c = search needs
 
 returns : tie.Need-returns
-returns c = λ b firsts owned H C e l.
+returns c = λ b firsts owned H C e n l.
     let v = c .before .before in
     let w = v .before .before in
     let m = w .before .before .before .before in
@@ -69,12 +79,14 @@ returns c = λ b firsts owned H C e l.
     marks-state H l first last C e
     (v .mark-lines .ensures G F R firsts (b .kernels) _ (item-lines H) (range H l first last .within) N T
     (m .mark-fronts .ensures b F R firsts owned _ (closureSets b F (s .args .state)) C (state-looks H l) e N T
-    (marks-cleared b F R (s .args .masks .now) (C .masks-long) (m .before .before .before .before .clear .ensures))))
+    (marks-cleared b F R (s .args .masks .now) n (m .before .before .before .before .clear .ensures)
+    (m .before .before .before .before .clear .kept .0 ∙ C .masks-long))))
 
 pub masks-spec : {M : Type 1} → statement M
 masks-spec =
     tie.close
     (tie.spec
+    mul-clear
     clear-requires
     mul-mark-fronts
     mark-fronts-requires

@@ -60,6 +60,7 @@ fn state_right(
         definitions,
         lines as usize,
         rules,
+        count,
         kernels,
         starts,
         closures,

@@ -112,6 +112,7 @@ fn plan_into(
         definitions,
         lines as usize,
         rules,
+        count,
         kernels,
         starts,
         closures,

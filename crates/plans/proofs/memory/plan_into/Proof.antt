@@ -26,7 +26,7 @@ few c =
     let m = marked (skipped c) in
     let (b, count, H, l) = entry m .pre .0 in
     let F = H .formulas-held in
-    let marks = m .masks .ensures b (H .firsts) _ (F .marks-held) (plans-check H (entry m .pre .3)) (F .definitions-counted) l in
+    let marks = m .masks .ensures b (H .firsts) _ (F .marks-held) (plans-check H (entry m .pre .3)) (F .definitions-counted) (F .rules-counted) l in
     row-short b _ (c .plan .ensures .0 b (plans-check H (marks .long)) (F .definitions-counted))
 
 masks-requires : tie.Need-masks-requires
@@ -34,7 +34,7 @@ masks-requires c κs =
     let s = c .before .before .before .before .before .before .before .before .before .before .before in
     let (b, count, H, l) = s .pre .0 in
     let F = H .formulas-held in
-    (b, H .firsts, _, F .marks-held, plans-check H (s .pre .3), F .definitions-counted, l)
+    (b, H .firsts, _, F .marks-held, plans-check H (s .pre .3), F .definitions-counted, F .rules-counted, l)
 
 slice-aggregate-skip : tie.Need-slice-aggregate-skip
 slice-aggregate-skip c = search needs
@@ -44,7 +44,7 @@ skip-requires c κs =
     let m = c .before .before .before .before in
     let (b, count, H, l) = entry m .pre .0 in
     let F = H .formulas-held in
-    let marks = m .masks .ensures b (H .firsts) _ (F .marks-held) (plans-check H (entry m .pre .3)) (F .definitions-counted) l in
+    let marks = m .masks .ensures b (H .firsts) _ (F .marks-held) (plans-check H (entry m .pre .3)) (F .definitions-counted) (F .rules-counted) l in
     ((b, _, _, plans-check H (marks .long), F .definitions-counted), refl)
 
 slice-aggregate-plan : tie.Need-slice-aggregate-plan
@@ -63,7 +63,7 @@ plan-requires c κs =
     let s = entry m in
     let (b, count, H, l) = s .pre .0 in
     let F = H .formulas-held in
-    let marks = m .masks .ensures b (H .firsts) _ (F .marks-held) (plans-check H (s .pre .3)) (F .definitions-counted) l in (
+    let marks = m .masks .ensures b (H .firsts) _ (F .marks-held) (plans-check H (s .pre .3)) (F .definitions-counted) (F .rules-counted) l in (
       (b, plans-check H (marks .long), F .definitions-counted),
       s .pre .1,
       omega (arith, s .pre .2, s .pre .4),
@@ -92,7 +92,7 @@ returns c =
     let s = entry m in (
       λ b count H l.
           let F = H .formulas-held in
-          let marks = m .masks .ensures b (H .firsts) _ (F .marks-held) (plans-check H (s .pre .3)) (F .definitions-counted) l in
+          let marks = m .masks .ensures b (H .firsts) _ (F .marks-held) (plans-check H (s .pre .3)) (F .definitions-counted) (F .rules-counted) l in
           plan-filled H (s .pre .1) (s .args .slot) marks (omega (arith, s .pre .2, s .pre .4, p .plan .ensures .1 .long))
           (p .plan .ensures .0 b (plans-check H (marks .long)) (F .definitions-counted)),
       slot-filled (s .args .slot) (p .plan .result) (p .plan .ensures .1),

@@ -2,7 +2,7 @@
 // A contract asks that the arrays hold some book, and says what it says of every book that they hold.
 ghost use mathlib.Core.Path.{_≡_};
 ghost use mathlib.Core.List.{List};
-ghost use Prim.Native.Nat.{ℕ, _*_};
+ghost use Prim.Native.Nat.{ℕ};
 ghost use lib.ListN.{length};
 ghost use Rattle.text.specs.Reading.{Lent};
 ghost use Rattle.grammar.specs.Limits.{MAX-INHERITED, MAX-STATES};
@@ -11,7 +11,6 @@ ghost use Rattle.definitions.specs.Expressions.{WaitsRoom};
 ghost use Rattle.book.specs.Held.{OwnersIn};
 ghost use Rattle.book.specs.Spelling.{arrays, Roomy};
 ghost use Rattle.conditions.specs.Answers.{Some};
-ghost use Rattle.formulas.specs.Table.{ROOM};
 ghost use Rattle.agreement.specs.OneFormula.{FrontsHeld, formulasRight};
 ghost use Rattle.compiler.specs.States.{TablesRoom, TablesLent};
 ghost use Rattle.compiler.specs.Conditions.{BookKept, conditionsRefusal};
@@ -125,8 +124,8 @@ fn prepare(
     )
 }
 
-// Whether each attribute has one formula in every partial state (10): most books give each once, and have nothing to compare.
-// `nodes` is room for the nodes of formulas, whatever it holds.
+// Whether each attribute has one formula in every partial state (10): most books give each once, and have nothing to compare. Where formulas are
+// compared there is room for their nodes, 15 of each definition; most books have few.
 fn formulas_right(
     book: Book,
     inherited: &[u32],
@@ -138,12 +137,10 @@ fn formulas_right(
     fronts: &[u64],
     vanishes: &[u32],
     reached: &[u32],
-    nodes: &mut [u32],
 ) -> bool
     requires { ⌜ ((b : Lines) × (begins : List ℕ) × FrontsHeld b (now rules) (book .rules) (now definitions) (book .«inherited_definitions») (now kernels)
         (now starts) (now lookaheads) (now fronts) (now vanishes) begins (now reached) (book .terminals) (book .states)
         × OwnersIn MAX-INHERITED (b .inheritedOwners) (now inherited) × (book .inherited ≡ length (b .inheritedOwners))) ⌝ }
-    requires { ⌜ length (now nodes) ≡ 4 * ROOM ⌝ }
     ensures { λ r. ⌜ ((b : Lines) (begins : List ℕ) → FrontsHeld b (now (rules .entry)) (book .rules) (now (definitions .entry))
         (book .«inherited_definitions») (now (kernels .entry)) (now (starts .entry)) (now (lookaheads .entry)) (now (fronts .entry))
         (now (vanishes .entry)) begins (now (reached .entry)) (book .terminals) (book .states)
@@ -159,7 +156,30 @@ fn formulas_right(
     ) {
         return true;
     }
+    if book.inherited_definitions <= 40 {
+        let mut nexts = [0u32; 600];
+        let mut nodes = [0u32; 2400];
+        return one_formula(
+            inherited,
+            book.inherited,
+            rules,
+            book.rules,
+            definitions,
+            book.inherited_definitions,
+            kernels,
+            starts,
+            lookaheads,
+            fronts,
+            vanishes,
+            reached,
+            book.terminals,
+            book.states,
+            &mut nodes,
+            &mut nexts,
+        );
+    }
     let mut nexts = [0u32; 1920];
+    let mut nodes = [0u32; 7680];
     one_formula(
         inherited,
         book.inherited,
@@ -175,12 +195,12 @@ fn formulas_right(
         reached,
         book.terminals,
         book.states,
-        nodes,
+        &mut nodes,
         &mut nexts,
     )
 }
 
-// Fills the tables of a book, up to the first of 3 to 10 that applies; that, or 0. `nodes` is room for the nodes of formulas.
+// Fills the tables of a book, up to the first of 3 to 10 that applies; that, or 0.
 fn check(
     book: Book,
     inherited: &[u32],
@@ -196,11 +216,9 @@ fn check(
     lookaheads: &mut [u32],
     table: &mut [u8],
     cells: &mut [u8],
-    nodes: &mut [u32],
 ) -> u32
     requires { ⌜ Some (BookKept book (now inherited) (now synthesized) (now rules) (now definitions) (now kernels) (now goes)) ⌝ }
     requires { ⌜ TablesRoom (book .states) (now vanishes) (now begins) (now reached) (now starts) (now lookaheads) (now table) (now cells) ⌝ }
-    requires { ⌜ length (now nodes) ≡ 4 * ROOM ⌝ }
     ensures { λ r. ⌜ ((b : Lines) → BookKept book (now (inherited .entry)) (now (synthesized .entry)) (now (rules .entry)) (now (definitions .entry))
         (now (kernels .entry)) (now (goes .entry)) b
         → Checked r book (now (inherited .entry)) (now (synthesized .entry)) (now (rules .entry)) (now (definitions .entry)) (now (kernels .entry))
@@ -239,7 +257,6 @@ fn check(
         &fronts,
         vanishes,
         reached,
-        nodes,
     ) {
         return 0;
     }
@@ -254,7 +271,7 @@ pub struct Compiled {
 }
 
 // Reads a text into the arrays of its lines and fills the tables, up to the first of 2 to 10 that applies.
-// `waits` and `nodes` are room, whatever they hold: for what waits in an expression, and for the nodes of formulas.
+// `waits` is room for what waits in an expression, whatever it holds.
 pub fn compile(
     t: &[u8; 256],
     text: &[u8],
@@ -273,12 +290,10 @@ pub fn compile(
     lookaheads: &mut [u32],
     table: &mut [u8],
     cells: &mut [u8],
-    nodes: &mut [u32],
 ) -> Compiled
     requires { ⌜ Lent (now t) (now text) × WaitsRoom (now text) (now waits)
         × Roomy room (arrays (now inherited) (now synthesized) (now rules) (now definitions) (now kernels) (now goes)) ⌝ }
     requires { ⌜ TablesLent room (now vanishes) (now begins) (now reached) (now starts) (now lookaheads) (now table) (now cells) ⌝ }
-    requires { ⌜ length (now nodes) ≡ 4 * ROOM ⌝ }
     ensures { λ r. ⌜ Compiles room (now (text .entry)) (r .complete) (r .refusal) (r .book) (now (inherited .exit)) (now (synthesized .exit)) (now (rules .exit))
         (now (definitions .exit)) (now (kernels .exit)) (now (goes .exit)) (now (vanishes .exit)) (now (begins .exit)) (now (reached .exit))
         (now (starts .exit)) (now (lookaheads .exit)) (now (table .exit)) (now (cells .exit)) ⌝ }
@@ -319,7 +334,6 @@ pub fn compile(
         lookaheads,
         table,
         cells,
-        nodes,
     );
     Compiled {
         complete: true,

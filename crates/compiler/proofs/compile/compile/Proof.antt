@@ -9,11 +9,11 @@ use Rattle.compiler.proofs.compile.compile.Tie as tie
 
 -- from each call back to the one before
 
-abbrev lent-at : tie.After-spelling → tie.After-slice-known15
+abbrev lent-at : tie.After-spelling → tie.After-slice-known14
 lent-at c = c .before .before .before .before .before .before .before .before
 
 abbrev start : tie.After-spelling → tie.Start
-start c = lent-at c .before .before .before .before .before .before .before .before .before .before .before .before .before .before .before .before
+start c = lent-at c .before .before .before .before .before .before .before .before .before .before .before .before .before .before .before
 
 abbrev read-of : tie.After-complete → tie.After-spelling
 read-of c = c .before .before .before .before .before .before .before .before .before .before .before .before .before .before .before .before
@@ -22,10 +22,10 @@ abbrev spelling-at : tie.Else1 → tie.After-spelling
 spelling-at c = read-of (c .before .before)
 
 abbrev read-at : tie.After-check → tie.Else1
-read-at c = c .before .before .before .before .before .before .before .before .before .before .before .before .before .before .before
+read-at c = c .before .before .before .before .before .before .before .before .before .before .before .before .before .before
 
-abbrev check-at : tie.After-slice-known30 → tie.After-check
-check-at c = c .before .before .before .before .before .before .before .before .before .before .before .before .before .before .before .before
+abbrev check-at : tie.After-slice-known28 → tie.After-check
+check-at c = c .before .before .before .before .before .before .before .before .before .before .before .before .before .before
 
 spelling-requires : tie.Need-spelling-requires
 spelling-requires c κs = search needs
@@ -59,11 +59,11 @@ returns c = let w = c .before .before .before in
     compiles-unread _ (read-of w .spelling .ensures) (w .complete .ensures) (not-true _ (c .before .if1 .taken))
 
 check-requires : tie.Need-check-requires
-check-requires c κs = let e = c .before .before .before .before .before .before .before .before .before .before .before .before .before .before in
+check-requires c κs = let e = c .before .before .before .before .before .before .before .before .before .before .before .before .before in
     let s = spelling-at e in
     let (spelled, fits) = both-true _ _ (not-false _ (e .if1 .left)) in
     let all = e .before .before .complete .ensures .sound fits in
-    (read-some _ (s .spelling .ensures) (start s .pre .0 .2) all spelled, (tables-room all (start s .pre .1 .0), start s .pre .1 .1))
+    (read-some _ (s .spelling .ensures) (start s .pre .0 .2) all spelled, tables-room all (start s .pre .1))
 
 same-length-8 : tie.Need-same-length-8
 same-length-8 c = spelling-at (read-at (check-at c)) .spelling .kept .1 .1 .0
@@ -107,9 +107,6 @@ same-length-20 c = search needs
 same-length-21 : tie.Need-same-length-21
 same-length-21 c = search needs
 
-same-length-22 : tie.Need-same-length-22
-same-length-22 c = search needs
-
 returns-2 : tie.Need-returns-2
 returns-2 c = let k = check-at c in
     let e = read-at k in
@@ -146,5 +143,4 @@ compile-spec =
     same-length-19
     same-length-20
     same-length-21
-    same-length-22
     returns-2)

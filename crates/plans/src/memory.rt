@@ -87,6 +87,7 @@ pub fn plan_idle(
 // The plan of a state and a terminal, worked out into a slot. `sets` is room for the state's items.
 fn plan_into(
     rules: &[u32],
+    count: u32,
     definitions: &[u32],
     lines: u32,
     owned: &[u32],
@@ -101,9 +102,9 @@ fn plan_into(
     sets: &mut [u32],
     lists: &mut [u8],
 )
-    requires { ⌜ ((b : Book) × (count : ℕ) × PlansHeld b (now rules) count (now definitions) lines (now owned) (now kernels) (now starts) (now closures)
+    requires { ⌜ ((b : Book) × PlansHeld b (now rules) count (now definitions) lines (now owned) (now kernels) (now starts) (now closures)
         (now nulls) (now reaches) × (state < b .states)) × (terminal < 32) × (slot < 255) × (length (now sets) ≡ 576) × (length (now lists) ≡ 4336) ⌝ }
-    ensures { λ _. ⌜ ((b : Book) (count : ℕ) → PlansHeld b (now (rules .entry)) count (now (definitions .entry)) lines (now (owned .entry))
+    ensures { λ _. ⌜ ((b : Book) → PlansHeld b (now (rules .entry)) count (now (definitions .entry)) lines (now (owned .entry))
         (now (kernels .entry)) (now (starts .entry)) (now (closures .entry)) (now (nulls .entry)) (now (reaches .entry)) → state < b .states
         → PlanIn (planOf b state terminal) (now (lists .exit)) slot)
         × Elsewhere (17 * slot) (17 * slot + 17) (now (lists .entry)) (now (lists .exit)) ⌝ }
@@ -170,6 +171,7 @@ pub fn planned(
     let slot = lists[LAST] as usize + 1;
     plan_into(
         rules,
+        count,
         definitions,
         lines,
         owned,

@@ -50,7 +50,7 @@ plan-into-requires : tie.Need-plan-into-requires
 plan-into-requires c κs =
     let s = entry (c .before .before .before .before) in
     let (b, H, l, M) = s .pre .0 in
-    ((b, _, H, l), s .pre .1, omega (arith, M .last-low), s .pre .2, M .lists-long)
+    ((b, H, l), s .pre .1, omega (arith, M .last-low), s .pre .2, M .lists-long)
 
 same-length : tie.Need-same-length
 same-length c = search needs
@@ -61,7 +61,7 @@ same-length-2 c = search needs
 returns-2 : tie.Need-returns-2
 returns-2 c = λ b H l M.
     let p = filled (c .before) in
-    told-spare H (start p .pre .1) M l refl (p .plan-into .ensures .0 b _ H l) (p .plan-into .ensures .1)
+    told-spare H (start p .pre .1) M l refl (p .plan-into .ensures .0 b H l) (p .plan-into .ensures .1)
 
 cast-slots : tie.Need-cast-slots
 cast-slots c = search needs
@@ -90,7 +90,7 @@ same-length-5 c = search needs
 returns-3 : tie.Need-returns-3
 returns-3 c = λ b H l M.
     let p = filled (c .before) in
-    told-new H (start p .pre .1) M l refl (p .plan-into .ensures .0 b _ H l) (p .plan-into .ensures .1) (c .if2 .left)
+    told-new H (start p .pre .1) M l refl (p .plan-into .ensures .0 b H l) (p .plan-into .ensures .1) (c .if2 .left)
 
 pub planned-spec : {M : Type 1} → statement M
 planned-spec =

@@ -86,7 +86,7 @@ pub record TablesRoom (states : ℕ) (vanishes begins reached starts closures ta
   pub starts-long : length starts ≡ 129
   pub closures-blank : states ≤ MAX-STATES → Blank states closures
   pub table-long : states ≤ MAX-STATES → 64 * states ≤ length table
-  pub actions-long : length actions ≡ 4096
+  pub actions-long : states ≤ MAX-STATES → 32 * states ≤ length actions
 
 -- the same, with as much room as is said
 pub record TablesLent (room : Room) (vanishes begins reached starts closures table actions : List ℕ) : Type 0 where
@@ -96,8 +96,22 @@ pub record TablesLent (room : Room) (vanishes begins reached starts closures tab
   pub starts-long : length starts ≡ 129
   pub closures-none : closures ≡ replicate (32 * room .states) 0
   pub table-long : length table ≡ 64 * room .states
-  pub actions-long : length actions ≡ 4096
+  pub actions-long : 32 * room .states ≤ length actions
   pub states-few : room .states ≤ MAX-STATES
+
+-- actions may be written over before they are filled
+pub actions-kept : {room : Room} {vanishes begins reached starts closures table actions new : List ℕ} → length new ≡ length actions
+    → TablesLent room vanishes begins reached starts closures table actions → TablesLent room vanishes begins reached starts closures table new
+actions-kept e t = record {
+  vanishes-long = t .vanishes-long;
+  begins-long = t .begins-long;
+  reached-long = t .reached-long;
+  starts-long = t .starts-long;
+  closures-none = t .closures-none;
+  table-long = t .table-long;
+  actions-long = omega (arith, t .actions-long);
+  states-few = t .states-few;
+}
 
 -- the states of a book within the limits have room
 pub states-enough : {room : Room} {numbers : Counts} → Complete room numbers → room .states ≤ MAX-STATES → numbers .states ≤ MAX-STATES
@@ -118,7 +132,7 @@ tables-room {room} {numbers} {closures = closures} fit t =
         none = t .closures-none ∙ ap (λ (n : ℕ). replicate n 0) (sym closures-long);
       };
       table-long = λ few. omega (arith, t .table-long, enough few);
-      actions-long = t .actions-long;
+      actions-long = λ few. omega (arith, t .actions-long, enough few);
     }
   where
     closures-long : length closures ≡ 32 * room .states

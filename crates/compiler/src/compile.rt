@@ -271,11 +271,10 @@ pub struct Compiled {
 }
 
 // Reads a text into the arrays of its lines and fills the tables, up to the first of 2 to 10 that applies.
-// `waits` is room for what waits in an expression, whatever it holds.
+// Until they are filled, `cells` are room for what waits in an expression.
 pub fn compile(
     t: &[u8; 256],
     text: &[u8],
-    waits: &mut [u8],
     room: Room,
     inherited: &mut [u32],
     synthesized: &mut [u32],
@@ -291,7 +290,7 @@ pub fn compile(
     table: &mut [u8],
     cells: &mut [u8],
 ) -> Compiled
-    requires { ⌜ Lent (now t) (now text) × WaitsRoom (now text) (now waits)
+    requires { ⌜ Lent (now t) (now text) × WaitsRoom (now text) (now cells)
         × Roomy room (arrays (now inherited) (now synthesized) (now rules) (now definitions) (now kernels) (now goes)) ⌝ }
     requires { ⌜ TablesLent room (now vanishes) (now begins) (now reached) (now starts) (now lookaheads) (now table) (now cells) ⌝ }
     ensures { λ r. ⌜ Compiles room (now (text .entry)) (r .complete) (r .refusal) (r .book) (now (inherited .exit)) (now (synthesized .exit)) (now (rules .exit))
@@ -301,7 +300,7 @@ pub fn compile(
     let read = spelling(
         t,
         text,
-        waits,
+        cells,
         room,
         inherited,
         synthesized,

@@ -1,7 +1,8 @@
 -- `compile::compile` meets its contract: a text that is spelled right has a book, and that is checked. Assumes nothing.
+use mathlib.Core.Path.{_∙_}
 use borrow.Author.Tests.{not-true, not-false}
 use Rattle.grammar.specs.Automaton.TestLaws.{both-true}
-use Rattle.compiler.specs.States.{tables-room}
+use Rattle.compiler.specs.States.{tables-room, actions-kept}
 use Rattle.compiler.specs.Compiling.{compiles-unread, compiles-checked, read-some}
 use borrow.Author.Needs.{needs}
 use Rattle.compiler.proofs.compile.compile.Statement.{statement}
@@ -9,11 +10,11 @@ use Rattle.compiler.proofs.compile.compile.Tie as tie
 
 -- from each call back to the one before
 
-abbrev lent-at : tie.After-spelling → tie.After-slice-known14
+abbrev lent-at : tie.After-spelling → tie.After-slice-known13
 lent-at c = c .before .before .before .before .before .before .before .before
 
 abbrev start : tie.After-spelling → tie.Start
-start c = lent-at c .before .before .before .before .before .before .before .before .before .before .before .before .before .before .before
+start c = lent-at c .before .before .before .before .before .before .before .before .before .before .before .before .before .before
 
 abbrev read-of : tie.After-complete → tie.After-spelling
 read-of c = c .before .before .before .before .before .before .before .before .before .before .before .before .before .before .before .before
@@ -24,7 +25,7 @@ spelling-at c = read-of (c .before .before)
 abbrev read-at : tie.After-check → tie.Else1
 read-at c = c .before .before .before .before .before .before .before .before .before .before .before .before .before .before
 
-abbrev check-at : tie.After-slice-known28 → tie.After-check
+abbrev check-at : tie.After-slice-known27 → tie.After-check
 check-at c = c .before .before .before .before .before .before .before .before .before .before .before .before .before .before
 
 spelling-requires : tie.Need-spelling-requires
@@ -63,25 +64,25 @@ check-requires c κs = let e = c .before .before .before .before .before .before
     let s = spelling-at e in
     let (spelled, fits) = both-true _ _ (not-false _ (e .if1 .left)) in
     let all = e .before .before .complete .ensures .sound fits in
-    (read-some _ (s .spelling .ensures) (start s .pre .0 .2) all spelled, tables-room all (start s .pre .1))
+    (read-some _ (s .spelling .ensures) (start s .pre .0 .2) all spelled, tables-room all (actions-kept (s .spelling .kept .1 .1 .0) (start s .pre .1)))
 
 same-length-8 : tie.Need-same-length-8
-same-length-8 c = spelling-at (read-at (check-at c)) .spelling .kept .1 .1 .0
+same-length-8 c = spelling-at (read-at (check-at c)) .spelling .kept .1 .1 .1 .1 .0
 
 same-length-9 : tie.Need-same-length-9
-same-length-9 c = spelling-at (read-at (check-at c)) .spelling .kept .1 .1 .1 .1 .0
+same-length-9 c = spelling-at (read-at (check-at c)) .spelling .kept .1 .1 .1 .1 .1 .0
 
 same-length-10 : tie.Need-same-length-10
-same-length-10 c = spelling-at (read-at (check-at c)) .spelling .kept .1 .1 .1 .1 .1 .0
+same-length-10 c = spelling-at (read-at (check-at c)) .spelling .kept .1 .1 .1 .1 .1 .1 .0
 
 same-length-11 : tie.Need-same-length-11
-same-length-11 c = spelling-at (read-at (check-at c)) .spelling .kept .1 .1 .1 .1 .1 .1 .0
+same-length-11 c = spelling-at (read-at (check-at c)) .spelling .kept .1 .1 .1 .1 .1 .1 .1 .0
 
 same-length-12 : tie.Need-same-length-12
-same-length-12 c = spelling-at (read-at (check-at c)) .spelling .kept .1 .1 .1 .1 .1 .1 .1 .0
+same-length-12 c = spelling-at (read-at (check-at c)) .spelling .kept .1 .1 .1 .1 .1 .1 .1 .1 .0
 
 same-length-13 : tie.Need-same-length-13
-same-length-13 c = spelling-at (read-at (check-at c)) .spelling .kept .1 .1 .1 .1 .1 .1 .1 .1 .0
+same-length-13 c = search needs
 
 same-length-14 : tie.Need-same-length-14
 same-length-14 c = search needs
@@ -102,10 +103,8 @@ same-length-19 : tie.Need-same-length-19
 same-length-19 c = search needs
 
 same-length-20 : tie.Need-same-length-20
-same-length-20 c = search needs
-
-same-length-21 : tie.Need-same-length-21
-same-length-21 c = search needs
+same-length-20 c =
+    let k = check-at c in k .check .kept .1 .1 .1 .1 .1 .1 .1 .1 .1 .1 .1 .1 .1 .0 ∙ spelling-at (read-at k) .spelling .kept .1 .1 .0
 
 returns-2 : tie.Need-returns-2
 returns-2 c = let k = check-at c in
@@ -142,5 +141,4 @@ compile-spec =
     same-length-18
     same-length-19
     same-length-20
-    same-length-21
     returns-2)

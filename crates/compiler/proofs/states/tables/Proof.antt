@@ -109,7 +109,7 @@ actions-requires c κs =
     let I = i .fill-items .ensures b (H .kernels-held) (H .rules-counted) T in
     let W = held-fronts (H .kernels-held) (H .rules-counted) (f .fill-fronts .ensures) in
     let K = held-closures (H .kernels-held) T (I .closures-in) in
-    (start (kernels-at i) .pre .1 .0 .actions-long, (b, setsOf (b .rules), K, H .terminals-are, H .kernels-held .states-are, W))
+    (start (kernels-at i) .pre .1 .0 .actions-long (few H), (b, setsOf (b .rules), K, H .terminals-are, H .kernels-held .states-are, W))
 
 same-length-9 : tie.Need-same-length-9
 same-length-9 c = search needs

@@ -10,15 +10,18 @@ use lib.Seq.{getD-set-same, getD-set-other}
 use borrow.Author.Count.{below-more}
 use Rattle.grammar.specs.Limits.{MAX-RULES, MAX-DEFINITIONS}
 use Rattle.grammar.specs.Data.Book.{SynthesizedDefinition, Book}
-use Rattle.grammar.specs.Format.Ordered.{Before, Ascends, ascends-∷, synthesizedKey, Ordered}
+use Rattle.grammar.specs.Format.Ordered.{Before, before-less, before-same, Ascends, ascends-∷, synthesizedKey, Ordered}
 use Rattle.grammar.specs.Format.OrderLaws.{before-first, ascends-above}
 use Rattle.grammar.specs.Conditions.Meaning.{WithinLimits, Declared}
 use Rattle.grammar.specs.Data.ListLaws.{at-member}
 use Rattle.book.specs.Held.{DefinitionsIn, synthesizedAt}
 
--- the rule of a definition, by its line
+-- the rule and the attribute of a definition, by its line
 abbrev pub ruleWord : List ℕ → ℕ → ℕ
 ruleWord definitions i = getD definitions (49 * i) 0
+
+abbrev pub attributeWord : List ℕ → ℕ → ℕ
+attributeWord definitions i = getD definitions (49 * i + 2) 0
 
 -- of the lines from `from` up to `to`, those of rules below P stand before `at`, all others from it on
 pub record Cut (definitions : List ℕ) (from to P at : ℕ) : Type 0 where
@@ -32,6 +35,16 @@ pub record FirstsIn (b : Book) (definitions firsts : List ℕ) : Type 0 where
   pub long : length firsts ≡ MAX-RULES + 1
   pub cut : (P : ℕ) → P ≤ length (b .rules)
       → Cut definitions (length (b .inheritedDefinitions)) (length (b .inheritedDefinitions) + length (b .synthesizedDefinitions)) P (getD firsts P 0)
+
+-- the lines of rule P, one after the other, and how many they are
+pub record RuleLines (definitions firsts : List ℕ) (P : ℕ) : Type 0 where
+  pub there : P + 1 < length firsts
+  pub ascend : getD firsts P 0 ≤ getD firsts (P + 1) 0
+  pub low : getD firsts (P + 1) 0 ≤ MAX-DEFINITIONS
+  pub inside : 49 * getD firsts (P + 1) 0 ≤ length definitions
+
+abbrev pub lineCount : List ℕ → ℕ → ℕ
+lineCount firsts P = getD firsts (P + 1) 0 - getD firsts P 0
 
 -- the definitions of a book: the synthesized attributes' lines are those from `from` up to `to`
 pub record LinesIn (b : Book) (definitions : List ℕ) (from to rules : ℕ) : Type 0 where
@@ -132,18 +145,33 @@ module _ {definitions firsts : List ℕ} {from to rules at p : ℕ} (W : Sorted 
 
 -- ---- of a book
 
-key-rule : (x y : SynthesizedDefinition) → Before (synthesizedKey x) (synthesizedKey y) → x .rule ≤ y .rule
-unfolding synthesizedKey
-key-rule x y l = before-first l
+keys-ascend : {last : List ℕ} (ds : List SynthesizedDefinition) → Ascends synthesizedKey last ds → (i j : ℕ) → i < j → j < length ds
+    → Before (synthesizedKey (synthesizedAt ds i)) (synthesizedKey (synthesizedAt ds j))
+keys-ascend [] a i j h l = absurd (omega arith)
+keys-ascend (d ∷ ds) a i zero h l = absurd (omega arith)
+keys-ascend (d ∷ ds) (ascends-∷ b a) zero (suc j) h l = ascends-above a (at-member ds j _ (omega arith))
+keys-ascend (d ∷ ds) (ascends-∷ b a) (suc i) (suc j) h l = keys-ascend ds a i j (omega arith) (omega arith)
 
-rules-ascend : {last : List ℕ} (ds : List SynthesizedDefinition) → Ascends synthesizedKey last ds → (i j : ℕ) → i ≤ j → j < length ds
-    → synthesizedAt ds i .rule ≤ synthesizedAt ds j .rule
-rules-ascend [] a i j h l = absurd (omega arith)
-rules-ascend (d ∷ ds) (ascends-∷ b a) zero zero h l = omega arith
-rules-ascend (d ∷ ds) (ascends-∷ b a) zero (suc j) h l =
-    key-rule d (synthesizedAt ds j) (ascends-above a (at-member ds j _ (omega arith)))
-rules-ascend (d ∷ ds) (ascends-∷ b a) (suc i) zero h l = absurd (omega arith)
-rules-ascend (d ∷ ds) (ascends-∷ b a) (suc i) (suc j) h l = rules-ascend ds a i j (omega arith) (omega arith)
+module _ {last : List ℕ} (ds : List SynthesizedDefinition) (a : Ascends synthesizedKey last ds) where
+  rules-ascend : (i j : ℕ) → i ≤ j → j < length ds → synthesizedAt ds i .rule ≤ synthesizedAt ds j .rule
+  unfolding synthesizedKey
+  rules-ascend i j h l = by (decLt i j)
+    where
+      by : Dec (i < j) → synthesizedAt ds i .rule ≤ synthesizedAt ds j .rule
+      by (yes m) = before-first (keys-ascend ds a i j m l)
+      by (no m) =
+          let e : i ≡ j = omega arith in
+          rw e (omega arith)
+
+  -- the attributes of one rule's definitions
+  pub attributes-ascend : (i j : ℕ) → i < j → j < length ds → synthesizedAt ds i .rule ≡ synthesizedAt ds j .rule
+      → synthesizedAt ds i .attribute < synthesizedAt ds j .attribute
+  unfolding synthesizedKey
+  attributes-ascend i j h l e = second (keys-ascend ds a i j h l) e
+    where
+      second : {x y k m : ℕ} → Before (x ∷ k ∷ []) (y ∷ m ∷ []) → x ≡ y → k < m
+      second (before-less p) e = absurd (omega arith)
+      second (before-same (before-less p)) e = p
 
 module _ {b : Book} {definitions : List ℕ} {from to rules : ℕ} (L : LinesIn b definitions from to rules) where
   pub lines-sorted : Sorted definitions from to

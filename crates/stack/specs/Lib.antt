@@ -1,12 +1,14 @@
 pub mod Action
 pub mod Firsts
 pub mod Goes
+pub mod LeftLines
 pub mod LeftMove
 pub mod Lists
 pub mod NodeValues
 pub mod Page
 pub mod Path
 pub mod Pushes
+pub mod PutValues
 pub mod Records
 pub mod Reductions
 pub mod Standing

@@ -176,6 +176,35 @@ numbers-few (o ∷ owners) (suc n) A f h =
     by true ih s = omega arith
     by false ih s = omega arith
 
+-- more below a greater number
+numbers-grow : (owners : List ℕ) (A m n : ℕ) → m ≤ n → length (numbersBelow owners m A) ≤ length (numbersBelow owners n A)
+unfolding ownedBelow
+numbers-grow owners A m zero h =
+    let e : m ≡ 0 = omega arith in
+    rw e (omega arith)
+numbers-grow owners A m (suc n) h = by (ℕ-discrete m (suc n)) (numbers-grow owners A m n)
+  where
+    by : Dec (m ≡ suc n) → (m ≤ n → length (numbersBelow owners m A) ≤ length (numbersBelow owners n A))
+        → length (numbersBelow owners m A) ≤ length (numbersBelow owners (suc n) A)
+    by (yes e) ih = rw e (omega arith)
+    by (no d) ih = omega (arith, ih (omega arith), length-append (numbersBelow owners n A) (elim (eqb (ownerAt owners n) A) [ true ↦ n ∷ [] | false ↦ [] ]))
+
+-- n numbers of A that ascend are among those
+pub ascending-few : (owners : List ℕ) (A : ℕ) (number : ℕ → ℕ) (n m : ℕ) → ((i : ℕ) → i < n → (number i < m) × (ownerAt owners (number i) ≡ A))
+    → ((i j : ℕ) → i < j → j < n → number i < number j) → n ≤ length (numbersBelow owners m A)
+ascending-few owners A number zero m owns ascend = omega arith
+ascending-few owners A number (suc n) m owns ascend =
+    let (low, own) = owns n (omega arith) in
+    let below : n ≤ length (numbersBelow owners (number n) A) =
+    ascending-few owners A number n (number n) (λ i l. (ascend i n l (omega arith), owns i (omega arith) .1)) (λ i j l h. ascend i j l (omega arith)) in
+    omega (
+      arith,
+      below,
+      ap (length {A = ℕ}) (numbers-is owners A (number n) own),
+      length-append (numbersBelow owners (number n) A) (number n ∷ []),
+      numbers-grow owners A (number n + 1) m (omega arith),
+    )
+
 -- ---- the values of a row
 
 owned-map : (owners : List ℕ) (n A : ℕ) (f : Values) → ownedBelow owners n A f ≡ map f (numbersBelow owners n A)

@@ -1,6 +1,6 @@
 -- The synthesized values of a rule's left side, in a record that is not yet on the stack: a token's word, which is 0, and a word for each attribute.
 -- The rule's definitions are gone through, line by line. Assumes nothing.
-use Prim.Native.Nat.{ℕ, _+_, _*_, _-_, _≤_, _<_}
+use Prim.Native.Nat.{ℕ, _+_, _-_, _≤_, _<_}
 use mathlib.Core.Path.{_≡_, sym, ap, _∙_}
 use mathlib.Core.Logic.{_⊎_, inl, inr}
 use mathlib.Core.List.{List, List·Memᴰ as Mem}
@@ -8,23 +8,24 @@ use native.Mathlib.Omega.{arith}
 use native.Mathlib.Decide.{ℕ-discrete, decLt}
 use lib.ListN.{length, getD, set, replicate, length-set, length-replicate, getD-replicate}
 use lib.Seq.{getD-set-same, getD-set-other}
-use Rattle.grammar.specs.Data.Symbol.{rightOf}
+use Rattle.grammar.specs.Data.Symbol.{leftOf, rightOf}
 use Rattle.grammar.specs.Data.Term.{eval}
-use Rattle.grammar.specs.Data.Book.{Expr, SynthesizedDefinition, Book, synthesizedExpr}
+use Rattle.grammar.specs.Data.Book.{Expr, SynthesizedDefinition, Book, synthesizedOwner, synthesizedExpr}
 use Rattle.grammar.specs.Data.DefinitionLaws.{synthesized-by}
 use Rattle.grammar.specs.Format.Ordered.{Ordered}
-use Rattle.grammar.specs.Conditions.Meaning.{WithinLimits, Declared, SynthesizedOf}
+use Rattle.grammar.specs.Conditions.Meaning.{WithinLimits, Declared, Owned, SynthesizedOf}
 use Rattle.grammar.specs.Data.ListLaws.{at-member, member-at}
 use Rattle.book.specs.Held.{DefinitionsIn, synthesizedAt, noSynthesized}
 use Rattle.cells.specs.Values.{placeIn, Asked}
 use Rattle.cells.specs.DefinitionsAsked.{synthesized-asked, synthesized-expression}
-use Rattle.stack.specs.Firsts.{ruleWord, Cut, FirstsIn}
+use Rattle.stack.specs.Firsts.{ruleWord, attributeWord, Cut, FirstsIn, RuleLines}
 
 -- a book's definitions, where those of each rule begin, and a rule with its size
 pub record NodeAsked (b : Book) (definitions firsts : List ℕ) (P size : ℕ) : Type 0 where
   pub ordered : Ordered b
   pub limits : WithinLimits b
   pub declared : Declared b
+  pub owned : Owned b
   pub definitions-in : DefinitionsIn (b .inheritedDefinitions) (b .synthesizedDefinitions) definitions
   pub firsts-in : FirstsIn b definitions firsts
   pub rule-there : P < length (b .rules)
@@ -36,7 +37,6 @@ leftValue b P base inherited synthesized K = eval (synthesizedExpr b P K) (place
 
 -- the record has all values
 pub record NodeValues (b : Book) (P base : ℕ) (inherited synthesized fresh : List ℕ) : Type 0 where
-  pub long : length fresh ≡ 33
   pub no-token : getD fresh 0 0 ≡ 0
   pub value-is : (K : ℕ) → K < 32 → getD fresh (1 + K) 0 ≡ leftValue b P base inherited synthesized K
 
@@ -59,12 +59,13 @@ pub record LineOf (b : Book) (definitions : List ℕ) (P size line : ℕ) : Type
   pub there : number < length (b .synthesizedDefinitions)
   pub line-is : line ≡ length (b .inheritedDefinitions) + number
   pub rule-is : synthesizedAt (b .synthesizedDefinitions) number .rule ≡ P
-  pub attribute-is : getD definitions (49 * line + 2) 0 ≡ synthesizedAt (b .synthesizedDefinitions) number .attribute
-  pub attribute-low : getD definitions (49 * line + 2) 0 < 32
+  pub attribute-is : attributeWord definitions line ≡ synthesizedAt (b .synthesizedDefinitions) number .attribute
+  pub attribute-low : attributeWord definitions line < 32
+  pub attribute-there : attributeWord definitions line < length (b .synthesizedOwners)
+  pub left-owns : synthesizedOwner b (attributeWord definitions line) ≡ leftOf (b .rules) P
   pub asked : Asked definitions line size (synthesizedAt (b .synthesizedDefinitions) number .expression)
-  pub expression-is : synthesizedExpr b P (getD definitions (49 * line + 2) 0) ≡ synthesizedAt (b .synthesizedDefinitions) number .expression
+  pub expression-is : synthesizedExpr b P (attributeWord definitions line) ≡ synthesizedAt (b .synthesizedDefinitions) number .expression
   pub low : line < 128
-  pub inside : 49 * line + 49 ≤ length definitions
 
 -- a line's place among the definitions
 module _ {b : Book} {definitions firsts : List ℕ} {P size : ℕ} (A : NodeAsked b definitions firsts P size) where
@@ -78,11 +79,19 @@ module _ {b : Book} {definitions firsts : List ℕ} {P size : ℕ} (A : NodeAske
   next : CutAt (P + 1)
   next = A .firsts-in .cut (P + 1) (omega (arith, A .rule-there))
 
-  pub last-within : (getD firsts (P + 1) 0 ≤ 128) × (P + 1 < length firsts)
-  last-within = (
-    omega (arith, next .within, A .definitions-in .fits),
-    omega (arith, A .firsts-in .long, A .rule-there, A .limits .rules-limit .high),
-  )
+  pub rule-lines : RuleLines definitions firsts P
+  rule-lines = record {
+    there = omega (arith, A .firsts-in .long, A .rule-there, A .limits .rules-limit .high);
+    ascend = by (decLt (getD firsts (P + 1) 0) (getD firsts P 0));
+    low = omega (arith, next .within, A .definitions-in .fits);
+    inside = omega (arith, next .within, A .definitions-in .long);
+  }
+    where
+      by : Dec (getD firsts (P + 1) 0 < getD firsts P 0) → getD firsts P 0 ≤ getD firsts (P + 1) 0
+      by (yes l) =
+          let line : ℕ = getD firsts (P + 1) 0 in
+          absurd (let z : ⊥ = omega (arith, here .lower line (next .above) l, next .upper line (omega arith) (omega (arith, here .within))) in z)
+      by (no g) = omega arith
 
   line-at : (line i : ℕ) → line ≡ length (b .inheritedDefinitions) + i → getD firsts P 0 ≤ line → line < getD firsts (P + 1) 0
       → LineOf b definitions P size line
@@ -97,7 +106,7 @@ module _ {b : Book} {definitions firsts : List ℕ} {P size : ℕ} (A : NodeAske
         here .upper line l (omega (arith, next .within)),
         next .lower line (omega arith) h,
       ) in
-      let attribute-is : getD definitions (49 * line + 2) 0 ≡ d .attribute = rw e (A .definitions-in .synthesized-is i there .attribute-is) in
+      let attribute-is : attributeWord definitions line ≡ d .attribute = rw e (A .definitions-in .synthesized-is i there .attribute-is) in
       let member : Mem d (b .synthesizedDefinitions) = at-member (b .synthesizedDefinitions) i _ there in
       let size-is : length (rightOf (b .rules) (d .rule)) ≡ size = rw rule-is (sym (A .size-is)) in
       record {
@@ -107,10 +116,11 @@ module _ {b : Book} {definitions firsts : List ℕ} {P size : ℕ} (A : NodeAske
         rule-is = rule-is;
         attribute-is = attribute-is;
         attribute-low = omega (arith, A .declared .synthesized-declared d member .attribute-there, A .limits .synthesized-limit);
+        attribute-there = omega (arith, A .declared .synthesized-declared d member .attribute-there);
+        left-owns = rw (attribute-is, ← rule-is) (A .owned .synthesized-owned d member .left-owns);
         asked = rw (e, ← size-is) (synthesized-asked (A .definitions-in) (A .limits) (A .declared) i there);
         expression-is = rw (attribute-is, ← rule-is) (synthesized-expression (A .ordered) i there);
         low = omega (arith, next .within, A .definitions-in .fits);
-        inside = omega (arith, next .within, A .definitions-in .long);
       }
 
   pub line-of : (line : ℕ) → getD firsts P 0 ≤ line → line < getD firsts (P + 1) 0 → LineOf b definitions P size line
@@ -129,7 +139,7 @@ module _ {b : Book} {definitions firsts : List ℕ} {P size : ℕ} (A : NodeAske
 
     -- the value of a line's definition in its word
     pub values-turn : {line k v : ℕ} {fresh : List ℕ} → LineOf b definitions P size line → ValuesBefore b P base inherited synthesized line fresh
-        → k ≡ getD definitions (49 * line + 2) 0
+        → k ≡ attributeWord definitions line
         → ((e : Expr) → Asked definitions line size e → v ≡ eval e (placeIn base inherited synthesized))
         → ValuesBefore b P base inherited synthesized (line + 1) (set fresh (1 + k) v)
     values-turn {line} {k} {v} {fresh} L W q value = record {
@@ -167,7 +177,7 @@ module _ {b : Book} {definitions firsts : List ℕ} {P size : ℕ} (A : NodeAske
     pub values-end : {line : ℕ} {fresh : List ℕ} → ValuesBefore b P base inherited synthesized line fresh → getD firsts (P + 1) 0 ≤ line
         → NodeValues b P base inherited synthesized fresh
     unfolding eval
-    values-end {line} {fresh} W h = record { long = W .long; no-token = W .no-token; value-is = λ K l. by K (W .known K l) }
+    values-end {line} {fresh} W h = record { no-token = W .no-token; value-is = λ K l. by K (W .known K l) }
       where
         -- a definition of P stands before the last of its lines
         before : (i : ℕ) → i < length (b .synthesizedDefinitions) → synthesizedAt (b .synthesizedDefinitions) i .rule ≡ P

@@ -1,13 +1,14 @@
 -- A record of 33 words that is put on the synthesized stack: a token's, or that of a rule's left side. Assumes nothing.
 use Prim.Native.Nat.{ℕ, _+_, _*_, _≤_, _<_}
-use mathlib.Core.Path.{_≡_, refl, sym, ap, _∙_}
+use mathlib.Core.Path.{_≡_, sym, ap, _∙_}
 use mathlib.Core.List.{List}
 use native.Mathlib.Omega.{arith}
-use native.Mathlib.Decide.{decLt}
+use native.Mathlib.Decide.{ℕ-discrete, decLt}
 use lib.ListN.{length, getD, set, replicate, length-set, getD-replicate}
 use lib.Seq.{getD-set-same, getD-set-other}
-use borrow.Author.Count.{below-more}
 use Rattle.grammar.specs.Evaluator.Decorated.{Values, token, values, synthesizedOf, tokenValueOf}
+use Rattle.cells.specs.Cells.{cleared}
+use Rattle.cells.specs.CellsLaws.{cleared-long, cleared-at, cleared-before}
 use Rattle.cells.specs.Frames.{recordValue, ResultIn}
 use Rattle.cells.specs.FramesLaws.{record-word, record-past, Agree}
 
@@ -17,21 +18,27 @@ pub record Stored (place : ℕ) (fresh old : List ℕ) (n : ℕ) (new : List ℕ
   pub before : Agree place old new
   pub word-is : (k : ℕ) → k < n → getD new (place + k) 0 ≡ getD fresh k 0
 
-module _ {place : ℕ} {fresh old : List ℕ} where
-  pub stored-none : Stored place fresh old 0 old
-  stored-none = record { long = refl; before = record { same-word = λ i h. refl }; word-is = λ k h. absurd (omega arith) }
+-- words that are cleared
+pub stored-cleared : (place n : ℕ) (old : List ℕ) → place + n ≤ length old → Stored place (replicate n 0) old n (cleared place n old)
+stored-cleared place n old room = record {
+  long = cleared-long place n old;
+  before = record { same-word = cleared-before place n old };
+  word-is = λ k h. cleared-at place n old k h room ∙ sym (getD-replicate {A = ℕ} n k 0 0 h);
+}
 
-  pub stored-more : {n : ℕ} {new : List ℕ} → Stored place fresh old n new → place + n < length old
-      → Stored place fresh old (n + 1) (set new (place + n) (getD fresh n 0))
-  stored-more {n} {new} S h =
-      let v : ℕ = getD fresh n 0 in
-      record {
-        long = length-set new (place + n) v ∙ S .long;
-        before = record { same-word = λ i l. getD-set-other new (place + n) i v 0 (λ e. omega arith) ∙ S .before .same-word i l };
-        word-is = below-more (λ k. getD (set new (place + n) v) (place + k) 0 ≡ getD fresh k 0) n
-            (λ k l. getD-set-other new (place + n) (place + k) v 0 (λ e. omega arith) ∙ S .word-is k l)
-            (getD-set-same new (place + n) v 0 (omega (arith, S .long)));
-      }
+-- a word of the record
+pub stored-set : {place n : ℕ} {fresh old new : List ℕ} → Stored place fresh old n new → (k v : ℕ) → k < n → k < length fresh → place + n ≤ length old
+    → Stored place (set fresh k v) old n (set new (place + k) v)
+stored-set {place} {n} {fresh} {old} {new} S k v low there room = record {
+  long = length-set new (place + k) v ∙ S .long;
+  before = record { same-word = λ i l. getD-set-other new (place + k) i v 0 (λ e. omega arith) ∙ S .before .same-word i l };
+  word-is = λ j l. by j l (ℕ-discrete j k);
+}
+  where
+    by : (j : ℕ) → j < n → Dec (j ≡ k) → getD (set new (place + k) v) (place + j) 0 ≡ getD (set fresh k v) j 0
+    by j l (yes e) = rw e (getD-set-same new (place + k) v 0 (omega (arith, S .long)) ∙ sym (getD-set-same fresh k v 0 there))
+    by j l (no d) =
+        getD-set-other new (place + k) (place + j) v 0 (λ e. d (omega arith)) ∙ S .word-is j l ∙ sym (getD-set-other fresh k j v 0 d)
 
 -- a record on the stack is what its words say
 module _ (n : ℕ) {fresh old new : List ℕ} (S : Stored (33 * n) fresh old 33 new) where

@@ -245,6 +245,7 @@ module _ {b : Book} {rules definitions table firsts down up : List ℕ} (B : Boo
             ordered = B .spelled .ordered;
             limits = B .sound .limits;
             declared = B .sound .names;
+            owned = B .sound .attributes;
             definitions-in = B .definitions-in;
             firsts-in = F .firsts-in;
             rule-there = x .there;

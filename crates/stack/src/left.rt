@@ -54,7 +54,7 @@ pub fn put_left(
     let owner = word(rules, place);
     let size = word(rules, place + 1);
     let below = top.depth - size;
-    let mut fresh = [0u32; 33];
+    let mut values = [0u32; 4];
     node_values(
         definitions,
         firsts,
@@ -63,7 +63,7 @@ pub fn put_left(
         top.depth,
         inherited,
         synthesized,
-        &mut fresh,
+        &mut values,
     );
     let start = start_of(starts, below, size, top.position as u32);
     let target = table[64 * word(states, below) + (32 + owner)] as u32;
@@ -74,7 +74,9 @@ pub fn put_left(
         size,
         owner,
         start,
-        &fresh,
+        definitions,
+        firsts,
+        &values,
         down,
         inherited,
         up,

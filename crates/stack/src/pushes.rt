@@ -1,9 +1,9 @@
 // A push: the state, the record, the start and the row of a symbol. The cell under it is set before.
-ghost use mathlib.Core.Path.{_≡_};
 ghost use Prim.Native.Nat.{_<_};
-ghost use lib.ListN.{length};
 ghost use Rattle.stack.specs.Pushes.{Stacks, TokenPushed, Reducing, NodePushed};
-use super::records::put_record;
+ghost use Rattle.stack.specs.PutValues.{Putting, leftRecord};
+use super::records::node_record;
+use super::records::token_record;
 use super::rows::node_row;
 use super::rows::token_row;
 use super::top::Top;
@@ -26,16 +26,14 @@ pub fn push_token(
 {
     let depth = top.depth;
     let position = top.position as u32;
-    let mut fresh = [0u32; 33];
-    fresh[0] = value;
-    put_record(synthesized, depth, &fresh);
+    token_record(synthesized, depth, value);
     states[depth + 1] = target;
     starts[depth] = position;
     token_row(rows, top.rows, kind, position, value);
     top.shifted()
 }
 
-// The left side of a rule, in the place of its `size` right symbols.
+// The left side of a rule with its synthesized values, in the place of its `size` right symbols.
 pub fn push_node(
     top: Top,
     target: u32,
@@ -43,7 +41,9 @@ pub fn push_node(
     size: usize,
     owner: usize,
     start: u32,
-    fresh: &[u32],
+    definitions: &[u32],
+    firsts: &[u32],
+    values: &[u32],
     down: &[u32],
     inherited: &[u32],
     up: &[u32],
@@ -52,14 +52,22 @@ pub fn push_node(
     starts: &mut [u32],
     rows: &mut [u32],
 ) -> Top
-    requires { ⌜ Stacks (now states) (now synthesized) (now starts) (now rows) × (length (now fresh) ≡ 33) ⌝ }
+    requires { ⌜ Stacks (now states) (now synthesized) (now starts) (now rows) × Putting (now definitions) (now firsts) (now values) rule ⌝ }
     requires { ⌜ Reducing top size owner (now down) (now inherited) (now up) (now synthesized) ⌝ }
-    ensures { λ r. ⌜ NodePushed top target rule size owner start (now (fresh .entry)) (now (down .entry)) (now (inherited .entry)) (now (up .entry))
+    ensures { λ r. ⌜ NodePushed top target rule size owner start (leftRecord (now (definitions .entry)) (now (firsts .entry)) (now (values .entry)) rule)
+        (now (down .entry)) (now (inherited .entry)) (now (up .entry))
         (now (states .entry)) (now (synthesized .entry)) (now (starts .entry)) (now (rows .entry))
         (now (states .exit)) (now (synthesized .exit)) (now (starts .exit)) (now (rows .exit)) r ⌝ }
 {
     let below = top.depth - size;
-    put_record(synthesized, below, fresh);
+    node_record(
+        definitions,
+        firsts,
+        rule as usize,
+        values,
+        synthesized,
+        below,
+    );
     states[below + 1] = target;
     starts[below] = start;
     node_row(

@@ -4,6 +4,7 @@ use mathlib.Core.Path.{_≡_, refl, ap}
 use native.Mathlib.Omega.{arith}
 use lib.ListN.{length, getD}
 use borrow.Author.Needs.{needs}
+use Rattle.stack.specs.LeftLines.{left-putting}
 use Rattle.stack.specs.LeftMove.{left-ready, left-deep, left-room, left-owner, left-state, left-state-there, left-asked, left-reducing, left-pushed}
 use Rattle.stack.proofs.left.put_left.Statement.{statement}
 use Rattle.stack.proofs.left.put_left.Tie as tie
@@ -116,12 +117,13 @@ slice-aggregate-push-node c = search needs
 
 push-node-requires : tie.Need-push-node-requires
 push-node-requires c κs =
-    let v = values-at (start-at (c .before .before .before .before .before .before)) in
-    let w = words-at v in
+    let b = start-at (c .before .before .before .before .before .before) in
+    let w = words-at (values-at b) in
     let A = start w .pre .1 .3 in
     let R = start w .pre .0 in
-    let values = v .node-values .ensures _ (left-asked A (w .word2 .ensures) (w .before .word .ensures)) in
-    ((R .0, values .long), left-reducing A (w .word2 .ensures) (w .before .word .ensures) (R .0) (R .1))
+    let long = b .before .before .before .values2 .given in
+    let putting = left-putting (left-asked A (w .word2 .ensures) (w .before .word .ensures)) long in
+    ((R .0, putting), left-reducing A (w .word2 .ensures) (w .before .word .ensures) (R .0) (R .1))
 
 same-length : tie.Need-same-length
 same-length c = search needs

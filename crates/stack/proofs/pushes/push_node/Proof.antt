@@ -8,8 +8,8 @@ use Rattle.stack.proofs.pushes.push_node.Tie as tie
 sub-below : tie.Need-sub-below
 sub-below c = search needs
 
-put-record-requires : tie.Need-put-record-requires
-put-record-requires c κs = search needs
+node-record-requires : tie.Need-node-record-requires
+node-record-requires c κs = search needs
 
 add-states : tie.Need-add-states
 add-states c = search needs
@@ -28,9 +28,10 @@ slice-write-starts c = search needs
 
 node-row-requires : tie.Need-node-row-requires
 node-row-requires c κs =
-    let s = c .before .before .before .before .before .before .before .before .before .before .before .before .before .before .before .pre in
+    let s = c .before .before .before .before .before .before .before .before .before .before .before .before .before .before .before .before .before .pre in
     let R = s .1 in
-    (s .0 .0 .rows-long, R .rows-low, omega (arith, R .low), R .down-in, gathers-same (c .before .before .before .before .put-record .ensures .long) (R .up-in))
+    let long = c .before .before .before .before .node-record .ensures .long in
+    (s .0 .0 .rows-long, R .rows-low, omega (arith, R .low), R .down-in, gathers-same long (R .up-in))
 
 reduced-requires : tie.Need-reduced-requires
 reduced-requires c κs = search needs
@@ -55,7 +56,7 @@ push-node-spec =
     tie.close
     (tie.spec
     sub-below
-    put-record-requires
+    node-record-requires
     add-states
     mul-states
     slice-write-states

@@ -1,94 +1,98 @@
--- `stack::records::node_values` meets its contract: the record has the values of the definitions before the line looked at. Assumes nothing.
-use Prim.Native.Nat.{_-_, _≤_}
-use mathlib.Core.List.{[]}
+-- `stack::records::node_values` meets its contract: the values of the lines before the one looked at are worked out. Assumes nothing.
+use Prim.Native.Nat.{_+_, _-_, _≤_, _<_}
+use mathlib.Core.Path.{_≡_, _∙_}
 use native.Mathlib.Omega.{arith}
-use lib.ListN.{getD}
+use lib.ListN.{length, getD, length-set}
+use Rattle.grammar.specs.Limits.{MAX-OWNED}
 use Rattle.grammar.specs.Data.Book.{Book}
-use Rattle.stack.specs.NodeValues.{NodeAsked, ValuesBefore, LineOf, last-within, line-of, values-none, values-turn, values-end}
+use Rattle.stack.specs.Firsts.{lineCount}
+use Rattle.stack.specs.LeftLines.{line-in, lines-few, LeftBefore, left-none, left-turn, left-end}
+use Rattle.stack.specs.NodeValues.{NodeAsked, LineOf, rule-lines}
 use Rattle.stack.proofs.records.node_values.Statement.{statement}
 use Rattle.stack.proofs.records.node_values.Tie as tie
 
 abbrev Inv-loop : tie.InvT-loop
-Inv-loop definitions firsts rule size height inherited synthesized fresh₀ last line₀ fresh line =
-    (getD firsts rule 0 ≤ line)
-    × ((b : Book) → NodeAsked b definitions firsts rule size → ValuesBefore b rule (height - size) inherited synthesized line fresh)
+Inv-loop definitions firsts rule size height inherited synthesized values₀ first count i₀ values i =
+    (i ≤ lineCount firsts rule) × (length values ≡ MAX-OWNED)
+    × ((b : Book) → NodeAsked b definitions firsts rule size → LeftBefore b rule (height - size) inherited synthesized definitions firsts values i)
 
 abbrev μ-loop : tie.MeasureT-loop
-μ-loop definitions firsts rule size height inherited synthesized fresh₀ last line₀ fresh line = last - line
+μ-loop definitions firsts rule size height inherited synthesized values₀ first count i₀ values i = count - i
 
-abbrev start : tie.After-word Inv-loop μ-loop → tie.Start Inv-loop μ-loop
-start c = c .before .before .before .before .before .before
+abbrev start : tie.After-word2 Inv-loop μ-loop → tie.Start Inv-loop μ-loop
+start c = c .before .before .before .before .before .before .before
 
-abbrev loop-start : tie.At-loop Inv-loop μ-loop → tie.Start Inv-loop μ-loop
-loop-start c = start (c .before .before)
-
--- a line of the loop is one of the rule's
+-- a turn looks at one of the rule's lines
 module _ (c : tie.In-loop Inv-loop μ-loop) where
+  abbrev words : tie.After-word2 Inv-loop μ-loop
+  words = c .before .before
+
   abbrev s : tie.Start Inv-loop μ-loop
-  s = loop-start (c .before)
+  s = start words
 
-  line-at : (b : Book) → NodeAsked b (s .args .definitions .now) (s .args .firsts .now) (s .args .rule) (s .args .size)
-      → LineOf b (s .args .definitions .now) (s .args .rule) (s .args .size) (c .before .loop .line)
-  line-at b A = line-of A (c .before .loop .line) (c .before .loop .inv .0) (omega (arith, c .before .before .before .word .ensures, c .loop-test .taken))
+  turn : c .before .loop .i < lineCount (s .args .firsts .now) (s .args .rule)
+  turn = omega (arith, c .loop-test .taken, words .word2 .ensures, words .before .word .ensures)
 
-  line-there : LineOf (s .pre .1 .0) (s .args .definitions .now) (s .args .rule) (s .args .size) (c .before .loop .line)
-  line-there = line-at (s .pre .1 .0) (s .pre .1 .1)
+  room : c .before .loop .i < 4
+  room = omega (arith, turn, lines-few (s .pre .1 .1))
 
-add-word : tie.Need-add-word Inv-loop μ-loop
-add-word c = omega (arith, last-within (c .before .before .before .before .before .pre .1 .1) .1)
+  line-is : words .before .word .result + c .before .loop .i ≡ getD (s .args .firsts .now) (s .args .rule) 0 + c .before .loop .i
+  line-is = omega (arith, words .before .word .ensures)
+
+  line-there : LineOf (s .pre .1 .0) (s .args .definitions .now) (s .args .rule) (s .args .size) (words .before .word .result + c .before .loop .i)
+  line-there = rw line-is (line-in (s .pre .1 .1) (c .before .loop .i) turn)
 
 word-requires : tie.Need-word-requires Inv-loop μ-loop
-word-requires c κs = last-within (c .before .before .before .before .before .pre .1 .1) .1
+word-requires c κs = omega (arith, rule-lines (c .before .before .before .before .before .pre .1 .1) .there)
+
+add-word : tie.Need-add-word Inv-loop μ-loop
+add-word c = omega (arith, rule-lines (c .before .before .before .before .before .before .pre .1 .1) .there)
 
 word-requires-2 : tie.Need-word-requires-2 Inv-loop μ-loop
-word-requires-2 c κs = omega (arith, last-within (start c .pre .1 .1) .1)
+word-requires-2 c κs = rule-lines (c .before .before .before .before .before .before .pre .1 .1) .there
+
+sub-count : tie.Need-sub-count Inv-loop μ-loop
+sub-count c = omega (arith, rule-lines (start c .pre .1 .1) .ascend, c .word2 .ensures, c .before .word .ensures)
 
 loop-holds : tie.Need-loop-holds Inv-loop μ-loop
-loop-holds c = (omega (arith, c .word2 .ensures), λ b A. rw (c .word2 .ensures) (values-none A (start (c .before) .pre .0 .3)))
+loop-holds c = (omega arith, start c .pre .0 .3, λ b A. left-none A _)
+
+add-value : tie.Need-add-value Inv-loop μ-loop
+add-value c = omega (arith, line-there c .low)
 
 value-requires : tie.Need-value-requires Inv-loop μ-loop
 value-requires c κs = let p = s c .pre in ((p .0 .0, p .0 .1, p .0 .2), (_, line-there c .asked))
 
-mul-word : tie.Need-mul-word Inv-loop μ-loop
-mul-word c = omega (arith, line-there (c .before) .low)
+mul-values : tie.Need-mul-values Inv-loop μ-loop
+mul-values c = omega (arith, room (c .before))
 
-add-word-2 : tie.Need-add-word-2 Inv-loop μ-loop
-add-word-2 c = omega (arith, line-there (c .before) .low)
+slice-write-values : tie.Need-slice-write-values Inv-loop μ-loop
+slice-write-values c = omega (arith, room (c .before), c .before .before .loop .inv .1)
 
-word-requires-3 : tie.Need-word-requires-3 Inv-loop μ-loop
-word-requires-3 c κs = omega (arith, line-there (c .before) .inside)
-
-add-fresh : tie.Need-add-fresh Inv-loop μ-loop
-add-fresh c = omega (arith, line-there (c .before .before) .attribute-low, c .word3 .ensures)
-
-mul-fresh : tie.Need-mul-fresh Inv-loop μ-loop
-mul-fresh c = omega (arith, line-there (c .before .before) .attribute-low, c .word3 .ensures)
-
-slice-write-fresh : tie.Need-slice-write-fresh Inv-loop μ-loop
-slice-write-fresh c =
-    let t = c .before .before in
-    omega (arith, line-there t .attribute-low, c .word3 .ensures, t .before .loop .inv .1 _ (s t .pre .1 .1) .long)
-
-add-line : tie.Need-add-line Inv-loop μ-loop
-add-line c = omega (arith, line-there (c .before .before) .low)
+add-i : tie.Need-add-i Inv-loop μ-loop
+add-i c = omega (arith, room (c .before))
 
 loop-less : tie.Need-loop-less Inv-loop μ-loop
-loop-less c = omega (arith, c .before .before .loop-test .taken)
+loop-less c = omega (arith, c .before .loop-test .taken)
 
 loop-again : tie.Need-loop-again Inv-loop μ-loop
 loop-again c =
-    let t = c .before .before in
-    let at = t .before .loop in
-    (omega (arith, at .inv .0), λ b A. values-turn A (line-at t b A) (at .inv .1 b A) (c .word3 .ensures) (c .before .value .ensures))
+    let t = c .before in
+    let at = t .before .loop in (
+      omega (arith, turn t),
+      length-set (at .values) (at .i) (c .value .result) ∙ at .inv .1,
+      λ b A. left-turn A (at .values) (turn t) (omega (arith, room t, at .inv .1)) (line-is t) (at .inv .2 b A) (c .value .ensures),
+    )
 
 same-length : tie.Need-same-length Inv-loop μ-loop
-same-length c =
-    let p = loop-start (c .before) .pre in
-    let none = values-none (p .1 .1) {base = 0} {inherited = []} {synthesized = []} (p .0 .3) in
-    omega (arith, c .before .loop .inv .1 _ (p .1 .1) .long, none .long)
+same-length c = omega (arith, c .before .loop .inv .1, start (c .before .before) .pre .0 .3)
 
 returns : tie.Need-returns Inv-loop μ-loop
-returns c = λ b A. values-end A (c .before .loop .inv .1 b A) (omega (arith, c .before .before .before .word .ensures, c .loop-test .left))
+returns c =
+    let w = c .before .before in
+    let end : c .before .loop .i ≡ lineCount (start w .args .firsts .now) (start w .args .rule) =
+    omega (arith, c .before .loop .inv .0, c .loop-test .left, w .word2 .ensures, w .before .word .ensures) in
+    λ b A. left-end A (c .before .loop .values) (rw end at (c .before .loop .inv .2 b A))
 
 pub node-values-spec : {M : Type 1} → statement M
 node-values-spec =
@@ -96,18 +100,16 @@ node-values-spec =
     (tie.spec
     Inv-loop
     μ-loop
-    add-word
     word-requires
+    add-word
     word-requires-2
+    sub-count
     loop-holds
+    add-value
     value-requires
-    mul-word
-    add-word-2
-    word-requires-3
-    add-fresh
-    mul-fresh
-    slice-write-fresh
-    add-line
+    mul-values
+    slice-write-values
+    add-i
     loop-less
     loop-again
     same-length

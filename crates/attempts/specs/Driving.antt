@@ -70,12 +70,12 @@ module _ {numbers : Book} {inherited synthesized rules definitions kernels goes 
       plans-none b refl (omega (arith, l, counted b (h .ready .numbers-are) .states-are)) (h .ready .conditions-met .limits .states-limit .high)
 
 -- the stacks as they are before the first move
-pub run-room : {records rows : List ℕ} → rows ≡ replicate PAGE-WORDS 0 → length records ≡ 4224
-    → Rooms (replicate 129 0) (replicate 2064 0) records (replicate 128 0) rows (replicate 576 0)
-run-room e l = record {
+pub run-room : {rows : List ℕ} → rows ≡ replicate PAGE-WORDS 0
+    → Rooms (replicate 129 0) (replicate 2064 0) (replicate 4224 0) (replicate 128 0) rows (replicate 576 0)
+run-room e = record {
   stacks = record {
     states-long = zeros 129;
-    synthesized-long = l;
+    synthesized-long = zeros 4224;
     starts-long = zeros 128;
     rows-long = ap length e ∙ zeros PAGE-WORDS;
   };

@@ -80,13 +80,20 @@ compiled-whole {complete = complete} {numbers = numbers} all c = go complete ref
     go true e = e
     go false e = absurd (c .left-out e (rw all (full-complete numbers)))
 
--- the first words of a longer slice
-
-pub formulas-room : (words : List ℕ) → length words ≡ BOOK-WORDS → length (take 7680 words) ≡ 7680
-formulas-room words e = length-take 7680 words ∙ omega (arith, e)
-
-pub records-room : (nodes : List ℕ) → length nodes ≡ 7680 → length (take 4224 nodes) ≡ 4224
-records-room nodes e = length-take 4224 nodes ∙ omega (arith, e)
+-- the first of the words that are lent serve as the array of definitions
+pub words-lent : {room : Room} {definitions kernels goes closures table : List ℕ} (words : List ℕ) → length words ≡ BOOK-WORDS
+    → ArraysLent room definitions kernels goes closures table → ArraysLent room (take (49 * room .definitions) words) kernels goes closures table
+words-lent {room} words e lent = record {
+  definitions-long = length-take (49 * room .definitions) words ∙ omega (arith, e, lent .definitions-few);
+  kernels-long = lent .kernels-long;
+  goes-long = lent .goes-long;
+  closures-none = lent .closures-none;
+  table-long = lent .table-long;
+  definitions-few = lent .definitions-few;
+  kernels-few = lent .kernels-few;
+  goes-few = lent .goes-few;
+  states-few = lent .states-few;
+}
 
 module _ {room : Room} {definitions kernels goes closures table : List ℕ} (lent : ArraysLent room definitions kernels goes closures table) where
   pub lines-room : Roomy room (arrays (replicate 16 0) (replicate 32 0) (replicate 640 0) definitions kernels goes)

@@ -52,7 +52,7 @@ fn asked(tokens: &[u32], terminals: u32, lent: usize) -> u32
     0
 }
 
-// Runs the machine over a book that is taken and the tokens of a message. `lists` and `records` are room, whatever they hold.
+// Runs the machine over a book that is taken and the tokens of a message. `lists` is room, whatever it holds.
 fn message(
     book: Book,
     inherited: &[u32],
@@ -69,14 +69,12 @@ fn message(
     table: &[u8],
     actions: &[u8],
     lists: &mut [u8],
-    records: &mut [u32],
     tokens: &[u32],
     rows: &mut [u32],
 ) -> Outcome
     requires { ⌜ Some (TakenBook book (now inherited) (now synthesized) (now rules) (now definitions) (now kernels) (now goes) (now vanishes) (now begins)
         (now reached) (now starts) (now lookaheads) (now table) (now actions)) ⌝ }
-    requires { ⌜ Message (book .terminals) (now tokens) × (now rows ≡ replicate PAGE-WORDS 0) × (512 * book .states ≤ length (now lists))
-        × (length (now records) ≡ 4224) ⌝ }
+    requires { ⌜ Message (book .terminals) (now tokens) × (now rows ≡ replicate PAGE-WORDS 0) × (512 * book .states ≤ length (now lists)) ⌝ }
     ensures { λ r. ⌜ ((b : Lines) → TakenBook book (now (inherited .entry)) (now (synthesized .entry)) (now (rules .entry)) (now (definitions .entry))
         (now (kernels .entry)) (now (goes .entry)) (now (vanishes .entry)) (now (begins .entry)) (now (reached .entry)) (now (starts .entry))
         (now (lookaheads .entry)) (now (table .entry)) (now (actions .entry)) b
@@ -111,6 +109,7 @@ fn message(
     );
     let mut states = [0u32; 129];
     let mut cells = [0u32; 2064];
+    let mut records = [0u32; 4224];
     let mut bounds = [0u32; 128];
     run(
         rules,
@@ -134,7 +133,7 @@ fn message(
         lists,
         &mut states,
         &mut cells,
-        records,
+        &mut records,
         &mut bounds,
         rows,
     )
@@ -147,7 +146,7 @@ pub struct Answer {
 }
 
 // What is answered of a text that was read into arrays: `complete` where they have room for it, and then the number; where that is 0, the rows and their
-// count are in place. `text` and `nodes` are room.
+// count are in place. `text` is room.
 fn respond(
     compiled: Compiled,
     inherited: &[u32],
@@ -164,14 +163,13 @@ fn respond(
     table: &[u8],
     actions: &[u8],
     text: &mut [u8],
-    nodes: &mut [u32],
     tokens: &[u32],
     rows: &mut [u32],
     count: &mut u32,
 ) -> Answer
     requires { ⌜ ((room : Room) × (n : ℕ) × Read room n (now text) (compiled .complete) (compiled .refusal) (compiled .book) (now inherited) (now synthesized)
         (now rules) (now definitions) (now kernels) (now goes) (now vanishes) (now begins) (now reached) (now starts) (now lookaheads) (now table)
-        (now actions)) × (length (now nodes) ≡ 7680) ⌝ }
+        (now actions)) ⌝ }
     ensures { λ r. ⌜ ((room : Room) (n : ℕ) → Read room n (now (text .entry)) (compiled .complete) (compiled .refusal) (compiled .book)
         (now (inherited .entry)) (now (synthesized .entry)) (now (rules .entry)) (now (definitions .entry)) (now (kernels .entry)) (now (goes .entry))
         (now (vanishes .entry)) (now (begins .entry)) (now (reached .entry)) (now (starts .entry)) (now (lookaheads .entry)) (now (table .entry))
@@ -216,7 +214,6 @@ fn respond(
         table,
         actions,
         text,
-        &mut nodes[..4224],
         tokens,
         rows,
     );
@@ -256,7 +253,6 @@ pub fn attempt(
     let mut reached = [0u32; 576];
     let mut starts = [0u32; 129];
     let mut actions = [0u8; 4096];
-    let mut nodes = [0u32; 7680];
     let compiled = compile(
         &t,
         &text[..n],
@@ -275,7 +271,6 @@ pub fn attempt(
         lookaheads,
         table,
         &mut actions,
-        &mut nodes,
     );
     respond(
         compiled,
@@ -293,7 +288,6 @@ pub fn attempt(
         table,
         &actions,
         text,
-        &mut nodes,
         tokens,
         rows,
         count,

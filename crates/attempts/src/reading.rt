@@ -1,7 +1,7 @@
 // A text by arrays of a room.
 ghost use mathlib.Core.Path.{_≡_};
-ghost use Prim.Native.Nat.{_≤_};
-ghost use lib.ListN.{length};
+ghost use Prim.Native.Nat.{_*_, _≤_};
+ghost use lib.ListN.{length, take};
 ghost use Rattle.grammar.specs.Limits.{MAX-TEXT, BOOK-WORDS};
 ghost use Rattle.definitions.specs.Expressions.{WaitsRoom};
 ghost use Rattle.attempts.specs.Rooms.{ArraysLent};
@@ -16,12 +16,11 @@ pub struct Answer {
     pub refusal: u32,
 }
 
-// The first of 2 to 10 that applies to a text, or 0, by arrays of the caller. What they hold is not looked at again; the words are room.
+// The first of 2 to 10 that applies to a text, or 0, by arrays of the caller. What they hold is not looked at again; the words have room for definitions.
 pub fn attempt(
     text: &[u8],
     waits: &mut [u8],
     room: Room,
-    definitions: &mut [u32],
     kernels: &mut [u32],
     goes: &mut [u32],
     lookaheads: &mut [u32],
@@ -29,10 +28,11 @@ pub fn attempt(
     words: &mut [u32],
 ) -> Answer
     requires { ⌜ (length (now text) ≤ MAX-TEXT) × (length (now words) ≡ BOOK-WORDS)
-        × WaitsRoom (now text) (now waits) × ArraysLent room (now definitions) (now kernels) (now goes) (now lookaheads) (now table) ⌝ }
+        × WaitsRoom (now text) (now waits) × ArraysLent room (take (49 * room .definitions) (now words)) (now kernels) (now goes) (now lookaheads) (now table) ⌝ }
     ensures { λ r. ⌜ Attempted room (now (text .entry)) (r .complete) (r .refusal) ⌝ }
 {
     let t = classes();
+    let size = 49 * room.definitions;
     let mut inherited = [0u32; 16];
     let mut synthesized = [0u32; 32];
     let mut rules = [0u32; 640];
@@ -49,7 +49,7 @@ pub fn attempt(
         &mut inherited,
         &mut synthesized,
         &mut rules,
-        definitions,
+        &mut words[..size],
         kernels,
         goes,
         &mut vanishes,
@@ -59,7 +59,6 @@ pub fn attempt(
         lookaheads,
         table,
         &mut cells,
-        &mut words[..7680],
     );
     Answer {
         complete: compiled.complete,

@@ -2,7 +2,7 @@
 use mathlib.Core.Path.{sym, _∙_}
 use native.Mathlib.Omega.{arith}
 use lib.ListN.{length-take}
-use Rattle.attempts.specs.Rooms.{zeros, lines-room, tables-lent}
+use Rattle.attempts.specs.Rooms.{lines-room, tables-lent}
 use borrow.Author.Needs.{needs}
 use Rattle.attempts.proofs.evaluating.attempt.Statement.{statement}
 use Rattle.attempts.proofs.evaluating.attempt.Tie as tie
@@ -12,16 +12,16 @@ use Rattle.attempts.proofs.evaluating.attempt.Tie as tie
 abbrev start : tie.After-compile → tie.Start
 start c =
     c .before .before .before .before .before .before .before .before .before .before .before .before .before .before .before
-    .before .before .before .before .before .before .before .before .before .before .before .before .before
+    .before .before .before .before .before .before .before .before .before .before .before .before
 
 abbrev compiled-at : tie.After-respond-arg8 → tie.After-compile
 compiled-at c =
     c .before .before .before .before .before .before .before .before .before .before .before .before .before .before .before
     .before .before .before .before .before .before .before .before .before .before .before .before .before .before .before
-    .before .before .before .before .before .before .before .before
+    .before .before .before .before .before .before
 
 abbrev responded-at : tie.After-slice-known16 → tie.After-respond
-responded-at c = c .before .before .before .before .before
+responded-at c = c .before .before .before .before
 
 abbrev compile-at : tie.After-slice-known16 → tie.After-compile
 compile-at c = compiled-at (responded-at c .before)
@@ -60,23 +60,20 @@ slice-aggregate-compile-8 c = search needs
 slice-aggregate-compile-9 : tie.Need-slice-aggregate-compile-9
 slice-aggregate-compile-9 c = search needs
 
-slice-aggregate-compile-10 : tie.Need-slice-aggregate-compile-10
-slice-aggregate-compile-10 c = search needs
-
 compile-requires : tie.Need-compile-requires
 compile-requires c κs = let s = c .before .before .before .before .before .before .before .before .before .before .before .before .before .before .before
-    .before .before .before .before .before .before .before .before .before .before .before .before in
+    .before .before .before .before .before .before .before .before .before .before .before in
     let cut = length-take (s .args .n) (s .args .text .now) in (
       (
         record {
           table-is = c .before .before .before .before .before .before .before .before .before .before .before .before .before .before .before
-              .before .before .classes .ensures;
+              .before .classes .ensures;
           short = omega (arith, cut, s .pre .0 .1 .within);
         },
         omega (arith, cut, s .pre .2),
         lines-room (s .pre .3),
       ),
-      (tables-lent (s .pre .3), zeros 7680),
+      tables-lent (s .pre .3),
     )
 
 slice-aggregate-respond : tie.Need-slice-aggregate-respond
@@ -103,24 +100,18 @@ slice-aggregate-respond-7 c = search needs
 slice-aggregate-respond-8 : tie.Need-slice-aggregate-respond-8
 slice-aggregate-respond-8 c = search needs
 
-slice-aggregate-respond-9 : tie.Need-slice-aggregate-respond-9
-slice-aggregate-respond-9 c = search needs
-
 respond-requires : tie.Need-respond-requires
 respond-requires c κs = let k = compiled-at c in
     let s = start k in (
-      (
-        s .args .room,
-        s .args .n,
-        record {
-          words = s .pre .0 .0;
-          found = s .pre .0 .1;
-          states-few = s .pre .3 .states-few;
-          plans-room = s .pre .1;
-          compiles = k .compile .ensures;
-        },
-      ),
-      k .compile .kept .1 .1 .1 .1 .1 .1 .1 .1 .1 .1 .1 .1 .1 .1 .1 .1 .1 .0,
+      s .args .room,
+      s .args .n,
+      record {
+        words = s .pre .0 .0;
+        found = s .pre .0 .1;
+        states-few = s .pre .3 .states-few;
+        plans-room = s .pre .1;
+        compiles = k .compile .ensures;
+      },
     )
 
 same-length : tie.Need-same-length
@@ -145,7 +136,7 @@ same-length-7 : tie.Need-same-length-7
 same-length-7 c = compile-at c .compile .kept .1 .1 .1 .1 .1 .1 .1 .1 .1 .1 .1 .1 .1 .1 .1 .0
 
 same-length-8 : tie.Need-same-length-8
-same-length-8 c = responded-at c .respond .kept .1 .1 .1 .1 .1 .1 .1 .1 .1 .1 .1 .1 .1 .1 .1 .1 .1 .0
+same-length-8 c = responded-at c .respond .kept .1 .1 .1 .1 .1 .1 .1 .1 .1 .1 .1 .1 .1 .1 .1 .1 .0
 
 returns : tie.Need-returns
 returns c = let k = compile-at c in
@@ -173,7 +164,6 @@ attempt-spec =
     slice-aggregate-compile-7
     slice-aggregate-compile-8
     slice-aggregate-compile-9
-    slice-aggregate-compile-10
     compile-requires
     slice-aggregate-respond
     slice-aggregate-respond-2
@@ -183,7 +173,6 @@ attempt-spec =
     slice-aggregate-respond-6
     slice-aggregate-respond-7
     slice-aggregate-respond-8
-    slice-aggregate-respond-9
     respond-requires
     same-length
     same-length-2

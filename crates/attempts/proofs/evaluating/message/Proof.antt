@@ -11,12 +11,12 @@ use Rattle.attempts.proofs.evaluating.message.Tie as tie
 abbrev sides-start : tie.After-up → tie.Start
 sides-start c =
     c .before .before .before .before .before .before .before .before .before .before .before
-    .before .before .before .before .before .before .before .before .before .before
+    .before .before .before .before .before .before .before .before .before
 
 abbrev sides-at : tie.After-counts → tie.After-fill-sides
 sides-at c = c .before .before .before .before .before .before .before
 
-abbrev planned-at : tie.After-run-arg3 → tie.After-plan-idle
+abbrev planned-at : tie.After-run-arg2 → tie.After-plan-idle
 planned-at c = c .before .before .before .before .before .before .before .before .before .before .before .before .before
 
 slice-aggregate-fill-sides : tie.Need-slice-aggregate-fill-sides
@@ -76,6 +76,9 @@ slice-aggregate-run-8 c = search needs
 slice-aggregate-run-9 : tie.Need-slice-aggregate-run-9
 slice-aggregate-run-9 c = search needs
 
+slice-aggregate-run-10 : tie.Need-slice-aggregate-run-10
+slice-aggregate-run-10 c = search needs
+
 run-requires : tie.Need-run-requires
 run-requires c κs = let p = planned-at c in
     let o = sides-at (p .before) in
@@ -83,7 +86,7 @@ run-requires c κs = let p = planned-at c in
     let (b, t) = s .pre .0 in
     let m = s .pre .1 .0 in
     let sides = o .fill-sides .ensures b (asked-sides (t .ready)) in (
-      (run-room (s .pre .1 .1) (s .pre .1 .3), s .pre .1 .1),
+      (run-room (s .pre .1 .1), s .pre .1 .1),
       (b, m .list, run-in t sides (m .tokens-are), tokens-of t m, p .plan-idle .ensures b _ (states-held t sides) (plans-of t (s .pre .1 .2))),
     )
 
@@ -93,11 +96,8 @@ same-length c = search needs
 same-length-2 : tie.Need-same-length-2
 same-length-2 c = search needs
 
-same-length-3 : tie.Need-same-length-3
-same-length-3 c = search needs
-
 returns : tie.Need-returns
-returns c = λ b t m. let k = c .before .before .before .before .before .before .before .before .before .before .before in
+returns c = λ b t m. let k = c .before .before .before .before .before .before .before .before .before .before in
     let p = planned-at (k .before) in
     let o = sides-at (p .before) in
     let sides = o .fill-sides .ensures b (asked-sides (t .ready)) in
@@ -126,8 +126,8 @@ message-spec =
     slice-aggregate-run-7
     slice-aggregate-run-8
     slice-aggregate-run-9
+    slice-aggregate-run-10
     run-requires
     same-length
     same-length-2
-    same-length-3
     returns)

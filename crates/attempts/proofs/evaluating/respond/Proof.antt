@@ -1,8 +1,7 @@
 -- `evaluating::respond` meets its contract: the book is asked first, then the message; then the machine runs. Assumes nothing.
-use mathlib.Core.Path.{sym, ap, _∙_}
+use mathlib.Core.Path.{ap, _∙_}
 use lib.ListN.{replicate}
 use borrow.Author.Tests.{not-true, not-false}
-use Rattle.attempts.specs.Rooms.{records-room}
 use Rattle.attempts.specs.Attempts.{book-taken, plans-fit, attempts-part, attempts-none, attempts-asked, attempts-run}
 use borrow.Author.Needs.{needs}
 use Rattle.attempts.proofs.evaluating.respond.Statement.{statement}
@@ -13,7 +12,7 @@ use Rattle.attempts.proofs.evaluating.respond.Tie as tie
 abbrev start : tie.Else1 → tie.Start
 start c =
     c .before .before .before .before .before .before .before .before .before .before
-    .before .before .before .before .before .before .before .before .before
+    .before .before .before .before .before .before .before .before
 
 abbrev whole-at : tie.Else2 → tie.Else1
 whole-at c = c .before .before
@@ -24,8 +23,8 @@ taken-at c = c .before .before
 abbrev passed-at : tie.After-clear → tie.Else3
 passed-at c = c .before .before
 
-abbrev clear-at : tie.After-message-arg3 → tie.After-clear
-clear-at c = c .before .before .before .before .before
+abbrev clear-at : tie.After-message-arg2 → tie.After-clear
+clear-at c = c .before .before .before .before
 
 returns : tie.Need-returns
 returns c = λ room n R. attempts-part R (not-true _ (c .if1 .taken))
@@ -45,14 +44,6 @@ returns-3 c = λ room n R.
 clear-requires : tie.Need-clear-requires
 clear-requires c κs = search needs
 
-slice-relend-prefix-message : tie.Need-slice-relend-prefix-message
-slice-relend-prefix-message c = search needs
-
-slice-aggregate-message : tie.Need-slice-aggregate-message
-slice-aggregate-message c =
-    let s = start (whole-at (taken-at (passed-at (c .before .before .before .before) .before))) in
-    sym (records-room (s .args .nodes .now) (s .pre .1))
-
 message-requires : tie.Need-message-requires
 message-requires c κs =
     let k = clear-at c in
@@ -60,15 +51,13 @@ message-requires c κs =
     let a = p .before in
     let e = taken-at a in
     let w = whole-at e in
-    let s = start w in
-    let (room, n, R) = s .pre .0 in
+    let (room, n, R) = start w .pre in
     let whole = not-false _ (w .if1 .left) in (
       book-taken R whole (e .if2 .left),
       (
         a .asked .ensures .passed (p .if3 .left),
         k .clear .ensures ∙ ap (λ n. replicate n 0) (a .asked .ensures .all-rows (p .if3 .left)),
         plans-fit R whole (e .if2 .left),
-        records-room (s .args .nodes .now) (s .pre .1),
       ),
     )
 
@@ -78,12 +67,9 @@ same-length c = search needs
 same-length-2 : tie.Need-same-length-2
 same-length-2 c = search needs
 
-same-length-3 : tie.Need-same-length-3
-same-length-3 c = search needs
-
 returns-4 : tie.Need-returns-4
 returns-4 c = λ room n R.
-    let m = c .before .before .before .before .before .before in
+    let m = c .before .before .before .before in
     let p = passed-at (clear-at (m .before)) in
     let a = p .before in
     let e = taken-at a in
@@ -98,10 +84,7 @@ respond-spec =
     asked-requires
     returns-3
     clear-requires
-    slice-relend-prefix-message
-    slice-aggregate-message
     message-requires
     same-length
     same-length-2
-    same-length-3
     returns-4)

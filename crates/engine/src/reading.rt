@@ -27,7 +27,6 @@ fn tiny(text: &[u8], words: &mut [u32]) -> Answer
     ensures { λ r. ⌜ (r .complete ≡ true → r .refusal ≡ refusal (now (text .entry))) ⌝ }
 {
     let mut waits = [0u8; 205];
-    let mut definitions = [0u32; 784];
     let mut kernels = [0u32; 80];
     let mut goes = [0u32; 48];
     let mut lookaheads = [0u32; 256];
@@ -36,7 +35,6 @@ fn tiny(text: &[u8], words: &mut [u32]) -> Answer
         text,
         &mut waits,
         tiny_room(),
-        &mut definitions,
         &mut kernels,
         &mut goes,
         &mut lookaheads,
@@ -51,7 +49,6 @@ fn short(text: &[u8], words: &mut [u32]) -> Answer
     ensures { λ r. ⌜ (r .complete ≡ true → r .refusal ≡ refusal (now (text .entry))) ⌝ }
 {
     let mut waits = [0u8; 820];
-    let mut definitions = [0u32; 2352];
     let mut kernels = [0u32; 320];
     let mut goes = [0u32; 192];
     let mut lookaheads = [0u32; 1024];
@@ -60,7 +57,6 @@ fn short(text: &[u8], words: &mut [u32]) -> Answer
         text,
         &mut waits,
         short_room(),
-        &mut definitions,
         &mut kernels,
         &mut goes,
         &mut lookaheads,
@@ -75,7 +71,6 @@ fn full(text: &[u8], words: &mut [u32]) -> u32
     ensures { λ r. ⌜ r ≡ refusal (now (text .entry)) ⌝ }
 {
     let mut waits = [0u8; 13107];
-    let mut definitions = [0u32; 6272];
     let mut kernels = [0u32; 2560];
     let mut goes = [0u32; 3072];
     let mut lookaheads = [0u32; 4096];
@@ -84,7 +79,6 @@ fn full(text: &[u8], words: &mut [u32]) -> u32
         text,
         &mut waits,
         Room::full(),
-        &mut definitions,
         &mut kernels,
         &mut goes,
         &mut lookaheads,

@@ -1,6 +1,6 @@
 -- `reading::full` meets its contract: the arrays have as much room as is said. Assumes nothing.
 use native.Mathlib.Omega.{arith}
-use Rattle.attempts.specs.Rooms.{zeros, full-arrays}
+use Rattle.attempts.specs.Rooms.{zeros, full-arrays, words-lent}
 use borrow.Author.Needs.{needs}
 use Rattle.engine.proofs.reading.full.Statement.{statement}
 use Rattle.engine.proofs.reading.full.Tie as tie
@@ -23,11 +23,8 @@ slice-aggregate-attempt-4 c = search needs
 slice-aggregate-attempt-5 : tie.Need-slice-aggregate-attempt-5
 slice-aggregate-attempt-5 c = search needs
 
-slice-aggregate-attempt-6 : tie.Need-slice-aggregate-attempt-6
-slice-aggregate-attempt-6 c = search needs
-
 attempt-requires : tie.Need-attempt-requires
-attempt-requires c κs = let s = c .before .before .before .before .before .before .before .before .before .before in (
+attempt-requires c κs = let s = c .before .before .before .before .before .before .before .before .before in (
   s .pre .0,
   s .pre .1,
   omega (
@@ -36,15 +33,16 @@ attempt-requires c κs = let s = c .before .before .before .before .before .befo
         .pre .0,
     zeros 13107,
   ),
-  rw (c .before .before .before .before .before .before .full .ensures) full-arrays,
+  rw (c .before .before .before .before .before .full .ensures) (words-lent (s .args .words .now) (s .pre .1) full-arrays),
 )
 
 same-length : tie.Need-same-length
 same-length c = search needs
 
 returns : tie.Need-returns
-returns c = let a = c .before .before .before .before .before .before .before .before in a .attempt .ensures .told (a .attempt .ensures .all (a .before
-    .before .before .before .before .before .before .full .ensures))
+returns c =
+    let a = c .before .before .before .before .before .before .before in
+    a .attempt .ensures .told (a .attempt .ensures .all (a .before .before .before .before .before .before .full .ensures))
 
 pub full-spec : {M : Type 1} → statement M
 full-spec =
@@ -56,7 +54,6 @@ full-spec =
     slice-aggregate-attempt-3
     slice-aggregate-attempt-4
     slice-aggregate-attempt-5
-    slice-aggregate-attempt-6
     attempt-requires
     same-length
     returns)

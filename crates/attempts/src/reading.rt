@@ -28,7 +28,8 @@ pub fn attempt(
     words: &mut [u32],
 ) -> Answer
     requires { ⌜ (length (now text) ≤ MAX-TEXT) × (length (now words) ≡ BOOK-WORDS)
-        × WaitsRoom (now text) (now waits) × ArraysLent room (take (49 * room .definitions) (now words)) (now kernels) (now goes) (now lookaheads) (now table) ⌝ }
+        × WaitsRoom (now text) (now waits)
+        × ArraysLent room (take (49 * room .definitions) (now words)) (now kernels) (now goes) (now lookaheads) (now table) ⌝ }
     ensures { λ r. ⌜ Attempted room (now (text .entry)) (r .complete) (r .refusal) ⌝ }
 {
     let t = classes();

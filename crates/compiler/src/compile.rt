@@ -157,8 +157,8 @@ fn formulas_right(
         return true;
     }
     if book.inherited_definitions <= 40 {
-        let mut nexts = [0u32; 600];
         let mut nodes = [0u32; 2400];
+        let mut nexts = [0u32; 600];
         return one_formula(
             inherited,
             book.inherited,
@@ -178,8 +178,8 @@ fn formulas_right(
             &mut nexts,
         );
     }
-    let mut nexts = [0u32; 1920];
     let mut nodes = [0u32; 7680];
+    let mut nexts = [0u32; 1920];
     one_formula(
         inherited,
         book.inherited,
@@ -293,8 +293,8 @@ pub fn compile(
     requires { ⌜ Lent (now t) (now text) × WaitsRoom (now text) (now cells)
         × Roomy room (arrays (now inherited) (now synthesized) (now rules) (now definitions) (now kernels) (now goes)) ⌝ }
     requires { ⌜ TablesLent room (now vanishes) (now begins) (now reached) (now starts) (now lookaheads) (now table) (now cells) ⌝ }
-    ensures { λ r. ⌜ Compiles room (now (text .entry)) (r .complete) (r .refusal) (r .book) (now (inherited .exit)) (now (synthesized .exit)) (now (rules .exit))
-        (now (definitions .exit)) (now (kernels .exit)) (now (goes .exit)) (now (vanishes .exit)) (now (begins .exit)) (now (reached .exit))
+    ensures { λ r. ⌜ Compiles room (now (text .entry)) (r .complete) (r .refusal) (r .book) (now (inherited .exit)) (now (synthesized .exit))
+        (now (rules .exit)) (now (definitions .exit)) (now (kernels .exit)) (now (goes .exit)) (now (vanishes .exit)) (now (begins .exit)) (now (reached .exit))
         (now (starts .exit)) (now (lookaheads .exit)) (now (table .exit)) (now (cells .exit)) ⌝ }
 {
     let read = spelling(

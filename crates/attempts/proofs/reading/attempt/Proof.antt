@@ -10,8 +10,8 @@ use Rattle.attempts.proofs.reading.attempt.Tie as tie
 
 abbrev compile-at : tie.After-cells2 → tie.After-compile
 compile-at c =
-    c .before .before .before .before .before .before .before .before .before .before .before .before .before .before .before
-    .before .before .before .before .before
+    c .before .before .before .before .before .before .before .before .before .before
+    .before .before .before .before .before .before .before .before .before .before
 
 classes-requires : tie.Need-classes-requires
 classes-requires c κs = search needs
@@ -35,7 +35,8 @@ slice-relend-prefix-compile c =
 
 slice-aggregate-compile-4 : tie.Need-slice-aggregate-compile-4
 slice-aggregate-compile-4 c =
-    sym (c .before .before .before .before .before .before .before .before .before .before .before .before .before .before .before .pre .3 .definitions-long)
+    let s = c .before .before .before .before .before .before .before .before .before .before .before .before .before .before .before in
+    sym (s .pre .3 .definitions-long)
 
 slice-aggregate-compile-5 : tie.Need-slice-aggregate-compile-5
 slice-aggregate-compile-5 c = search needs
@@ -53,9 +54,10 @@ slice-aggregate-compile-9 : tie.Need-slice-aggregate-compile-9
 slice-aggregate-compile-9 c = search needs
 
 compile-requires : tie.Need-compile-requires
-compile-requires c κs = let s = c .before .before .before .before .before .before .before .before .before .before .before .before .before .before .before
-    .before .before .before .before .before .before .before .before .before in (
-      (record { table-is = c .before .before .before .before .before .before .before .before .before .before .before .before .before .before .before .before .classes .ensures; short = s .pre .0 }, s .pre .2, lines-room (s .pre .3)),
+compile-requires c κs =
+    let k = c .before .before .before .before .before .before .before .before .before .before .before .before .before .before .before .before in
+    let s = k .before .before .before .before .before .before .before .before in (
+      (record { table-is = k .classes .ensures; short = s .pre .0 }, s .pre .2, lines-room (s .pre .3)),
       tables-lent (s .pre .3),
     )
 

@@ -1,12 +1,10 @@
 -- A message under a book whose text is read into arrays that may have no room for it (01, "Turned-back input"): what was read, and what is answered.
 -- Assumes nothing.
-use Prim.Native.Nat.{ℕ, _*_, _≤_}
+use Prim.Native.Nat.{ℕ}
 use mathlib.Core.Path.{_≡_, refl, sym, _∙_}
 use mathlib.Core.Bool.{Bool, true, false, false≢true}
 use mathlib.Core.List.{List}
-use native.Mathlib.Omega.{arith}
-use lib.ListN.{length, take}
-use Rattle.grammar.specs.Limits.{MAX-STATES}
+use lib.ListN.{take}
 use Rattle.grammar.specs.Data.Book.{Book as Lines}
 use Rattle.grammar.specs.Evaluator.Machine.{evaluate}
 use Rattle.grammar.specs.Engine.{tablesOf, evaluateWords}
@@ -14,7 +12,6 @@ use Rattle.book.specs.declared.Book.{Book}
 use Rattle.book.specs.declared.Room.{Room}
 use Rattle.book.specs.Rooms.{fullRoom}
 use Rattle.conditions.specs.AskedLaws.{counted}
-use Rattle.compiler.specs.States.{states-enough}
 use Rattle.compiler.specs.Compiling.{Compiles}
 use Rattle.machine.specs.declared.run.Outcome.{Outcome}
 use Rattle.machine.specs.RunningLaws.{Answered}
@@ -22,13 +19,11 @@ use Rattle.attempts.specs.Rooms.{compiled-whole}
 use Rattle.attempts.specs.Stored.{Found, TakenBook, found-none, found-book}
 use Rattle.attempts.specs.Evaluations.{Asked, Answers, Message, answers-none, answers-asked, answers-run}
 
--- the first n bytes of a text are those of stored words, and were compiled; the text's room serves for the plans
+-- the first n bytes of a text are those of stored words, and were compiled
 pub record Read (room : Room) (n : ℕ) (text : List ℕ) (complete : Bool) (r : ℕ) (numbers : Book) (inherited synthesized rules definitions kernels goes : List ℕ)
     (vanishes begins reached starts closures table actions : List ℕ) : Type 0 where
   pub words : List ℕ
   pub found : Found words text true n
-  pub states-few : room .states ≤ MAX-STATES
-  pub plans-room : 512 * room .states ≤ length text
   pub compiles : Compiles room (take n text) complete r numbers inherited synthesized rules definitions kernels goes vanishes begins reached starts closures
       table actions
 
@@ -37,7 +32,7 @@ pub record Attempts (room : Room) (text : List ℕ) (n : ℕ) (tokens : List ℕ
   pub all : room ≡ fullRoom → complete ≡ true
   pub answers : complete ≡ true → (words : List ℕ) → Found words text true n → Answers (evaluateWords words tokens lent) lent number rows count
 
--- a book that is taken has room for its plans
+-- where it is not refused, the book is taken
 module _ {room : Room} {n : ℕ} {text : List ℕ} {complete : Bool} {r : ℕ} {numbers : Book} {inherited synthesized rules definitions kernels goes : List ℕ}
     {vanishes begins reached starts closures table actions : List ℕ}
     (R : Read room n text complete r numbers inherited synthesized rules definitions kernels goes vanishes begins reached starts closures table actions)
@@ -45,13 +40,6 @@ module _ {room : Room} {n : ℕ} {text : List ℕ} {complete : Bool} {r : ℕ} {
   pub book-taken : (b : Lines)
       × TakenBook numbers inherited synthesized rules definitions kernels goes vanishes begins reached starts closures table actions b
   book-taken = let (b, q, t) = found-book (R .found) refl whole (R .compiles) taken in (b, t)
-
-  pub plans-fit : 512 * numbers .states ≤ length text
-  plans-fit =
-      let (b, t) = book-taken in
-      let low : numbers .states ≤ MAX-STATES =
-      omega (arith, counted b (t .ready .numbers-are) .states-are, t .ready .conditions-met .limits .states-limit .high) in
-      omega (arith, R .plans-room, states-enough (R .compiles .fits whole taken) (R .states-few) low)
 
 module _ {room : Room} {n : ℕ} {text : List ℕ} {complete : Bool} {r : ℕ} {numbers : Book} {inherited synthesized rules definitions kernels goes : List ℕ}
     {vanishes begins reached starts closures table actions : List ℕ}

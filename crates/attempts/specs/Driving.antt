@@ -1,7 +1,6 @@
 -- A stored book that is taken, and a message, as the machine asks for them. Assumes nothing.
-use Prim.Native.Nat.{ℕ, _*_, _≤_}
-use native.Mathlib.Omega.{arith}
-use mathlib.Core.Path.{_≡_, refl, ap, _∙_}
+use Prim.Native.Nat.{ℕ}
+use mathlib.Core.Path.{_≡_, ap, _∙_}
 use mathlib.Core.List.{List}
 use mathlib.Core.Option.{some}
 use lib.ListN.{length, replicate}
@@ -65,9 +64,8 @@ module _ {numbers : Book} {inherited synthesized rules definitions kernels goes 
   tokens-of m = record { tokens = message-tokens b m (counted b (h .ready .numbers-are) .terminals-are); few = m .few }
 
   -- no plan is worked out yet
-  pub plans-of : {lists : List ℕ} → 512 * numbers .states ≤ length lists → PlansIn b (replicate 4096 0) lists
-  plans-of l =
-      plans-none b refl (omega (arith, l, counted b (h .ready .numbers-are) .states-are)) (h .ready .conditions-met .limits .states-limit .high)
+  pub plans-of : PlansIn b (replicate 4096 0) (replicate 4336 0)
+  plans-of = plans-none b (h .ready .conditions-met .limits .states-limit .high)
 
 -- the stacks as they are before the first move
 pub run-room : {rows : List ℕ} → rows ≡ replicate PAGE-WORDS 0

@@ -52,7 +52,7 @@ fn asked(tokens: &[u32], terminals: u32, lent: usize) -> u32
     0
 }
 
-// Runs the machine over a book that is taken and the tokens of a message. `lists` is room, whatever it holds.
+// Runs the machine over a book that is taken and the tokens of a message.
 fn message(
     book: Book,
     inherited: &[u32],
@@ -68,13 +68,12 @@ fn message(
     lookaheads: &[u32],
     table: &[u8],
     actions: &[u8],
-    lists: &mut [u8],
     tokens: &[u32],
     rows: &mut [u32],
 ) -> Outcome
     requires { ⌜ Some (TakenBook book (now inherited) (now synthesized) (now rules) (now definitions) (now kernels) (now goes) (now vanishes) (now begins)
         (now reached) (now starts) (now lookaheads) (now table) (now actions)) ⌝ }
-    requires { ⌜ Message (book .terminals) (now tokens) × (now rows ≡ replicate PAGE-WORDS 0) × (512 * book .states ≤ length (now lists)) ⌝ }
+    requires { ⌜ Message (book .terminals) (now tokens) × (now rows ≡ replicate PAGE-WORDS 0) ⌝ }
     ensures { λ r. ⌜ ((b : Lines) → TakenBook book (now (inherited .entry)) (now (synthesized .entry)) (now (rules .entry)) (now (definitions .entry))
         (now (kernels .entry)) (now (goes .entry)) (now (vanishes .entry)) (now (begins .entry)) (now (reached .entry)) (now (starts .entry))
         (now (lookaheads .entry)) (now (table .entry)) (now (actions .entry)) b
@@ -96,7 +95,7 @@ fn message(
         &mut up,
     );
     let mut sets = [0u32; 576];
-    let mut counts = [0u8; 4096];
+    let mut slots = [0u8; 4096];
     plan_idle(
         definitions,
         book.inherited_definitions as usize,
@@ -105,8 +104,9 @@ fn message(
         starts,
         lookaheads,
         book.states as usize,
-        &mut counts,
+        &mut slots,
     );
+    let mut lists = [0u8; 4336];
     let mut states = [0u32; 129];
     let mut cells = [0u32; 2064];
     let mut records = [0u32; 4224];
@@ -129,8 +129,8 @@ fn message(
         actions,
         tokens,
         &mut sets,
-        &mut counts,
-        lists,
+        &mut slots,
+        &mut lists,
         &mut states,
         &mut cells,
         &mut records,
@@ -146,7 +146,7 @@ pub struct Answer {
 }
 
 // What is answered of a text that was read into arrays: `complete` where they have room for it, and then the number; where that is 0, the rows and their
-// count are in place. `text` is room.
+// count are in place.
 fn respond(
     compiled: Compiled,
     inherited: &[u32],
@@ -162,20 +162,18 @@ fn respond(
     lookaheads: &[u32],
     table: &[u8],
     actions: &[u8],
-    text: &mut [u8],
     tokens: &[u32],
     rows: &mut [u32],
     count: &mut u32,
 ) -> Answer
-    requires { ⌜ ((room : Room) × (n : ℕ) × Read room n (now text) (compiled .complete) (compiled .refusal) (compiled .book) (now inherited) (now synthesized)
-        (now rules) (now definitions) (now kernels) (now goes) (now vanishes) (now begins) (now reached) (now starts) (now lookaheads) (now table)
-        (now actions)) ⌝ }
-    ensures { λ r. ⌜ ((room : Room) (n : ℕ) → Read room n (now (text .entry)) (compiled .complete) (compiled .refusal) (compiled .book)
+    requires { ⌜ ((room : Room) × (n : ℕ) × (text : List ℕ) × Read room n text (compiled .complete) (compiled .refusal) (compiled .book) (now inherited)
+        (now synthesized) (now rules) (now definitions) (now kernels) (now goes) (now vanishes) (now begins) (now reached) (now starts) (now lookaheads)
+        (now table) (now actions)) ⌝ }
+    ensures { λ r. ⌜ ((room : Room) (n : ℕ) (text : List ℕ) → Read room n text (compiled .complete) (compiled .refusal) (compiled .book)
         (now (inherited .entry)) (now (synthesized .entry)) (now (rules .entry)) (now (definitions .entry)) (now (kernels .entry)) (now (goes .entry))
         (now (vanishes .entry)) (now (begins .entry)) (now (reached .entry)) (now (starts .entry)) (now (lookaheads .entry)) (now (table .entry))
         (now (actions .entry))
-        → Attempts room (now (text .entry)) n (now (tokens .entry)) (length (now (rows .entry))) (r .complete) (r .number) (now (rows .exit))
-        (now (count .exit))) ⌝ }
+        → Attempts room text n (now (tokens .entry)) (length (now (rows .entry))) (r .complete) (r .number) (now (rows .exit)) (now (count .exit))) ⌝ }
 {
     if !compiled.complete {
         return Answer {
@@ -213,7 +211,6 @@ fn respond(
         lookaheads,
         table,
         actions,
-        text,
         tokens,
         rows,
     );
@@ -226,7 +223,7 @@ fn respond(
 
 // The answer to a message under a book whose text is the first `n` bytes of `text`, by arrays of the caller.
 pub fn attempt(
-    text: &mut [u8],
+    text: &[u8],
     n: usize,
     waits: &mut [u8],
     room: Room,
@@ -239,7 +236,7 @@ pub fn attempt(
     rows: &mut [u32],
     count: &mut u32,
 ) -> Answer
-    requires { ⌜ ((words : List ℕ) × Found words (now text) true n) × (512 * room .states ≤ length (now text)) × (n ≤ 5 * length (now waits) + 3)
+    requires { ⌜ ((words : List ℕ) × Found words (now text) true n) × (n ≤ 5 * length (now waits) + 3)
         × ArraysLent room (now definitions) (now kernels) (now goes) (now lookaheads) (now table) ⌝ }
     ensures { λ r. ⌜ Attempts room (now (text .entry)) n (now (tokens .entry)) (length (now (rows .entry))) (r .complete) (r .number) (now (rows .exit))
         (now (count .exit)) ⌝ }
@@ -287,7 +284,6 @@ pub fn attempt(
         lookaheads,
         table,
         &actions,
-        text,
         tokens,
         rows,
         count,

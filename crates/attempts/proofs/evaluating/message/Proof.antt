@@ -1,5 +1,6 @@
 -- `evaluating::message` meets its contract: the machine is asked with empty stacks, and the plans of idle states. Assumes nothing.
 use mathlib.Core.Path.{refl}
+use native.Mathlib.Omega.{arith}
 use Rattle.attempts.specs.Sides.{asked-sides}
 use Rattle.attempts.specs.Driving.{states-held, run-in, tokens-of, plans-of, run-room}
 use borrow.Author.Needs.{needs}
@@ -11,12 +12,12 @@ use Rattle.attempts.proofs.evaluating.message.Tie as tie
 abbrev sides-start : tie.After-up → tie.Start
 sides-start c =
     c .before .before .before .before .before .before .before .before .before .before .before
-    .before .before .before .before .before .before .before .before .before
+    .before .before .before .before .before .before .before .before
 
-abbrev sides-at : tie.After-counts → tie.After-fill-sides
+abbrev sides-at : tie.After-slots → tie.After-fill-sides
 sides-at c = c .before .before .before .before .before .before .before
 
-abbrev planned-at : tie.After-run-arg2 → tie.After-plan-idle
+abbrev planned-at : tie.After-run-arg → tie.After-plan-idle
 planned-at c = c .before .before .before .before .before .before .before .before .before .before .before .before .before
 
 slice-aggregate-fill-sides : tie.Need-slice-aggregate-fill-sides
@@ -47,7 +48,8 @@ slice-aggregate-plan-idle c = search needs
 plan-idle-requires : tie.Need-plan-idle-requires
 plan-idle-requires c κs = let o = sides-at c in
     let (b, t) = sides-start (o .before) .pre .0 in
-    ((b, states-held t (o .fill-sides .ensures b (asked-sides (t .ready)))), refl)
+    let held = states-held t (o .fill-sides .ensures b (asked-sides (t .ready))) in
+    ((b, held), omega (arith, plans-of t .slots-long, held .states-are))
 
 slice-aggregate-run : tie.Need-slice-aggregate-run
 slice-aggregate-run c = search needs
@@ -79,6 +81,9 @@ slice-aggregate-run-9 c = search needs
 slice-aggregate-run-10 : tie.Need-slice-aggregate-run-10
 slice-aggregate-run-10 c = search needs
 
+slice-aggregate-run-11 : tie.Need-slice-aggregate-run-11
+slice-aggregate-run-11 c = search needs
+
 run-requires : tie.Need-run-requires
 run-requires c κs = let p = planned-at c in
     let o = sides-at (p .before) in
@@ -87,22 +92,19 @@ run-requires c κs = let p = planned-at c in
     let m = s .pre .1 .0 in
     let sides = o .fill-sides .ensures b (asked-sides (t .ready)) in (
       (run-room (s .pre .1 .1), s .pre .1 .1),
-      (b, m .list, run-in t sides (m .tokens-are), tokens-of t m, p .plan-idle .ensures b _ (states-held t sides) (plans-of t (s .pre .1 .2))),
+      (b, m .list, run-in t sides (m .tokens-are), tokens-of t m, p .plan-idle .ensures b _ (states-held t sides) (plans-of t)),
     )
 
 same-length : tie.Need-same-length
 same-length c = search needs
 
-same-length-2 : tie.Need-same-length-2
-same-length-2 c = search needs
-
 returns : tie.Need-returns
-returns c = λ b t m. let k = c .before .before .before .before .before .before .before .before .before .before in
+returns c = λ b t m. let k = c .before .before .before .before .before .before .before .before .before in
     let p = planned-at (k .before) in
     let o = sides-at (p .before) in
     let sides = o .fill-sides .ensures b (asked-sides (t .ready)) in
     k .run .ensures b (m .list) (run-in t sides (m .tokens-are)) (tokens-of t m)
-    (p .plan-idle .ensures b _ (states-held t sides) (plans-of t (sides-start (o .before) .pre .1 .2)))
+    (p .plan-idle .ensures b _ (states-held t sides) (plans-of t))
 
 pub message-spec : {M : Type 1} → statement M
 message-spec =
@@ -127,7 +129,7 @@ message-spec =
     slice-aggregate-run-8
     slice-aggregate-run-9
     slice-aggregate-run-10
+    slice-aggregate-run-11
     run-requires
     same-length
-    same-length-2
     returns)

@@ -2,7 +2,7 @@
 use mathlib.Core.Path.{ap, _∙_}
 use lib.ListN.{replicate}
 use borrow.Author.Tests.{not-true, not-false}
-use Rattle.attempts.specs.Attempts.{book-taken, plans-fit, attempts-part, attempts-none, attempts-asked, attempts-run}
+use Rattle.attempts.specs.Attempts.{book-taken, attempts-part, attempts-none, attempts-asked, attempts-run}
 use borrow.Author.Needs.{needs}
 use Rattle.attempts.proofs.evaluating.respond.Statement.{statement}
 use Rattle.attempts.proofs.evaluating.respond.Tie as tie
@@ -12,7 +12,7 @@ use Rattle.attempts.proofs.evaluating.respond.Tie as tie
 abbrev start : tie.Else1 → tie.Start
 start c =
     c .before .before .before .before .before .before .before .before .before .before
-    .before .before .before .before .before .before .before .before
+    .before .before .before .before .before .before .before
 
 abbrev whole-at : tie.Else2 → tie.Else1
 whole-at c = c .before .before
@@ -23,20 +23,20 @@ taken-at c = c .before .before
 abbrev passed-at : tie.After-clear → tie.Else3
 passed-at c = c .before .before
 
-abbrev clear-at : tie.After-message-arg2 → tie.After-clear
-clear-at c = c .before .before .before .before
+abbrev clear-at : tie.After-message-arg → tie.After-clear
+clear-at c = c .before .before .before
 
 returns : tie.Need-returns
-returns c = λ room n R. attempts-part R (not-true _ (c .if1 .taken))
+returns c = λ room n text R. attempts-part R (not-true _ (c .if1 .taken))
 
 returns-2 : tie.Need-returns-2
-returns-2 c = λ room n R. attempts-none R (not-false _ (c .before .before .if1 .left)) (c .if2 .taken)
+returns-2 c = λ room n text R. attempts-none R (not-false _ (c .before .before .if1 .left)) (c .if2 .taken)
 
 asked-requires : tie.Need-asked-requires
 asked-requires c κs = search needs
 
 returns-3 : tie.Need-returns-3
-returns-3 c = λ room n R.
+returns-3 c = λ room n text R.
     let a = c .before in
     let e = taken-at a in
     attempts-asked R (not-false _ (whole-at e .if1 .left)) (e .if2 .left) (a .asked .ensures) (c .if3 .taken)
@@ -51,25 +51,21 @@ message-requires c κs =
     let a = p .before in
     let e = taken-at a in
     let w = whole-at e in
-    let (room, n, R) = start w .pre in
+    let (room, n, text, R) = start w .pre in
     let whole = not-false _ (w .if1 .left) in (
       book-taken R whole (e .if2 .left),
       (
         a .asked .ensures .passed (p .if3 .left),
         k .clear .ensures ∙ ap (λ n. replicate n 0) (a .asked .ensures .all-rows (p .if3 .left)),
-        plans-fit R whole (e .if2 .left),
       ),
     )
 
 same-length : tie.Need-same-length
 same-length c = search needs
 
-same-length-2 : tie.Need-same-length-2
-same-length-2 c = search needs
-
 returns-4 : tie.Need-returns-4
-returns-4 c = λ room n R.
-    let m = c .before .before .before .before in
+returns-4 c = λ room n text R.
+    let m = c .before .before in
     let p = passed-at (clear-at (m .before)) in
     let a = p .before in
     let e = taken-at a in
@@ -86,5 +82,4 @@ respond-spec =
     clear-requires
     message-requires
     same-length
-    same-length-2
     returns-4)

@@ -1,8 +1,10 @@
 // Evaluating: a stored book and the tokens of a message to rows.
 ghost use mathlib.Core.Path.{_≡_};
 ghost use mathlib.Core.Bool.{true};
-ghost use lib.ListN.{length, getD};
-ghost use Rattle.grammar.specs.Limits.{BOOK-WORDS};
+ghost use Prim.Native.Nat.{_+_, _*_, _≤_};
+ghost use lib.ListN.{length, getD, take};
+ghost use Rattle.grammar.specs.Limits.{MAX-TEXT, BOOK-WORDS};
+ghost use Rattle.grammar.specs.Format.Packing.{unpack};
 ghost use Rattle.grammar.specs.Engine.{evaluateWords};
 ghost use Rattle.attempts.specs.Evaluations.{Answers, Evaluates};
 use attempts::evaluating::Answer;
@@ -14,10 +16,12 @@ use book::Book;
 use book::Room;
 use packing::packing::clear;
 
-// The first words, in which the text of a tiny book, and of a short one, stands.
+// The first words, in which the text of a tiny book, of a short one, and of most others stands.
 const TINY_WORDS: usize = 256;
 
 const SHORT_WORDS: usize = 1024;
+
+const MEDIUM_WORDS: usize = 4096;
 
 // By arrays for a tiny book, where the text ends before the last of the first words.
 fn tiny(words: &[u32], tokens: &[u32], rows: &mut [u32], count: &mut u32) -> Answer
@@ -25,7 +29,7 @@ fn tiny(words: &[u32], tokens: &[u32], rows: &mut [u32], count: &mut u32) -> Ans
     ensures { λ r. ⌜ (r .complete ≡ true → Answers (evaluateWords (now (words .entry)) (now (tokens .entry)) (length (now (rows .entry))))
         (length (now (rows .entry))) (r .number) (now (rows .exit)) (now (count .exit))) ⌝ }
 {
-    let mut text = [0u8; 4096];
+    let mut text = [0u8; 1024];
     let found = text_in(words, TINY_WORDS, &mut text);
     if !found.filled {
         return Answer {
@@ -33,14 +37,14 @@ fn tiny(words: &[u32], tokens: &[u32], rows: &mut [u32], count: &mut u32) -> Ans
             number: 11,
         };
     }
-    let mut waits = [0u8; 820];
+    let mut waits = [0u8; 205];
     let mut definitions = [0u32; 784];
     let mut kernels = [0u32; 80];
     let mut goes = [0u32; 48];
     let mut lookaheads = [0u32; 256];
     let mut table = [0u8; 512];
     attempt(
-        &mut text,
+        &text,
         found.count,
         &mut waits,
         tiny_room(),
@@ -61,7 +65,7 @@ fn short(words: &[u32], tokens: &[u32], rows: &mut [u32], count: &mut u32) -> An
     ensures { λ r. ⌜ (r .complete ≡ true → Answers (evaluateWords (now (words .entry)) (now (tokens .entry)) (length (now (rows .entry))))
         (length (now (rows .entry))) (r .number) (now (rows .exit)) (now (count .exit))) ⌝ }
 {
-    let mut text = [0u8; 16384];
+    let mut text = [0u8; 4096];
     let found = text_in(words, SHORT_WORDS, &mut text);
     if !found.filled {
         return Answer {
@@ -69,14 +73,14 @@ fn short(words: &[u32], tokens: &[u32], rows: &mut [u32], count: &mut u32) -> An
             number: 11,
         };
     }
-    let mut waits = [0u8; 3277];
+    let mut waits = [0u8; 820];
     let mut definitions = [0u32; 2352];
     let mut kernels = [0u32; 320];
     let mut goes = [0u32; 192];
     let mut lookaheads = [0u32; 1024];
     let mut table = [0u8; 2048];
     attempt(
-        &mut text,
+        &text,
         found.count,
         &mut waits,
         short_room(),
@@ -91,27 +95,34 @@ fn short(words: &[u32], tokens: &[u32], rows: &mut [u32], count: &mut u32) -> An
     )
 }
 
-// By arrays for any book.
-fn full(words: &[u32], tokens: &[u32], rows: &mut [u32], count: &mut u32) -> u32
-    requires { ⌜ length (now words) ≡ BOOK-WORDS ⌝ }
+// By arrays for any book, where the text stands in so many of the first words. `text` and `waits` are room for it.
+fn any_book(
+    words: &[u32],
+    front: usize,
+    text: &mut [u8],
+    waits: &mut [u8],
+    tokens: &[u32],
+    rows: &mut [u32],
+    count: &mut u32,
+) -> u32
+    requires { ⌜ (length (now words) ≡ BOOK-WORDS) × (front ≤ BOOK-WORDS) × (unpack (take front (now words)) ≡ unpack (now words))
+        × (4 * front ≤ length (now text)) × (length (now text) ≤ MAX-TEXT) × (length (now text) ≤ 5 * length (now waits) + 3) ⌝ }
     ensures { λ r. ⌜ Answers (evaluateWords (now (words .entry)) (now (tokens .entry)) (length (now (rows .entry)))) (length (now (rows .entry))) r
         (now (rows .exit)) (now (count .exit)) ⌝ }
 {
-    let mut text = [0u8; 65536];
-    let found = text_in(words, words.len(), &mut text);
+    let found = text_in(words, front, text);
     if !found.filled {
         return 11;
     }
-    let mut waits = [0u8; 13107];
     let mut definitions = [0u32; 6272];
     let mut kernels = [0u32; 2560];
     let mut goes = [0u32; 3072];
     let mut lookaheads = [0u32; 4096];
     let mut table = [0u8; 8192];
     attempt(
-        &mut text,
+        text,
         found.count,
-        &mut waits,
+        waits,
         Room::full(),
         &mut definitions,
         &mut kernels,
@@ -122,6 +133,56 @@ fn full(words: &[u32], tokens: &[u32], rows: &mut [u32], count: &mut u32) -> u32
         rows,
         count,
     ).number
+}
+
+// Any book, where the text ends before the last of the first words.
+fn medium(words: &[u32], tokens: &[u32], rows: &mut [u32], count: &mut u32) -> u32
+    requires { ⌜ (length (now words) ≡ BOOK-WORDS) × (getD (now words) 4095 0 ≡ 0) ⌝ }
+    ensures { λ r. ⌜ Answers (evaluateWords (now (words .entry)) (now (tokens .entry)) (length (now (rows .entry)))) (length (now (rows .entry))) r
+        (now (rows .exit)) (now (count .exit)) ⌝ }
+{
+    let mut text = [0u8; 16384];
+    let mut waits = [0u8; 3277];
+    any_book(
+        words,
+        MEDIUM_WORDS,
+        &mut text,
+        &mut waits,
+        tokens,
+        rows,
+        count,
+    )
+}
+
+// Any book, where the text may stand in all words.
+fn long(words: &[u32], tokens: &[u32], rows: &mut [u32], count: &mut u32) -> u32
+    requires { ⌜ length (now words) ≡ BOOK-WORDS ⌝ }
+    ensures { λ r. ⌜ Answers (evaluateWords (now (words .entry)) (now (tokens .entry)) (length (now (rows .entry)))) (length (now (rows .entry))) r
+        (now (rows .exit)) (now (count .exit)) ⌝ }
+{
+    let mut text = [0u8; 65536];
+    let mut waits = [0u8; 13107];
+    any_book(
+        words,
+        words.len(),
+        &mut text,
+        &mut waits,
+        tokens,
+        rows,
+        count,
+    )
+}
+
+// Any book.
+fn full(words: &[u32], tokens: &[u32], rows: &mut [u32], count: &mut u32) -> u32
+    requires { ⌜ length (now words) ≡ BOOK-WORDS ⌝ }
+    ensures { λ r. ⌜ Answers (evaluateWords (now (words .entry)) (now (tokens .entry)) (length (now (rows .entry)))) (length (now (rows .entry))) r
+        (now (rows .exit)) (now (count .exit)) ⌝ }
+{
+    if words[MEDIUM_WORDS - 1] != 0 {
+        return long(words, tokens, rows, count);
+    }
+    medium(words, tokens, rows, count)
 }
 
 // By arrays for a short book, or for any where those have no room.

@@ -109,14 +109,15 @@ module _ {room : Room} {definitions kernels goes closures table : List ℕ} (len
     goes-few = lent .goes-few;
   }
 
-  pub tables-lent : TablesLent room (replicate 576 0) (replicate 576 0) (replicate 576 0) (replicate 129 0) closures table (replicate 4096 0)
-  tables-lent = record {
+  pub tables-lent : {actions : List ℕ} → 32 * room .states ≤ length actions
+      → TablesLent room (replicate 576 0) (replicate 576 0) (replicate 576 0) (replicate 129 0) closures table actions
+  tables-lent long = record {
     vanishes-long = zeros 576;
     begins-long = zeros 576;
     reached-long = zeros 576;
     starts-long = zeros 129;
     closures-none = lent .closures-none;
     table-long = lent .table-long;
-    actions-long = zeros 4096;
+    actions-long = long;
     states-few = lent .states-few;
   }

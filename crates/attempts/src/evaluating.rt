@@ -225,18 +225,18 @@ fn respond(
 pub fn attempt(
     text: &[u8],
     n: usize,
-    waits: &mut [u8],
     room: Room,
     definitions: &mut [u32],
     kernels: &mut [u32],
     goes: &mut [u32],
     lookaheads: &mut [u32],
     table: &mut [u8],
+    actions: &mut [u8],
     tokens: &[u32],
     rows: &mut [u32],
     count: &mut u32,
 ) -> Answer
-    requires { ⌜ ((words : List ℕ) × Found words (now text) true n) × (n ≤ 5 * length (now waits) + 3)
+    requires { ⌜ ((words : List ℕ) × Found words (now text) true n) × (n ≤ 5 * length (now actions) + 3) × (32 * room .states ≤ length (now actions))
         × ArraysLent room (now definitions) (now kernels) (now goes) (now lookaheads) (now table) ⌝ }
     ensures { λ r. ⌜ Attempts room (now (text .entry)) n (now (tokens .entry)) (length (now (rows .entry))) (r .complete) (r .number) (now (rows .exit))
         (now (count .exit)) ⌝ }
@@ -249,11 +249,9 @@ pub fn attempt(
     let mut begins = [0u32; 576];
     let mut reached = [0u32; 576];
     let mut starts = [0u32; 129];
-    let mut actions = [0u8; 4096];
     let compiled = compile(
         &t,
         &text[..n],
-        waits,
         room,
         &mut inherited,
         &mut synthesized,
@@ -267,7 +265,7 @@ pub fn attempt(
         &mut starts,
         lookaheads,
         table,
-        &mut actions,
+        actions,
     );
     respond(
         compiled,
@@ -283,7 +281,7 @@ pub fn attempt(
         &starts,
         lookaheads,
         table,
-        &actions,
+        actions,
         tokens,
         rows,
         count,

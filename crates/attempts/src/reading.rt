@@ -19,16 +19,16 @@ pub struct Answer {
 // The first of 2 to 10 that applies to a text, or 0, by arrays of the caller. What they hold is not looked at again; the words have room for definitions.
 pub fn attempt(
     text: &[u8],
-    waits: &mut [u8],
     room: Room,
     kernels: &mut [u32],
     goes: &mut [u32],
     lookaheads: &mut [u32],
     table: &mut [u8],
+    actions: &mut [u8],
     words: &mut [u32],
 ) -> Answer
     requires { ⌜ (length (now text) ≤ MAX-TEXT) × (length (now words) ≡ BOOK-WORDS)
-        × WaitsRoom (now text) (now waits)
+        × WaitsRoom (now text) (now actions) × (32 * room .states ≤ length (now actions))
         × ArraysLent room (take (49 * room .definitions) (now words)) (now kernels) (now goes) (now lookaheads) (now table) ⌝ }
     ensures { λ r. ⌜ Attempted room (now (text .entry)) (r .complete) (r .refusal) ⌝ }
 {
@@ -41,11 +41,9 @@ pub fn attempt(
     let mut begins = [0u32; 576];
     let mut reached = [0u32; 576];
     let mut starts = [0u32; 129];
-    let mut cells = [0u8; 4096];
     let compiled = compile(
         &t,
         text,
-        waits,
         room,
         &mut inherited,
         &mut synthesized,
@@ -59,7 +57,7 @@ pub fn attempt(
         &mut starts,
         lookaheads,
         table,
-        &mut cells,
+        actions,
     );
     Answer {
         complete: compiled.complete,

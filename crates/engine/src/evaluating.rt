@@ -37,22 +37,22 @@ fn tiny(words: &[u32], tokens: &[u32], rows: &mut [u32], count: &mut u32) -> Ans
             number: 11,
         };
     }
-    let mut waits = [0u8; 205];
     let mut definitions = [0u32; 784];
     let mut kernels = [0u32; 80];
     let mut goes = [0u32; 48];
     let mut lookaheads = [0u32; 256];
     let mut table = [0u8; 512];
+    let mut actions = [0u8; 256];
     attempt(
         &text,
         found.count,
-        &mut waits,
         tiny_room(),
         &mut definitions,
         &mut kernels,
         &mut goes,
         &mut lookaheads,
         &mut table,
+        &mut actions,
         tokens,
         rows,
         count,
@@ -73,40 +73,41 @@ fn short(words: &[u32], tokens: &[u32], rows: &mut [u32], count: &mut u32) -> An
             number: 11,
         };
     }
-    let mut waits = [0u8; 820];
     let mut definitions = [0u32; 2352];
     let mut kernels = [0u32; 320];
     let mut goes = [0u32; 192];
     let mut lookaheads = [0u32; 1024];
     let mut table = [0u8; 2048];
+    let mut actions = [0u8; 1024];
     attempt(
         &text,
         found.count,
-        &mut waits,
         short_room(),
         &mut definitions,
         &mut kernels,
         &mut goes,
         &mut lookaheads,
         &mut table,
+        &mut actions,
         tokens,
         rows,
         count,
     )
 }
 
-// By arrays for any book, where the text stands in so many of the first words. `text` and `waits` are room for it.
+// By arrays for any book, where the text stands in so many of the first words. `text` is room for it, `actions` for the actions.
 fn any_book(
     words: &[u32],
     front: usize,
     text: &mut [u8],
-    waits: &mut [u8],
+    actions: &mut [u8],
     tokens: &[u32],
     rows: &mut [u32],
     count: &mut u32,
 ) -> u32
     requires { ⌜ (length (now words) ≡ BOOK-WORDS) × (front ≤ BOOK-WORDS) × (unpack (take front (now words)) ≡ unpack (now words))
-        × (4 * front ≤ length (now text)) × (length (now text) ≤ MAX-TEXT) × (length (now text) ≤ 5 * length (now waits) + 3) ⌝ }
+        × (4 * front ≤ length (now text)) × (length (now text) ≤ MAX-TEXT) × (length (now text) ≤ 5 * length (now actions) + 3)
+        × (4096 ≤ length (now actions)) ⌝ }
     ensures { λ r. ⌜ Answers (evaluateWords (now (words .entry)) (now (tokens .entry)) (length (now (rows .entry)))) (length (now (rows .entry))) r
         (now (rows .exit)) (now (count .exit)) ⌝ }
 {
@@ -122,13 +123,13 @@ fn any_book(
     attempt(
         text,
         found.count,
-        waits,
         Room::full(),
         &mut definitions,
         &mut kernels,
         &mut goes,
         &mut lookaheads,
         &mut table,
+        actions,
         tokens,
         rows,
         count,
@@ -142,12 +143,12 @@ fn medium(words: &[u32], tokens: &[u32], rows: &mut [u32], count: &mut u32) -> u
         (now (rows .exit)) (now (count .exit)) ⌝ }
 {
     let mut text = [0u8; 16384];
-    let mut waits = [0u8; 3277];
+    let mut actions = [0u8; 4096];
     any_book(
         words,
         MEDIUM_WORDS,
         &mut text,
-        &mut waits,
+        &mut actions,
         tokens,
         rows,
         count,
@@ -161,12 +162,12 @@ fn long(words: &[u32], tokens: &[u32], rows: &mut [u32], count: &mut u32) -> u32
         (now (rows .exit)) (now (count .exit)) ⌝ }
 {
     let mut text = [0u8; 65536];
-    let mut waits = [0u8; 13107];
+    let mut actions = [0u8; 13107];
     any_book(
         words,
         words.len(),
         &mut text,
-        &mut waits,
+        &mut actions,
         tokens,
         rows,
         count,

@@ -26,19 +26,19 @@ fn tiny(text: &[u8], words: &mut [u32]) -> Answer
     requires { ⌜ (length (now text) ≤ 1024) × (length (now words) ≡ BOOK-WORDS) ⌝ }
     ensures { λ r. ⌜ (r .complete ≡ true → r .refusal ≡ refusal (now (text .entry))) ⌝ }
 {
-    let mut waits = [0u8; 205];
     let mut kernels = [0u32; 80];
     let mut goes = [0u32; 48];
     let mut lookaheads = [0u32; 256];
     let mut table = [0u8; 512];
+    let mut actions = [0u8; 256];
     attempt(
         text,
-        &mut waits,
         tiny_room(),
         &mut kernels,
         &mut goes,
         &mut lookaheads,
         &mut table,
+        &mut actions,
         words,
     )
 }
@@ -48,19 +48,19 @@ fn short(text: &[u8], words: &mut [u32]) -> Answer
     requires { ⌜ (length (now text) ≤ 4096) × (length (now words) ≡ BOOK-WORDS) ⌝ }
     ensures { λ r. ⌜ (r .complete ≡ true → r .refusal ≡ refusal (now (text .entry))) ⌝ }
 {
-    let mut waits = [0u8; 820];
     let mut kernels = [0u32; 320];
     let mut goes = [0u32; 192];
     let mut lookaheads = [0u32; 1024];
     let mut table = [0u8; 2048];
+    let mut actions = [0u8; 1024];
     attempt(
         text,
-        &mut waits,
         short_room(),
         &mut kernels,
         &mut goes,
         &mut lookaheads,
         &mut table,
+        &mut actions,
         words,
     )
 }
@@ -70,19 +70,19 @@ fn full(text: &[u8], words: &mut [u32]) -> u32
     requires { ⌜ (length (now text) ≤ MAX-TEXT) × (length (now words) ≡ BOOK-WORDS) ⌝ }
     ensures { λ r. ⌜ r ≡ refusal (now (text .entry)) ⌝ }
 {
-    let mut waits = [0u8; 13107];
     let mut kernels = [0u32; 2560];
     let mut goes = [0u32; 3072];
     let mut lookaheads = [0u32; 4096];
     let mut table = [0u8; 8192];
+    let mut actions = [0u8; 13107];
     attempt(
         text,
-        &mut waits,
         Room::full(),
         &mut kernels,
         &mut goes,
         &mut lookaheads,
         &mut table,
+        &mut actions,
         words,
     ).refusal
 }

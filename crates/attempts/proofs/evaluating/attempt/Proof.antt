@@ -12,13 +12,13 @@ use Rattle.attempts.proofs.evaluating.attempt.Tie as tie
 abbrev start : tie.After-compile → tie.Start
 start c =
     c .before .before .before .before .before .before .before .before .before .before .before .before .before .before .before
-    .before .before .before .before .before .before .before .before .before .before .before .before
+    .before .before .before .before .before .before .before .before .before .before .before
 
-abbrev compiled-at : tie.After-respond-arg7 → tie.After-compile
+abbrev compiled-at : tie.After-respond-arg8 → tie.After-compile
 compiled-at c =
     c .before .before .before .before .before .before .before .before .before .before .before .before .before .before .before
     .before .before .before .before .before .before .before .before .before .before .before .before .before .before .before
-    .before .before .before .before .before
+    .before .before .before .before
 
 abbrev responded-at : tie.After-slice-known14 → tie.After-respond
 responded-at c = c .before .before
@@ -54,23 +54,20 @@ slice-aggregate-compile-7 c = search needs
 slice-aggregate-compile-8 : tie.Need-slice-aggregate-compile-8
 slice-aggregate-compile-8 c = search needs
 
-slice-aggregate-compile-9 : tie.Need-slice-aggregate-compile-9
-slice-aggregate-compile-9 c = search needs
-
 compile-requires : tie.Need-compile-requires
 compile-requires c κs = let s = c .before .before .before .before .before .before .before .before .before .before .before .before .before .before .before
-    .before .before .before .before .before .before .before .before .before .before .before in
+    .before .before .before .before .before .before .before .before .before .before in
     let cut = length-take (s .args .n) (s .args .text .now) in (
       (
         record {
           table-is = c .before .before .before .before .before .before .before .before .before .before .before .before .before .before .before
-              .before .classes .ensures;
+              .classes .ensures;
           short = omega (arith, cut, s .pre .0 .1 .within);
         },
         omega (arith, cut, s .pre .1),
-        lines-room (s .pre .2),
+        lines-room (s .pre .3),
       ),
-      tables-lent (s .pre .2),
+      tables-lent (s .pre .3) (s .pre .2),
     )
 
 slice-aggregate-respond : tie.Need-slice-aggregate-respond
@@ -94,9 +91,6 @@ slice-aggregate-respond-6 c = search needs
 slice-aggregate-respond-7 : tie.Need-slice-aggregate-respond-7
 slice-aggregate-respond-7 c = search needs
 
-slice-aggregate-respond-8 : tie.Need-slice-aggregate-respond-8
-slice-aggregate-respond-8 c = search needs
-
 respond-requires : tie.Need-respond-requires
 respond-requires c κs = let k = compiled-at c in
     let s = start k in (
@@ -111,7 +105,7 @@ respond-requires c κs = let k = compiled-at c in
     )
 
 same-length : tie.Need-same-length
-same-length c = compile-at c .compile .kept .1 .1 .0
+same-length c = compile-at c .compile .kept .1 .1 .1 .1 .1 .1 .0
 
 same-length-2 : tie.Need-same-length-2
 same-length-2 c = compile-at c .compile .kept .1 .1 .1 .1 .1 .1 .1 .0
@@ -120,7 +114,7 @@ same-length-3 : tie.Need-same-length-3
 same-length-3 c = compile-at c .compile .kept .1 .1 .1 .1 .1 .1 .1 .1 .0
 
 same-length-4 : tie.Need-same-length-4
-same-length-4 c = compile-at c .compile .kept .1 .1 .1 .1 .1 .1 .1 .1 .1 .0
+same-length-4 c = compile-at c .compile .kept .1 .1 .1 .1 .1 .1 .1 .1 .1 .1 .1 .1 .1 .0
 
 same-length-5 : tie.Need-same-length-5
 same-length-5 c = compile-at c .compile .kept .1 .1 .1 .1 .1 .1 .1 .1 .1 .1 .1 .1 .1 .1 .0
@@ -153,7 +147,6 @@ attempt-spec =
     slice-aggregate-compile-6
     slice-aggregate-compile-7
     slice-aggregate-compile-8
-    slice-aggregate-compile-9
     compile-requires
     slice-aggregate-respond
     slice-aggregate-respond-2
@@ -162,7 +155,6 @@ attempt-spec =
     slice-aggregate-respond-5
     slice-aggregate-respond-6
     slice-aggregate-respond-7
-    slice-aggregate-respond-8
     respond-requires
     same-length
     same-length-2

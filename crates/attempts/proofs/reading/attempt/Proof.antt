@@ -8,16 +8,16 @@ use Rattle.attempts.proofs.reading.attempt.Tie as tie
 
 -- from the end back to the call of `compile`
 
-abbrev compile-at : tie.After-cells2 → tie.After-compile
+abbrev compile-at : tie.After-slice-known12 → tie.After-compile
 compile-at c =
     c .before .before .before .before .before .before .before .before .before .before
-    .before .before .before .before .before .before .before .before .before .before
+    .before .before .before .before .before .before .before .before .before
 
 classes-requires : tie.Need-classes-requires
 classes-requires c κs = search needs
 
 mul-size : tie.Need-mul-size
-mul-size c = omega (arith, c .before .before .before .before .before .before .before .before .before .pre .3 .definitions-few)
+mul-size c = omega (arith, c .before .before .before .before .before .before .before .before .before .pre .4 .definitions-few)
 
 slice-aggregate-compile : tie.Need-slice-aggregate-compile
 slice-aggregate-compile c = search needs
@@ -30,13 +30,13 @@ slice-aggregate-compile-3 c = search needs
 
 slice-relend-prefix-compile : tie.Need-slice-relend-prefix-compile
 slice-relend-prefix-compile c =
-    let s = c .before .before .before .before .before .before .before .before .before .before .before .before .before .before in
-    omega (arith, s .pre .1, s .pre .3 .definitions-few)
+    let s = c .before .before .before .before .before .before .before .before .before .before .before .before .before in
+    omega (arith, s .pre .1, s .pre .4 .definitions-few)
 
 slice-aggregate-compile-4 : tie.Need-slice-aggregate-compile-4
 slice-aggregate-compile-4 c =
-    let s = c .before .before .before .before .before .before .before .before .before .before .before .before .before .before .before in
-    sym (s .pre .3 .definitions-long)
+    let s = c .before .before .before .before .before .before .before .before .before .before .before .before .before .before in
+    sym (s .pre .4 .definitions-long)
 
 slice-aggregate-compile-5 : tie.Need-slice-aggregate-compile-5
 slice-aggregate-compile-5 c = search needs
@@ -50,25 +50,22 @@ slice-aggregate-compile-7 c = search needs
 slice-aggregate-compile-8 : tie.Need-slice-aggregate-compile-8
 slice-aggregate-compile-8 c = search needs
 
-slice-aggregate-compile-9 : tie.Need-slice-aggregate-compile-9
-slice-aggregate-compile-9 c = search needs
-
 compile-requires : tie.Need-compile-requires
 compile-requires c κs =
-    let k = c .before .before .before .before .before .before .before .before .before .before .before .before .before .before .before .before in
+    let k = c .before .before .before .before .before .before .before .before .before .before .before .before .before .before .before in
     let s = k .before .before .before .before .before .before .before .before in (
-      (record { table-is = k .classes .ensures; short = s .pre .0 }, s .pre .2, lines-room (s .pre .3)),
-      tables-lent (s .pre .3),
+      (record { table-is = k .classes .ensures; short = s .pre .0 }, s .pre .2, lines-room (s .pre .4)),
+      tables-lent (s .pre .4) (s .pre .3),
     )
 
 same-length : tie.Need-same-length
-same-length c = compile-at c .compile .kept .1 .1 .0
+same-length c = compile-at c .compile .kept .1 .1 .1 .1 .1 .1 .1 .0
 
 same-length-2 : tie.Need-same-length-2
 same-length-2 c = compile-at c .compile .kept .1 .1 .1 .1 .1 .1 .1 .1 .0
 
 same-length-3 : tie.Need-same-length-3
-same-length-3 c = compile-at c .compile .kept .1 .1 .1 .1 .1 .1 .1 .1 .1 .0
+same-length-3 c = compile-at c .compile .kept .1 .1 .1 .1 .1 .1 .1 .1 .1 .1 .1 .1 .1 .0
 
 same-length-4 : tie.Need-same-length-4
 same-length-4 c = compile-at c .compile .kept .1 .1 .1 .1 .1 .1 .1 .1 .1 .1 .1 .1 .1 .1 .0
@@ -97,7 +94,6 @@ attempt-spec =
     slice-aggregate-compile-6
     slice-aggregate-compile-7
     slice-aggregate-compile-8
-    slice-aggregate-compile-9
     compile-requires
     same-length
     same-length-2

@@ -174,7 +174,7 @@ fn long(words: &[u32], tokens: &[u32], rows: &mut [u32], count: &mut u32) -> u32
     )
 }
 
-// Any book.
+// Any book; the room for its text goes by where that ends.
 fn full(words: &[u32], tokens: &[u32], rows: &mut [u32], count: &mut u32) -> u32
     requires { ⌜ length (now words) ≡ BOOK-WORDS ⌝ }
     ensures { λ r. ⌜ Answers (evaluateWords (now (words .entry)) (now (tokens .entry)) (length (now (rows .entry)))) (length (now (rows .entry))) r

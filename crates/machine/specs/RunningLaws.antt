@@ -180,7 +180,8 @@ pub record RoomsLeft (room : ℕ) (states inherited synthesized starts rows sets
   pub slots-long : length slots ≡ room
   pub lists-long : length lists ≡ 4336
 
-pub rooms-kept : {room : ℕ} {states inherited synthesized starts rows sets slots lists states′ inherited′ synthesized′ starts′ rows′ sets′ slots′ lists′ : List ℕ}
+pub rooms-kept : {room : ℕ} {states inherited synthesized starts rows sets slots lists : List ℕ}
+    {states′ inherited′ synthesized′ starts′ rows′ sets′ slots′ lists′ : List ℕ}
     → RoomsLeft room states inherited synthesized starts rows sets slots lists → length states′ ≡ length states → length inherited′ ≡ length inherited
     → length synthesized′ ≡ length synthesized → length starts′ ≡ length starts → length rows′ ≡ length rows → length sets′ ≡ length sets
     → length slots′ ≡ length slots → length lists′ ≡ length lists → RoomsLeft room states′ inherited′ synthesized′ starts′ rows′ sets′ slots′ lists′

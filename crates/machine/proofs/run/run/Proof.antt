@@ -60,8 +60,8 @@ loop-holds : tie.Need-loop-holds Inv-loop μ-loop
 loop-holds c =
     let s = entry (c .before) in
     let (b, ks, R, M, P) = s .pre .1 in
-    let lent : RoomsLeft (length (s .args .slots .now)) (s .args .states .now) (s .args .inherited .now) (s .args .synthesized .now) (s .args .starts .now) (s .args .rows .now)
-    (s .args .sets .now) (s .args .slots .now) (s .args .lists .now) =
+    let lent : RoomsLeft (length (s .args .slots .now)) (s .args .states .now) (s .args .inherited .now) (s .args .synthesized .now) (s .args .starts .now)
+    (s .args .rows .now) (s .args .sets .now) (s .args .slots .now) (s .args .lists .now) =
     record { rooms = s .pre .0 .0; slots-long = refl; lists-long = P .lists-long } in
     let e = c .empty .ensures in (
       rooms-kept lent (length-set (s .args .states .now) 0 0) refl refl refl refl refl refl refl,

@@ -72,7 +72,7 @@ returns-2 c = λ b firsts states W O L l.
     let m = v .before .before .before .before .before .before .before .before .before in
     let s = entry (m .before) in
     let M = m .masks .ensures b firsts _ (H .marks-held) (held-check H O (s .pre .1)) (H .definitions-counted) (H .rules-counted)
-        (omega (arith, l, H .states-are)) in
+    (omega (arith, l, H .states-are)) in
     v .check-state .ensures b (held-check H O (M .long)) (H .definitions-counted) (H .terminals-are)
     ∙ state-told H (s .args .state) M
 

@@ -28,8 +28,7 @@ fill-requires c κs =
 
 loop-holds : tie.Need-loop-holds Inv-loop μ-loop
 loop-holds c =
-    let s = c .before .before .before .before .before .before .before .before .before .before in
-    (
+    let s = c .before .before .before .before .before .before .before .before .before .before in (
       refl,
       rw (c .before .before .fill .ensures)
           (states-none (s .args .rules .now) (s .args .kernels .now) (s .args .starts .now) (s .args .closures .now) (s .args .fronts .now)

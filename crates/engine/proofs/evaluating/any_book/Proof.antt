@@ -11,10 +11,10 @@ use Rattle.engine.proofs.evaluating.any_book.Tie as tie
 -- from the call of `attempt` back to the room, to the test of the filling, to the text, and to the entry
 
 abbrev room-at : tie.After-attempt-arg4 → tie.After-full
-room-at c = c .before .before .before .before .before .before .before
+room-at c = c .before .before .before .before .before .before .before .before
 
 abbrev filled-at : tie.After-attempt-arg4 → tie.Else1
-filled-at c = room-at c .before .before .before
+filled-at c = room-at c .before .before
 
 abbrev found-at : tie.After-attempt-arg4 → tie.After-text-in
 found-at c = filled-at c .before .before .before .before
@@ -54,6 +54,7 @@ attempt-requires c κs =
     let found = found-at c .text-in in (
       (_, filled-found (found .ensures) (filled-at c .if1 .left)),
       omega (arith, found .ensures .inside, found .kept .1 .1 .0, start (found-at c) .pre .5),
+      rw (room-at c .full .ensures) (omega (arith, start (found-at c) .pre .6)),
       rw (room-at c .full .ensures) full-arrays,
     )
 

@@ -12,10 +12,10 @@ use Rattle.engine.proofs.evaluating.tiny.Tie as tie
 -- from the call of `attempt` back to the room, to the test of the filling, and to the text
 
 abbrev room-at : tie.After-attempt-arg2 → tie.After-tiny-room
-room-at c = c .before .before .before .before .before .before .before
+room-at c = c .before .before .before .before .before .before .before .before
 
 abbrev filled-at : tie.After-attempt-arg2 → tie.Else1
-filled-at c = room-at c .before .before .before
+filled-at c = room-at c .before .before
 
 abbrev found-at : tie.After-attempt-arg2 → tie.After-text-in
 found-at c = filled-at c .before .before .before
@@ -61,7 +61,8 @@ attempt-requires c κs =
     let found = found-at c .text-in in
     let e = room-at c .tiny-room .ensures in (
       (_, filled-found (found .ensures) (filled-at c .if1 .left)),
-      omega (arith, found .ensures .inside, found .kept .1 .1 .0, zeros 205),
+      omega (arith, found .ensures .inside, found .kept .1 .1 .0, zeros 256),
+      rw e (omega (arith, zeros 256)),
       rw e tiny-arrays,
     )
 
@@ -81,8 +82,8 @@ tiny-spec =
     text-in-requires
     returns
     slice-aggregate-attempt
-    slice-aggregate-attempt-2
     tiny-room-requires
+    slice-aggregate-attempt-2
     slice-aggregate-attempt-3
     slice-aggregate-attempt-4
     slice-aggregate-attempt-5

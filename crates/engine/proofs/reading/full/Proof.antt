@@ -27,13 +27,9 @@ attempt-requires : tie.Need-attempt-requires
 attempt-requires c κs = let s = c .before .before .before .before .before .before .before .before .before in (
   s .pre .0,
   s .pre .1,
-  omega (
-    arith,
-    s
-        .pre .0,
-    zeros 13107,
-  ),
-  rw (c .before .before .before .before .before .full .ensures) (words-lent (s .args .words .now) (s .pre .1) full-arrays),
+  omega (arith, s .pre .0, zeros 13107),
+  rw (c .before .before .before .before .before .before .full .ensures) (omega (arith, zeros 13107)),
+  rw (c .before .before .before .before .before .before .full .ensures) (words-lent (s .args .words .now) (s .pre .1) full-arrays),
 )
 
 same-length : tie.Need-same-length
@@ -42,14 +38,14 @@ same-length c = search needs
 returns : tie.Need-returns
 returns c =
     let a = c .before .before .before .before .before .before .before in
-    a .attempt .ensures .told (a .attempt .ensures .all (a .before .before .before .before .before .before .full .ensures))
+    a .attempt .ensures .told (a .attempt .ensures .all (a .before .before .before .before .before .before .before .full .ensures))
 
 pub full-spec : {M : Type 1} → statement M
 full-spec =
     tie.close
     (tie.spec
-    slice-aggregate-attempt
     full-requires
+    slice-aggregate-attempt
     slice-aggregate-attempt-2
     slice-aggregate-attempt-3
     slice-aggregate-attempt-4

@@ -27,8 +27,9 @@ attempt-requires : tie.Need-attempt-requires
 attempt-requires c κs = let s = c .before .before .before .before .before .before .before .before .before in (
   omega (arith, s .pre .0),
   s .pre .1,
-  omega (arith, s .pre .0, zeros 205),
-  rw (c .before .before .before .before .before .tiny-room .ensures) (words-lent (s .args .words .now) (s .pre .1) tiny-arrays),
+  omega (arith, s .pre .0, zeros 256),
+  rw (c .before .before .before .before .before .before .tiny-room .ensures) (omega (arith, zeros 256)),
+  rw (c .before .before .before .before .before .before .tiny-room .ensures) (words-lent (s .args .words .now) (s .pre .1) tiny-arrays),
 )
 
 same-length : tie.Need-same-length
@@ -41,8 +42,8 @@ pub tiny-spec : {M : Type 1} → statement M
 tiny-spec =
     tie.close
     (tie.spec
-    slice-aggregate-attempt
     tiny-room-requires
+    slice-aggregate-attempt
     slice-aggregate-attempt-2
     slice-aggregate-attempt-3
     slice-aggregate-attempt-4

@@ -1,5 +1,6 @@
 pub mod DueLaws
 pub mod Following
+pub mod Idle
 pub mod MemoryLaws
 pub mod PassLaws
 pub mod PlanCell

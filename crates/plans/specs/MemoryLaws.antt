@@ -1,27 +1,29 @@
--- Laws of the memory of plans over a book in arrays: a plan that is known, and one that is worked out from the sets of its state's items.
+-- Laws of the memory of plans over a book in arrays: a plan that is known, one that is worked out from the sets of its state's items, and those of a state at
+-- whose items nothing is defined.
 -- Assumes nothing.
 use Prim.Native.Nat.{ℕ, _+_, _*_, _-_, _<_, _≤_}
 use native.Mathlib.Omega.{arith}
-use mathlib.Core.Path.{_≡_, _∙_}
-use mathlib.Core.Bool.{Bool}
+use mathlib.Core.Path.{_≡_, refl, _∙_}
+use mathlib.Core.Bool.{Bool, true, false}
 use mathlib.Core.List.{List}
-use lib.ListN.{length, getD, set, replicate, length-replicate}
+use lib.ListN.{length, getD, set}
 use lib.Seq.{getD-set-same, getD-set-other}
 use Rattle.grammar.specs.Limits.{MAX-INHERITED}
 use Rattle.grammar.specs.Data.Book.{Book}
 use Rattle.grammar.specs.Format.Ordered.{Ordered}
 use Rattle.grammar.specs.Automaton.FirstSets.{setsOf}
+use Rattle.grammar.specs.Automaton.TestLaws.{true-false}
 use Rattle.automaton.specs.StatesIn.{ItemsIn}
 use Rattle.attributes.specs.Checking.{memberOf, CheckHeld}
-use Rattle.attributes.specs.Idle.{Idle}
 use Rattle.agreement.specs.OneFormula as OneFormula
 use Rattle.agreement.specs.OneFormula.{held-check}
 use Rattle.attributes.specs.StateMarks.{StateMarksIn}
+use Rattle.plans.specs.Idle.{Idle}
 use Rattle.plans.specs.Planning.{plan}
 use Rattle.plans.specs.PlanningLaws.{plan-short}
 use Rattle.plans.specs.PlanRows.{PlanRow, Elsewhere}
 use Rattle.plans.specs.PlanRowsLaws.{elsewhere-then, elsewhere-wider, elsewhere-set}
-use Rattle.plans.specs.Plans.{planOf, PlanIn, lastSlot, PlansIn, PlanTold, PlansHeld, StatesHeld, NoLines}
+use Rattle.plans.specs.Plans.{planOf, PlanIn, lastSlot, PlansIn, PlanTold, IdleTold, PlansHeld, NoLines}
 use Rattle.plans.specs.PlansLaws.{plan-marked, plan-idle, plans-beside, noted-here, plans-noted, plans-nothing}
 
 -- a plan has few lines
@@ -34,8 +36,9 @@ pub slot-filled : (slot n : ℕ) {lists new : List ℕ} → Elsewhere (17 * slot
 slot-filled slot n {new = new} E =
     elsewhere-then (elsewhere-wider (omega arith) (omega arith) E) (elsewhere-set _ _ (17 * slot) new n (omega arith) (omega arith))
 
-module _ {b : Book} {rules : List ℕ} {count : ℕ} {definitions : List ℕ} {lines : ℕ} {owned kernels starts closures nulls reaches : List ℕ}
-    (H : PlansHeld b rules count definitions lines owned kernels starts closures nulls reaches) where
+module _ {b : Book} {rules : List ℕ} {count : ℕ} {definitions : List ℕ} {lines : ℕ}
+    {owned kernels starts closures nulls reaches places : List ℕ}
+    (H : PlansHeld b rules count definitions lines owned kernels starts closures nulls reaches places) where
   -- for the plan of a state's items
   pub plans-check : {masks : List ℕ} → length masks ≡ 576 → CheckHeld b definitions rules owned masks
   plans-check = held-check (H .formulas-held) (H .owned-in)
@@ -79,18 +82,19 @@ module _ {b : Book} {rules : List ℕ} {count : ℕ} {definitions : List ℕ} {l
               plan-in = noted-here (T .plans-in) s low unused few P .plan-in;
             }
 
--- what is asked to find the states at whose items nothing is defined
-module _ {b : Book} {definitions : List ℕ} {lines : ℕ} {rules kernels starts closures : List ℕ} {states : ℕ}
-    (H : StatesHeld b definitions lines rules kernels starts closures states) where
-  pub states-check : CheckHeld b definitions rules (H .owned) (replicate 576 0)
-  states-check = plans-check (H .plans-held) (length-replicate {A = ℕ} 576 0)
+-- Whether nothing is defined at the items of a state
 
-  pub states-items : ItemsIn b (setsOf (b .rules)) rules kernels starts closures
-  states-items = H .plans-held .formulas-held .marks-held .items-in
+-- it was not found
+pub told-busy : {b : Book} {slots lists : List ℕ} (S : ℕ) → PlansIn b slots lists → IdleTold b slots lists S false
+told-busy S M = record { plans-in = M; told = λ e. true-false e refl }
 
--- the plans of a state at whose items nothing is defined
-pub plans-idle : {b : Book} {rules kernels starts closures : List ℕ} → Ordered b → ItemsIn b (setsOf (b .rules)) rules kernels starts closures
-    → (S : ℕ) → Idle b S → {slots new lists : List ℕ} → NoLines S 32 slots new → PlansIn b slots lists → PlansIn b new lists
-plans-idle ordered I S idle none M =
+-- its plans are noted
+pub told-idle : {b : Book} {rules kernels starts closures : List ℕ} → Ordered b → ItemsIn b (setsOf (b .rules)) rules kernels starts closures
+    → {S : ℕ} → S < b .states → Idle b S → {slots new lists : List ℕ} → NoLines S 32 slots new → PlansIn b slots lists → IdleTold b new lists S true
+told-idle ordered I {S} s idle N M =
     let G = I .states-in .grammar-in in
-    plans-nothing M S (λ a l. plan-idle ordered (G .limits) (G .declared) S a idle) none
+    let M′ = plans-nothing M S (λ a l. plan-idle ordered (G .limits) (G .declared) S a idle) N in
+    record {
+      plans-in = M′;
+      told = λ _ a l. record { plans-in = M′; slot-low = omega arith; plan-in = M′ .noted S a 0 s l (N .none a l) .plan-in };
+    }

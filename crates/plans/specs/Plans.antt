@@ -4,16 +4,19 @@
 -- there, and not noted. Assumes nothing.
 use Prim.Native.Nat.{ℕ, _+_, _*_, _<_, _≤_}
 use mathlib.Core.Path.{_≡_}
+use mathlib.Core.Bool.{Bool, true}
 use mathlib.Core.List.{List}
 use lib.ListN.{length, getD}
 use Rattle.grammar.specs.Data.Book.{Book}
 use Rattle.grammar.specs.Automaton.FirstSets.{setsOf}
 use Rattle.grammar.specs.Automaton.ReachSets.{reachSets}
 use Rattle.grammar.specs.Formulas.PartialLaws.{partialAt}
+use Rattle.grammar.specs.Formulas.FormulaCheck as grammar
 use Rattle.grammar.specs.Formulas.FormulaCheck.{listed}
 use Rattle.grammar.specs.Formulas.Slots.{attributes}
 use Rattle.attributes.specs.Owned.{OwnedIn}
 use Rattle.agreement.specs.OneFormula.{FormulasHeld}
+use Rattle.plans.specs.Idle.{PlacesIn}
 use Rattle.plans.specs.Planning.{plan}
 use Rattle.plans.specs.PlanRows.{PlanRow}
 
@@ -55,20 +58,17 @@ pub record NoLines (S n : ℕ) (old new : List ℕ) : Type 0 where
   pub before : (i : ℕ) → i < 32 * S → getD new i 0 ≡ getD old i 0
   pub behind : (i : ℕ) → 32 * S + n ≤ i → getD new i 0 ≡ getD old i 0
 
--- what the plans ask of a book and of its arrays
-pub record PlansHeld (b : Book) (rules : List ℕ) (count : ℕ) (definitions : List ℕ) (lines : ℕ) (owned kernels starts closures nulls reaches : List ℕ) : Type 0
-  where
-    pub firsts : List ℕ
-    pub terminals : ℕ
-    pub states : ℕ
-    pub formulas-held : FormulasHeld b rules count definitions lines kernels starts closures nulls firsts reaches terminals states
-    pub owned-in : OwnedIn (b .inheritedOwners) (attributes b) owned
+-- whether it was found that the plans of state S have no lines
+pub record IdleTold (b : Book) (slots lists : List ℕ) (S : ℕ) (r : Bool) : Type 0 where
+  pub plans-in : PlansIn b slots lists
+  pub told : r ≡ true → (a : ℕ) → a < 32 → PlanTold b slots lists S a 0
 
--- the same for the states, whatever the other arrays are
-pub record StatesHeld (b : Book) (definitions : List ℕ) (lines : ℕ) (rules kernels starts closures : List ℕ) (states : ℕ) : Type 0 where
-  pub count : ℕ
-  pub owned : List ℕ
-  pub nulls : List ℕ
-  pub reaches : List ℕ
-  pub plans-held : PlansHeld b rules count definitions lines owned kernels starts closures nulls reaches
-  pub states-are : states ≡ b .states
+-- what the plans ask of a book and of its arrays
+pub record PlansHeld (b : Book) (rules : List ℕ) (count : ℕ) (definitions : List ℕ) (lines : ℕ)
+    (owned kernels starts closures nulls reaches places : List ℕ) : Type 0 where
+  pub firsts : List ℕ
+  pub terminals : ℕ
+  pub states : ℕ
+  pub formulas-held : FormulasHeld b rules count definitions lines kernels starts closures nulls firsts reaches terminals states
+  pub owned-in : OwnedIn (b .inheritedOwners) (attributes b) owned
+  pub places-in : PlacesIn b (grammar.definitions b) places

@@ -23,9 +23,9 @@ use Rattle.grammar.specs.Formulas.FormulaCheck.{dotOf, lineAt, listed}
 use Rattle.grammar.specs.Formulas.FormulaCheckLaws.{Tells}
 use Rattle.grammar.specs.Formulas.FormulaCheckAll.{listed-tells}
 use Rattle.attributes.specs.Checking.{memberOf}
-use Rattle.attributes.specs.Idle.{Idle}
 use Rattle.attributes.specs.StateMarks.{StateMarksIn}
 use Rattle.attributes.specs.Telling.{marks-tell}
+use Rattle.plans.specs.Idle.{Idle}
 use Rattle.plans.specs.Planning.{applied, plan}
 use Rattle.plans.specs.PlanningLaws.{plan-short, plan-none, plan-same}
 use Rattle.plans.specs.PlanCell.{planned-cell}

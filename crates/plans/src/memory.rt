@@ -1,4 +1,4 @@
-// The plans of partial states: those of states at whose items nothing is defined are noted before the run, any other is worked out when it is first asked for.
+// The plans of partial states, each worked out when it is first asked for; those of a state at whose items nothing is defined are then noted all at once.
 // A contract asks that the arrays hold some book, and says its statement of every book that they hold.
 ghost use mathlib.Core.Path.{_≡_};
 ghost use mathlib.Core.List.{List};
@@ -9,12 +9,11 @@ ghost use Rattle.grammar.specs.Format.Ordered.{Ordered};
 ghost use Rattle.grammar.specs.Automaton.FirstSets.{setsOf};
 ghost use Rattle.grammar.specs.Formulas.FormulaCheck as grammar;
 ghost use Rattle.automaton.specs.StatesIn.{ItemsIn};
-ghost use Rattle.attributes.specs.Idle.{PlacesIn};
+ghost use Rattle.plans.specs.Idle.{PlacesIn};
 ghost use Rattle.plans.specs.PlanRows.{Elsewhere};
-ghost use Rattle.plans.specs.Plans.{planOf, PlanIn, PlansIn, PlanTold, PlansHeld, StatesHeld, NoLines};
+ghost use Rattle.plans.specs.Plans.{planOf, PlanIn, PlansIn, PlanTold, IdleTold, PlansHeld, NoLines};
+use super::idle::idle;
 use super::planning::plan;
-use attributes::idle::idle;
-use attributes::idle::mark_places;
 use attributes::masks::masks;
 use attributes::skips::skip;
 
@@ -36,52 +35,27 @@ fn plan_nothing(slots: &mut [u8], state: usize)
     }
 }
 
-// The same of a state at whose items nothing is defined; of any other nothing is noted.
-fn plan_if_idle(
+// Whether nothing is defined at a state's items; all its plans are then noted.
+fn noted_idle(
     kernels: &[u32],
     starts: &[u32],
     closures: &[u32],
-    state: usize,
     places: &[u32],
+    state: usize,
     slots: &mut [u8],
-)
+) -> bool
     requires { ⌜ ((b : Book) × (rules : List ℕ) × ItemsIn b (setsOf (b .rules)) rules (now kernels) (now starts) (now closures) × (state < b .states)
         × (32 * b .states ≤ length (now slots))) × (length (now places) ≡ 608) ⌝ }
-    ensures { λ _. ⌜ ((b : Book) (rules lists : List ℕ) → Ordered b
+    ensures { λ r. ⌜ ((b : Book) (rules lists : List ℕ) → Ordered b
         → ItemsIn b (setsOf (b .rules)) rules (now (kernels .entry)) (now (starts .entry)) (now (closures .entry))
         → PlacesIn b (grammar.definitions b) (now (places .entry)) → state < b .states
-        → PlansIn b (now (slots .entry)) lists → PlansIn b (now (slots .exit)) lists) ⌝ }
+        → PlansIn b (now (slots .entry)) lists → IdleTold b (now (slots .exit)) lists state r) ⌝ }
 {
     if !idle(kernels, starts, closures, state, places) {
-        return;
+        return false;
     }
     plan_nothing(slots, state);
-}
-
-// The plans of all states at whose items nothing is defined.
-pub fn plan_idle(
-    definitions: &[u32],
-    lines: usize,
-    rules: &[u32],
-    kernels: &[u32],
-    starts: &[u32],
-    closures: &[u32],
-    states: usize,
-    slots: &mut [u8],
-)
-    requires { ⌜ ((b : Book) × StatesHeld b (now definitions) lines (now rules) (now kernels) (now starts) (now closures) states)
-        × (32 * states ≤ length (now slots)) ⌝ }
-    ensures { λ _. ⌜ ((b : Book) (lists : List ℕ) → StatesHeld b (now (definitions .entry)) lines (now (rules .entry)) (now (kernels .entry))
-        (now (starts .entry)) (now (closures .entry)) states
-        → PlansIn b (now (slots .entry)) lists → PlansIn b (now (slots .exit)) lists) ⌝ }
-{
-    let mut places = [0u32; 608];
-    mark_places(definitions, lines, rules, &mut places);
-    let mut state = 0;
-    while state < states {
-        plan_if_idle(kernels, starts, closures, state, &places, slots);
-        state += 1;
-    }
+    true
 }
 
 // The plan of a state and a terminal, worked out into a slot. `sets` is room for the state's items.
@@ -102,10 +76,11 @@ fn plan_into(
     sets: &mut [u32],
     lists: &mut [u8],
 )
-    requires { ⌜ ((b : Book) × PlansHeld b (now rules) count (now definitions) lines (now owned) (now kernels) (now starts) (now closures)
-        (now nulls) (now reaches) × (state < b .states)) × (terminal < 32) × (slot < 255) × (length (now sets) ≡ 576) × (length (now lists) ≡ 4336) ⌝ }
-    ensures { λ _. ⌜ ((b : Book) → PlansHeld b (now (rules .entry)) count (now (definitions .entry)) lines (now (owned .entry))
-        (now (kernels .entry)) (now (starts .entry)) (now (closures .entry)) (now (nulls .entry)) (now (reaches .entry)) → state < b .states
+    requires { ⌜ ((b : Book) × (places : List ℕ) × PlansHeld b (now rules) count (now definitions) lines (now owned) (now kernels) (now starts)
+        (now closures) (now nulls) (now reaches) places × (state < b .states)) × (terminal < 32) × (slot < 255)
+        × (length (now sets) ≡ 576) × (length (now lists) ≡ 4336) ⌝ }
+    ensures { λ _. ⌜ ((b : Book) (places : List ℕ) → PlansHeld b (now (rules .entry)) count (now (definitions .entry)) lines (now (owned .entry))
+        (now (kernels .entry)) (now (starts .entry)) (now (closures .entry)) (now (nulls .entry)) (now (reaches .entry)) places → state < b .states
         → PlanIn (planOf b state terminal) (now (lists .exit)) slot)
         × Elsewhere (17 * slot) (17 * slot + 17) (now (lists .entry)) (now (lists .exit)) ⌝ }
 {
@@ -138,9 +113,8 @@ fn plan_into(
     lists[17 * slot] = n as u8;
 }
 
-// The slot of the plan of a state and a terminal: byte 17 * slot of `lists` is the number of its lines, which follow. A plan that is not known is worked out
-// into the next slot; where that is the spare one, it is not noted.
-pub fn planned(
+// The same in the next slot, which is answered; it is noted, if that is not the spare one.
+fn plan_next(
     rules: &[u32],
     count: u32,
     definitions: &[u32],
@@ -157,17 +131,14 @@ pub fn planned(
     slots: &mut [u8],
     lists: &mut [u8],
 ) -> usize
-    requires { ⌜ ((b : Book) × PlansHeld b (now rules) count (now definitions) lines (now owned) (now kernels) (now starts) (now closures) (now nulls)
-        (now reaches) × (state < b .states) × PlansIn b (now slots) (now lists)) × (terminal < 32) × (length (now sets) ≡ 576) ⌝ }
-    ensures { λ r. ⌜ ((b : Book) → PlansHeld b (now (rules .entry)) count (now (definitions .entry)) lines (now (owned .entry)) (now (kernels .entry))
-        (now (starts .entry)) (now (closures .entry)) (now (nulls .entry)) (now (reaches .entry)) → state < b .states
+    requires { ⌜ ((b : Book) × (places : List ℕ) × PlansHeld b (now rules) count (now definitions) lines (now owned) (now kernels) (now starts)
+        (now closures) (now nulls) (now reaches) places × (state < b .states) × PlansIn b (now slots) (now lists)) × (terminal < 32)
+        × (length (now sets) ≡ 576) ⌝ }
+    ensures { λ r. ⌜ ((b : Book) (places : List ℕ) → PlansHeld b (now (rules .entry)) count (now (definitions .entry)) lines (now (owned .entry))
+        (now (kernels .entry)) (now (starts .entry)) (now (closures .entry)) (now (nulls .entry)) (now (reaches .entry)) places → state < b .states
         → PlansIn b (now (slots .entry)) (now (lists .entry)) → PlanTold b (now (slots .exit)) (now (lists .exit)) state terminal r) ⌝ }
 {
     let place = 32 * state + terminal as usize;
-    let known = slots[place];
-    if known != 0 {
-        return known as usize - 1;
-    }
     let slot = lists[LAST] as usize + 1;
     plan_into(
         rules,
@@ -192,4 +163,55 @@ pub fn planned(
     slots[place] = slot as u8 + 1;
     lists[LAST] = slot as u8;
     slot
+}
+
+// The slot of the plan of a state and a terminal: byte 17 * slot of `lists` is the number of its lines, which follow. `sets` is room for the state's items.
+pub fn planned(
+    rules: &[u32],
+    count: u32,
+    definitions: &[u32],
+    lines: u32,
+    owned: &[u32],
+    kernels: &[u32],
+    starts: &[u32],
+    closures: &[u32],
+    nulls: &[u32],
+    reaches: &[u32],
+    places: &[u32],
+    state: usize,
+    terminal: u32,
+    sets: &mut [u32],
+    slots: &mut [u8],
+    lists: &mut [u8],
+) -> usize
+    requires { ⌜ ((b : Book) × PlansHeld b (now rules) count (now definitions) lines (now owned) (now kernels) (now starts) (now closures) (now nulls)
+        (now reaches) (now places) × (state < b .states) × PlansIn b (now slots) (now lists)) × (terminal < 32) × (length (now sets) ≡ 576) ⌝ }
+    ensures { λ r. ⌜ ((b : Book) → PlansHeld b (now (rules .entry)) count (now (definitions .entry)) lines (now (owned .entry)) (now (kernels .entry))
+        (now (starts .entry)) (now (closures .entry)) (now (nulls .entry)) (now (reaches .entry)) (now (places .entry)) → state < b .states
+        → PlansIn b (now (slots .entry)) (now (lists .entry)) → PlanTold b (now (slots .exit)) (now (lists .exit)) state terminal r) ⌝ }
+{
+    let known = slots[32 * state + terminal as usize];
+    if known != 0 {
+        return known as usize - 1;
+    }
+    if noted_idle(kernels, starts, closures, places, state, slots) {
+        return 0;
+    }
+    plan_next(
+        rules,
+        count,
+        definitions,
+        lines,
+        owned,
+        kernels,
+        starts,
+        closures,
+        nulls,
+        reaches,
+        state,
+        terminal,
+        sets,
+        slots,
+        lists,
+    )
 }

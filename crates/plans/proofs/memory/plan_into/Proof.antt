@@ -24,7 +24,7 @@ skipped c = c .before .before .before .before .before
 few : (c : tie.After-plan) → c .plan .result ≤ MAX-INHERITED
 few c =
     let m = marked (skipped c) in
-    let (b, H, l) = entry m .pre .0 in
+    let (b, places, H, l) = entry m .pre .0 in
     let F = H .formulas-held in
     let marks = m .masks .ensures b (H .firsts) _ (F .marks-held) (plans-check H (entry m .pre .3)) (F .definitions-counted) (F .rules-counted) l in
     row-short b _ (c .plan .ensures .0 b (plans-check H (marks .long)) (F .definitions-counted))
@@ -32,7 +32,7 @@ few c =
 masks-requires : tie.Need-masks-requires
 masks-requires c κs =
     let s = c .before .before .before .before .before .before .before .before .before .before .before in
-    let (b, H, l) = s .pre .0 in
+    let (b, places, H, l) = s .pre .0 in
     let F = H .formulas-held in
     (b, H .firsts, _, F .marks-held, plans-check H (s .pre .3), F .definitions-counted, F .rules-counted, l)
 
@@ -42,7 +42,7 @@ slice-aggregate-skip c = search needs
 skip-requires : tie.Need-skip-requires
 skip-requires c κs =
     let m = c .before .before .before .before in
-    let (b, H, l) = entry m .pre .0 in
+    let (b, places, H, l) = entry m .pre .0 in
     let F = H .formulas-held in
     let marks = m .masks .ensures b (H .firsts) _ (F .marks-held) (plans-check H (entry m .pre .3)) (F .definitions-counted) (F .rules-counted) l in
     ((b, _, _, plans-check H (marks .long), F .definitions-counted), refl)
@@ -61,7 +61,7 @@ plan-requires c κs =
     let v = c .before .before .before .before in
     let m = marked v in
     let s = entry m in
-    let (b, H, l) = s .pre .0 in
+    let (b, places, H, l) = s .pre .0 in
     let F = H .formulas-held in
     let marks = m .masks .ensures b (H .firsts) _ (F .marks-held) (plans-check H (s .pre .3)) (F .definitions-counted) (F .rules-counted) l in (
       (b, plans-check H (marks .long), F .definitions-counted),
@@ -90,7 +90,7 @@ returns c =
     let p = c .before .before in
     let m = marked (skipped p) in
     let s = entry m in (
-      λ b H l.
+      λ b places H l.
           let F = H .formulas-held in
           let marks = m .masks .ensures b (H .firsts) _ (F .marks-held) (plans-check H (s .pre .3)) (F .definitions-counted) (F .rules-counted) l in
           plan-filled H (s .pre .1) (s .args .slot) marks (omega (arith, s .pre .2, s .pre .4, p .plan .ensures .1 .long))

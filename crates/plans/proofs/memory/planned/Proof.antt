@@ -1,29 +1,25 @@
--- `memory::planned` meets its contract: a plan that is known is told, any other is worked out into the next slot.
--- Assumes nothing.
+-- `memory::planned` meets its contract: a plan that is known is told; of the others, those of a state at whose items nothing is defined have no lines, and
+-- any other is worked out. Assumes nothing.
 use Prim.Native.Nat.{_+_, _*_}
 use native.Mathlib.Omega.{arith}
-use mathlib.Core.Path.{refl}
 use borrow.Author.Needs.{needs}
-use Rattle.plans.specs.MemoryLaws.{told-known, told-spare, told-new}
+use Rattle.plans.specs.MemoryLaws.{told-known}
 use Rattle.plans.proofs.memory.planned.Statement.{statement}
 use Rattle.plans.proofs.memory.planned.Tie as tie
 
--- from each place back to the one before, and to the entry
+-- from each call back to the one before, and to the entry
 
 abbrev entry : tie.After-slice-known4 → tie.Start
-entry c = c .before .before .before .before .before .before .before .before .before .before .before .before
+entry c = c .before .before .before .before .before .before .before .before .before .before .before .before .before
 
-abbrev start : tie.After-plan-into → tie.Start
-start c = entry (c .before .before .before .before .before)
+abbrev start : tie.After-noted-idle → tie.Start
+start c = entry (c .before .before .before)
 
-abbrev filled : tie.After-slice-known7 → tie.After-plan-into
-filled c = c .before .before .before .before
+mul-known : tie.Need-mul-known
+mul-known c = search needs
 
-mul-place : tie.Need-mul-place
-mul-place c = search needs
-
-add-place : tie.Need-add-place
-add-place c = search needs
+add-known : tie.Need-add-known
+add-known c = search needs
 
 slice-read-known : tie.Need-slice-read-known
 slice-read-known c = search needs
@@ -37,46 +33,29 @@ sub-result c = search needs
 returns : tie.Need-returns
 returns c = λ b H s M. told-known H (entry (c .before) .pre .1) M s (c .if1 .taken)
 
-slice-read-slot : tie.Need-slice-read-slot
-slice-read-slot c = search needs
-
-cast-slot : tie.Need-cast-slot
-cast-slot c = search needs
-
-add-slot : tie.Need-add-slot
-add-slot c = search needs
-
-plan-into-requires : tie.Need-plan-into-requires
-plan-into-requires c κs =
-    let s = entry (c .before .before .before .before) in
-    let (b, H, l, M) = s .pre .0 in
-    ((b, H, l), s .pre .1, omega (arith, M .last-low), s .pre .2, M .lists-long)
+noted-idle-requires : tie.Need-noted-idle-requires
+noted-idle-requires c κs =
+    let (b, H, l, M) = entry (c .before .before) .pre .0 in
+    ((b, _, H .formulas-held .marks-held .items-in, l, M .slots-long), H .places-in .long)
 
 same-length : tie.Need-same-length
 same-length c = search needs
 
-same-length-2 : tie.Need-same-length-2
-same-length-2 c = search needs
-
 returns-2 : tie.Need-returns-2
 returns-2 c = λ b H l M.
-    let p = filled (c .before) in
-    told-spare H (start p .pre .1) M l refl (p .plan-into .ensures .0 b H l) (p .plan-into .ensures .1)
+    let n = c .before .before .before in
+    let F = H .formulas-held in
+    n .noted-idle .ensures b _ _ (F .ordered) (F .marks-held .items-in) (H .places-in) l M .told (c .if2 .taken) _ (start n .pre .1)
 
-cast-slots : tie.Need-cast-slots
-cast-slots c = search needs
+plan-next-requires : tie.Need-plan-next-requires
+plan-next-requires c κs =
+    let n = c .before .before .before .before .before .before in
+    let (b, H, l, M) = start n .pre .0 in
+    let F = H .formulas-held in
+    ((b, _, H, l, n .noted-idle .ensures b _ _ (F .ordered) (F .marks-held .items-in) (H .places-in) l M .plans-in), start n .pre .1, start n .pre .2)
 
-add-slots : tie.Need-add-slots
-add-slots c = search needs
-
-slice-write-slots : tie.Need-slice-write-slots
-slice-write-slots c = search needs
-
-cast-lists : tie.Need-cast-lists
-cast-lists c = search needs
-
-slice-write-lists : tie.Need-slice-write-lists
-slice-write-lists c = search needs
+same-length-2 : tie.Need-same-length-2
+same-length-2 c = search needs
 
 same-length-3 : tie.Need-same-length-3
 same-length-3 c = search needs
@@ -84,37 +63,28 @@ same-length-3 c = search needs
 same-length-4 : tie.Need-same-length-4
 same-length-4 c = search needs
 
-same-length-5 : tie.Need-same-length-5
-same-length-5 c = search needs
-
 returns-3 : tie.Need-returns-3
 returns-3 c = λ b H l M.
-    let p = filled (c .before) in
-    told-new H (start p .pre .1) M l refl (p .plan-into .ensures .0 b H l) (p .plan-into .ensures .1) (c .if2 .left)
+    let p = c .before .before .before .before .before .before in
+    let n = p .before .before .before .before .before .before .before in
+    let F = H .formulas-held in
+    p .plan-next .ensures b _ H l (n .noted-idle .ensures b _ _ (F .ordered) (F .marks-held .items-in) (H .places-in) l M .plans-in)
 
 pub planned-spec : {M : Type 1} → statement M
 planned-spec =
     tie.close
     (tie.spec
-    mul-place
-    add-place
+    mul-known
+    add-known
     slice-read-known
     cast-result
     sub-result
     returns
-    slice-read-slot
-    cast-slot
-    add-slot
-    plan-into-requires
+    noted-idle-requires
     same-length
-    same-length-2
     returns-2
-    cast-slots
-    add-slots
-    slice-write-slots
-    cast-lists
-    slice-write-lists
+    plan-next-requires
+    same-length-2
     same-length-3
     same-length-4
-    same-length-5
     returns-3)

@@ -11,8 +11,8 @@ ghost use Rattle.grammar.specs.Format.Ordered.{Ordered};
 ghost use Rattle.grammar.specs.Automaton.FirstSets.{setsOf};
 ghost use Rattle.grammar.specs.Formulas.FormulaCheck as grammar;
 ghost use Rattle.automaton.specs.StatesIn.{StatesIn, ItemsIn};
 ghost use Rattle.attributes.specs.Checking.{CheckHeld};
-ghost use Rattle.attributes.specs.Idle.{PlacesIn, FrontFree, LinesFree, Idle};
+ghost use Rattle.plans.specs.Idle.{PlacesIn, FrontFree, LinesFree, Idle};
 use items::words::word;
 use sets::ALL;
 

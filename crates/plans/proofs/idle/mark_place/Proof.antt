@@ -4,10 +4,10 @@ use Prim.Native.Nat.{_-_, _≤_, _<_}
 use native.Mathlib.Omega.{arith}
 use lib.ListN.{length-set}
 use borrow.Author.Needs.{needs}
 use Rattle.attributes.specs.CheckingLaws.{rule-low, position-low, position-high, left-below}
-use Rattle.attributes.specs.Idle.{places-behind, places-front}
-use Rattle.attributes.proofs.idle.mark_place.Statement.{statement}
-use Rattle.attributes.proofs.idle.mark_place.Tie as tie
+use Rattle.plans.specs.Idle.{places-behind, places-front}
+use Rattle.plans.proofs.idle.mark_place.Statement.{statement}
+use Rattle.plans.proofs.idle.mark_place.Tie as tie
 
 -- the entry, as the place after the rule and the position are read knows it
 abbrev entry : tie.After-word2 → tie.Start

@@ -5,8 +5,8 @@ use native.Mathlib.Omega.{arith}
 use borrow.Author.Tests.{eqb-true}
 use borrow.Author.Needs.{needs}
 use Rattle.automaton.specs.StatesIn.{KernelLow, kernel-low}
-use Rattle.attributes.proofs.idle.line_free.Statement.{statement}
-use Rattle.attributes.proofs.idle.line_free.Tie as tie
+use Rattle.plans.proofs.idle.line_free.Statement.{statement}
+use Rattle.plans.proofs.idle.line_free.Tie as tie
 
 -- the entry, as the place after the rule and the dot are read knows it
 abbrev entry : tie.After-word2 → tie.Start

@@ -8,10 +8,10 @@ use lib.ListN.{length}
 use borrow.Author.Needs.{needs}
 use Rattle.grammar.specs.Data.Book.{Book}
 use Rattle.grammar.specs.Formulas.FormulaCheck as grammar
 use Rattle.attributes.specs.Checking.{CheckHeld}
-use Rattle.attributes.specs.Idle.{PlacesIn, places-none}
-use Rattle.attributes.proofs.idle.mark_places.Statement.{statement}
-use Rattle.attributes.proofs.idle.mark_places.Tie as tie
+use Rattle.plans.specs.Idle.{PlacesIn, places-none}
+use Rattle.plans.proofs.idle.mark_places.Statement.{statement}
+use Rattle.plans.proofs.idle.mark_places.Tie as tie
 
 abbrev Inv-loop : tie.InvT-loop
 Inv-loop definitions lines rules places₀ i₀ places i =

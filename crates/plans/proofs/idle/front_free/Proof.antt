@@ -5,9 +5,9 @@ use mathlib.Core.Path.{_≡_}
 use native.Mathlib.Omega.{arith}
 use borrow.Author.Tests.{eqb-true}
 use borrow.Author.Needs.{needs}
-use Rattle.attributes.specs.Idle.{FrontFree, front-none, front-more, front-all}
-use Rattle.attributes.proofs.idle.front_free.Statement.{statement}
-use Rattle.attributes.proofs.idle.front_free.Tie as tie
+use Rattle.plans.specs.Idle.{FrontFree, front-none, front-more, front-all}
+use Rattle.plans.proofs.idle.front_free.Statement.{statement}
+use Rattle.plans.proofs.idle.front_free.Tie as tie
 
 abbrev Inv-loop : tie.InvT-loop
 Inv-loop closures first places bits₀ i₀ bits i = (i ≤ 32) × (bits ≡ 0 → FrontFree closures first places i)

@@ -6,9 +6,9 @@ use native.Mathlib.Omega.{arith}
 use borrow.Author.Tests.{not-false}
 use borrow.Author.Needs.{needs}
 use Rattle.grammar.specs.Automaton.TestLaws.{true-false}
-use Rattle.attributes.specs.Idle.{LinesFree, lines-none, lines-more, lines-all}
-use Rattle.attributes.proofs.idle.lines_free.Statement.{statement}
-use Rattle.attributes.proofs.idle.lines_free.Tie as tie
+use Rattle.plans.specs.Idle.{LinesFree, lines-none, lines-more, lines-all}
+use Rattle.plans.proofs.idle.lines_free.Statement.{statement}
+use Rattle.plans.proofs.idle.lines_free.Tie as tie
 
 abbrev Inv-loop : tie.InvT-loop
 Inv-loop kernels first last places i₀ i = (i ≤ last) × LinesFree kernels first i places

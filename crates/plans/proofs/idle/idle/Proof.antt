@@ -6,9 +6,9 @@ use borrow.Author.Tests.{not-false}
 use borrow.Author.Needs.{needs}
 use Rattle.grammar.specs.Automaton.TestLaws.{true-false}
 use Rattle.automaton.specs.StatesIn.{state-range}
-use Rattle.attributes.specs.Idle.{idle-state}
-use Rattle.attributes.proofs.idle.idle.Statement.{statement}
-use Rattle.attributes.proofs.idle.idle.Tie as tie
+use Rattle.plans.specs.Idle.{idle-state}
+use Rattle.plans.proofs.idle.idle.Statement.{statement}
+use Rattle.plans.proofs.idle.idle.Tie as tie
 
 mul-front-free : tie.Need-mul-front-free
 mul-front-free c = search needs

@@ -24,9 +24,9 @@ pub record Rooms (states inherited synthesized starts rows sets : List ℕ) : Ty
 
 -- a book that is taken, in the arrays that moves read
 pub record Driven (b : Book) (rules : List ℕ) (count : ℕ) (definitions : List ℕ) (lines : ℕ)
-    (owned kernels heads closures nulls reaches table : List ℕ) : Type 0 where
+    (owned kernels heads closures nulls reaches places table : List ℕ) : Type 0 where
   pub book-in : BookIn b rules definitions table
-  pub plans-held : PlansHeld b rules count definitions lines owned kernels heads closures nulls reaches
+  pub plans-held : PlansHeld b rules count definitions lines owned kernels heads closures nulls reaches places
 
 -- a configuration over a message, in the arrays that moves change, with its top cell set
 pub record Poised (b : Book) (ks : List Token) (c : Config) (states inherited synthesized starts rows : List ℕ) (top : Top) : Type 0 where

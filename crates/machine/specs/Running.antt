@@ -26,8 +26,8 @@ use Rattle.stack.specs.Standing.{BookIn, state-low, LeftIn, Message, ConfigIn, 
 
 -- a book that is taken and a list of tokens, in the arrays that a run reads
 pub record RunIn (b : Book) (ks : List Token) (rules : List ℕ) (count : ℕ) (definitions : List ℕ) (lines : ℕ)
-    (owned kernels heads closures nulls reaches firsts down up table actions tokens : List ℕ) : Type 0 where
-  pub driven : Driven b rules count definitions lines owned kernels heads closures nulls reaches table
+    (owned kernels heads closures nulls reaches places firsts down up table actions tokens : List ℕ) : Type 0 where
+  pub driven : Driven b rules count definitions lines owned kernels heads closures nulls reaches places table
   pub left-in : LeftIn b definitions firsts down up
   pub actions-in : ActionsIn b (setsOf (b .rules)) actions
   pub tokens-in : tokensOf tokens ≡ some ks

@@ -131,9 +131,9 @@ stepped {b} U P (told-refused {r = r} e z) = answers {r = r} (rw (ends-stop b (t
 -- ---- a step
 
 module _ {b : Book} {ks : List Token} {rules : List ℕ} {count : ℕ} {definitions : List ℕ} {lines : ℕ}
-    {owned kernels heads closures nulls reaches firsts down up table actions tokens : List ℕ}
+    {owned kernels heads closures nulls reaches places firsts down up table actions tokens : List ℕ}
     {states inherited synthesized starts rows slots lists : List ℕ} {top : Top}
-    (R : RunIn b ks rules count definitions lines owned kernels heads closures nulls reaches firsts down up table actions tokens) (M : Message b ks)
+    (R : RunIn b ks rules count definitions lines owned kernels heads closures nulls reaches places firsts down up table actions tokens) (M : Message b ks)
     (U : Underway b ks states inherited synthesized starts rows slots lists top) where
   pub run-low : TopLow top
   run-low = top-low M (U .config-in)
@@ -152,7 +152,7 @@ module _ {b : Book} {ks : List Token} {rules : List ℕ} {count : ℕ} {definiti
     module _ {slots′ lists′ inherited′ : List ℕ}
         (sets : (b : Book) (states starts : List ℕ) (st : List Frame)
         → TopAsked b definitions inherited synthesized state (top .depth) states starts st → state < b .states
-        → PlansHeld b rules count definitions lines owned kernels heads closures nulls reaches → PlansIn b slots lists
+        → PlansHeld b rules count definitions lines owned kernels heads closures nulls reaches places → PlansIn b slots lists
         → TopSet b slots′ lists′ inherited inherited′ synthesized state kind states starts st) where
       cell-set : TopSet b slots′ lists′ inherited inherited′ synthesized state kind states starts (framesOf (U .at))
       cell-set = sets b states starts (framesOf (U .at)) run-asked (run-facing refl .state-there) (R .driven .plans-held) (U .plans-in)

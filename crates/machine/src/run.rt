@@ -34,6 +34,7 @@ pub fn run(
     closures: &[u32],
     nulls: &[u32],
     reaches: &[u32],
+    places: &[u32],
     firsts: &[u32],
     down: &[u32],
     up: &[u32],
@@ -51,13 +52,13 @@ pub fn run(
 ) -> Outcome
     requires { ⌜ Rooms (now states) (now inherited) (now synthesized) (now starts) (now rows) (now sets) × (now rows ≡ replicate 5120 0) ⌝ }
     requires { ⌜ ((b : Book) × (ks : List Token)
-        × RunIn b ks (now rules) count (now definitions) lines (now owned) (now kernels) (now heads) (now closures) (now nulls) (now reaches) (now firsts)
-        (now down) (now up) (now table) (now actions) (now tokens)
+        × RunIn b ks (now rules) count (now definitions) lines (now owned) (now kernels) (now heads) (now closures) (now nulls) (now reaches) (now places)
+        (now firsts) (now down) (now up) (now table) (now actions) (now tokens)
         × Message b ks × PlansIn b (now slots) (now lists)) ⌝ }
     ensures { λ r. ⌜ ((b : Book) (ks : List Token)
         → RunIn b ks (now (rules .entry)) count (now (definitions .entry)) lines (now (owned .entry)) (now (kernels .entry)) (now (heads .entry))
-        (now (closures .entry)) (now (nulls .entry)) (now (reaches .entry)) (now (firsts .entry)) (now (down .entry)) (now (up .entry)) (now (table .entry))
-        (now (actions .entry)) (now (tokens .entry))
+        (now (closures .entry)) (now (nulls .entry)) (now (reaches .entry)) (now (places .entry)) (now (firsts .entry)) (now (down .entry)) (now (up .entry))
+        (now (table .entry)) (now (actions .entry)) (now (tokens .entry))
         → Message b ks → PlansIn b (now (slots .entry)) (now (lists .entry)) → Answered (evaluate b (tablesOf b) ks) r (now (rows .exit))) ⌝ }
 {
     states[0] = 0;
@@ -75,6 +76,7 @@ pub fn run(
             closures,
             nulls,
             reaches,
+            places,
             firsts,
             down,
             up,

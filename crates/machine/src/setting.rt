@@ -24,6 +24,7 @@ pub fn set_top(
     closures: &[u32],
     nulls: &[u32],
     reaches: &[u32],
+    places: &[u32],
     state: usize,
     kind: u32,
     height: usize,
@@ -37,11 +38,12 @@ pub fn set_top(
     requires { ⌜ ((b : Book) × (states : List ℕ) × (starts : List ℕ) × (st : List Frame)
         × TopAsked b (now definitions) (now inherited) (now synthesized) state height states starts st × (state < b .states)
         × PlansHeld b (now rules) count (now definitions) lines (now owned) (now kernels) (now heads) (now closures) (now nulls) (now reaches)
+        (now places)
         × PlansIn b (now slots) (now lists)) ⌝ }
     ensures { λ _. ⌜ ((b : Book) (states starts : List ℕ) (st : List Frame)
         → TopAsked b (now (definitions .entry)) (now (inherited .entry)) (now (synthesized .entry)) state height states starts st → state < b .states
         → PlansHeld b (now (rules .entry)) count (now (definitions .entry)) lines (now (owned .entry)) (now (kernels .entry)) (now (heads .entry))
-        (now (closures .entry)) (now (nulls .entry)) (now (reaches .entry))
+        (now (closures .entry)) (now (nulls .entry)) (now (reaches .entry)) (now (places .entry))
         → PlansIn b (now (slots .entry)) (now (lists .entry))
         → TopSet b (now (slots .exit)) (now (lists .exit)) (now (inherited .entry)) (now (inherited .exit)) (now (synthesized .entry)) state kind states
         starts st) ⌝ }
@@ -57,6 +59,7 @@ pub fn set_top(
         closures,
         nulls,
         reaches,
+        places,
         state,
         kind,
         sets,

@@ -116,6 +116,7 @@ pub fn step(
     closures: &[u32],
     nulls: &[u32],
     reaches: &[u32],
+    places: &[u32],
     firsts: &[u32],
     down: &[u32],
     up: &[u32],
@@ -133,14 +134,14 @@ pub fn step(
 ) -> Moved
     requires { ⌜ Rooms (now states) (now inherited) (now synthesized) (now starts) (now rows) (now sets) ⌝ }
     requires { ⌜ ((b : Book) × (ks : List Token)
-        × RunIn b ks (now rules) count (now definitions) lines (now owned) (now kernels) (now heads) (now closures) (now nulls) (now reaches) (now firsts)
-        (now down) (now up) (now table) (now actions) (now tokens)
+        × RunIn b ks (now rules) count (now definitions) lines (now owned) (now kernels) (now heads) (now closures) (now nulls) (now reaches) (now places)
+        (now firsts) (now down) (now up) (now table) (now actions) (now tokens)
         × Message b ks
         × Underway b ks (now states) (now inherited) (now synthesized) (now starts) (now rows) (now slots) (now lists) top) ⌝ }
     ensures { λ r. ⌜ ((b : Book) (ks : List Token)
         → RunIn b ks (now (rules .entry)) count (now (definitions .entry)) lines (now (owned .entry)) (now (kernels .entry)) (now (heads .entry))
-        (now (closures .entry)) (now (nulls .entry)) (now (reaches .entry)) (now (firsts .entry)) (now (down .entry)) (now (up .entry)) (now (table .entry))
-        (now (actions .entry)) (now (tokens .entry))
+        (now (closures .entry)) (now (nulls .entry)) (now (reaches .entry)) (now (places .entry)) (now (firsts .entry)) (now (down .entry)) (now (up .entry))
+        (now (table .entry)) (now (actions .entry)) (now (tokens .entry))
         → Message b ks
         → Underway b ks (now (states .entry)) (now (inherited .entry)) (now (synthesized .entry)) (now (starts .entry)) (now (rows .entry))
         (now (slots .entry)) (now (lists .entry)) top
@@ -162,6 +163,7 @@ pub fn step(
         closures,
         nulls,
         reaches,
+        places,
         state,
         kind,
         depth,

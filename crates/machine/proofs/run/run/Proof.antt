@@ -16,15 +16,15 @@ use Rattle.machine.proofs.run.run.Statement.{statement}
 use Rattle.machine.proofs.run.run.Tie as tie
 
 abbrev Inv-loop : tie.InvT-loop
-Inv-loop rules count definitions lines owned kernels heads closures nulls reaches firsts down up table actions tokens =
+Inv-loop rules count definitions lines owned kernels heads closures nulls reaches places firsts down up table actions tokens =
     λ sets₀ slots₀ lists₀ states₀ inherited₀ synthesized₀ starts₀ rows₀ top₀ sets slots lists states inherited synthesized starts rows top.
     RoomsLeft (length slots₀) states inherited synthesized starts rows sets slots lists
     × ((b : Book) (ks : List Token)
-    → RunIn b ks rules count definitions lines owned kernels heads closures nulls reaches firsts down up table actions tokens → Message b ks
+    → RunIn b ks rules count definitions lines owned kernels heads closures nulls reaches places firsts down up table actions tokens → Message b ks
     → PlansIn b slots₀ lists₀ → Underway b ks states inherited synthesized starts rows slots lists top)
 
 abbrev μ-loop : tie.MeasureT-loop
-μ-loop rules count definitions lines owned kernels heads closures nulls reaches firsts down up table actions tokens =
+μ-loop rules count definitions lines owned kernels heads closures nulls reaches places firsts down up table actions tokens =
     λ sets₀ slots₀ lists₀ states₀ inherited₀ synthesized₀ starts₀ rows₀ top₀ sets slots lists states inherited synthesized starts rows top. 512 - top .rows
 
 -- from each place back to the one before
@@ -32,7 +32,7 @@ abbrev μ-loop : tie.MeasureT-loop
 abbrev entry : tie.After-slice-known8 Inv-loop μ-loop → tie.Start Inv-loop μ-loop
 entry c =
     c .before .before .before .before .before .before .before .before .before .before .before
-    .before .before .before .before .before .before .before .before .before .before .before
+    .before .before .before .before .before .before .before .before .before .before .before .before
 
 abbrev start : tie.At-loop Inv-loop μ-loop → tie.Start Inv-loop μ-loop
 start c = entry (c .before .before)
@@ -89,14 +89,14 @@ loop-again c =
     let a = on-at c in
     let l = loop-at a in (
       rooms-kept (l .loop .inv .0)
-          (a .step .kept .1 .1 .1 .1 .1 .1 .1 .1 .1 .1 .1 .1 .1 .1 .1 .1 .1 .1 .1 .1 .0)
           (a .step .kept .1 .1 .1 .1 .1 .1 .1 .1 .1 .1 .1 .1 .1 .1 .1 .1 .1 .1 .1 .1 .1 .0)
           (a .step .kept .1 .1 .1 .1 .1 .1 .1 .1 .1 .1 .1 .1 .1 .1 .1 .1 .1 .1 .1 .1 .1 .1 .0)
           (a .step .kept .1 .1 .1 .1 .1 .1 .1 .1 .1 .1 .1 .1 .1 .1 .1 .1 .1 .1 .1 .1 .1 .1 .1 .0)
           (a .step .kept .1 .1 .1 .1 .1 .1 .1 .1 .1 .1 .1 .1 .1 .1 .1 .1 .1 .1 .1 .1 .1 .1 .1 .1 .0)
-          (a .step .kept .1 .1 .1 .1 .1 .1 .1 .1 .1 .1 .1 .1 .1 .1 .1 .1 .1 .0)
+          (a .step .kept .1 .1 .1 .1 .1 .1 .1 .1 .1 .1 .1 .1 .1 .1 .1 .1 .1 .1 .1 .1 .1 .1 .1 .1 .1 .0)
           (a .step .kept .1 .1 .1 .1 .1 .1 .1 .1 .1 .1 .1 .1 .1 .1 .1 .1 .1 .1 .0)
-          (a .step .kept .1 .1 .1 .1 .1 .1 .1 .1 .1 .1 .1 .1 .1 .1 .1 .1 .1 .1 .1 .0),
+          (a .step .kept .1 .1 .1 .1 .1 .1 .1 .1 .1 .1 .1 .1 .1 .1 .1 .1 .1 .1 .1 .0)
+          (a .step .kept .1 .1 .1 .1 .1 .1 .1 .1 .1 .1 .1 .1 .1 .1 .1 .1 .1 .1 .1 .1 .0),
       λ b ks R M P. step-more (a .step .ensures b ks R M (l .loop .inv .1 b ks R M P)) (c .before .moved .given .1),
     )
 
@@ -107,49 +107,54 @@ same-length : tie.Need-same-length Inv-loop μ-loop
 same-length c =
     let a = stopped-at c in
     let l = loop-at a in
-    a .step .kept .1 .1 .1 .1 .1 .1 .1 .1 .1 .1 .1 .1 .1 .1 .1 .1 .1 .0 ∙ l .loop .inv .0 .rooms .sets-long ∙ sym (start l .pre .0 .0 .sets-long)
+    a .step .kept .1 .1 .1 .1 .1 .1 .1 .1 .1 .1 .1 .1 .1 .1 .1 .1 .1 .1 .0 ∙ l .loop .inv .0 .rooms .sets-long ∙ sym (start l .pre .0 .0 .sets-long)
 
 same-length-2 : tie.Need-same-length-2 Inv-loop μ-loop
 same-length-2 c =
     let a = stopped-at c in
     let l = loop-at a in
-    a .step .kept .1 .1 .1 .1 .1 .1 .1 .1 .1 .1 .1 .1 .1 .1 .1 .1 .1 .1 .0 ∙ l .loop .inv .0 .slots-long
+    a .step .kept .1 .1 .1 .1 .1 .1 .1 .1 .1 .1 .1 .1 .1 .1 .1 .1 .1 .1 .1 .0 ∙ l .loop .inv .0 .slots-long
 
 same-length-3 : tie.Need-same-length-3 Inv-loop μ-loop
 same-length-3 c =
     let a = stopped-at c in
     let l = loop-at a in
-    a .step .kept .1 .1 .1 .1 .1 .1 .1 .1 .1 .1 .1 .1 .1 .1 .1 .1 .1 .1 .1 .0 ∙ l .loop .inv .0 .lists-long ∙ sym (start l .pre .1 .4 .lists-long)
+    a .step .kept .1 .1 .1 .1 .1 .1 .1 .1 .1 .1 .1 .1 .1 .1 .1 .1 .1 .1 .1 .1 .0 ∙ l .loop .inv .0 .lists-long ∙ sym (start l .pre .1 .4 .lists-long)
 
 same-length-4 : tie.Need-same-length-4 Inv-loop μ-loop
 same-length-4 c =
     let a = stopped-at c in
     let l = loop-at a in
-    a .step .kept .1 .1 .1 .1 .1 .1 .1 .1 .1 .1 .1 .1 .1 .1 .1 .1 .1 .1 .1 .1 .0 ∙ l .loop .inv .0 .rooms .stacks .states-long ∙ sym (start l .pre .0 .0 .stacks .states-long)
+    a .step .kept .1 .1 .1 .1 .1 .1 .1 .1 .1 .1 .1 .1 .1 .1 .1 .1 .1 .1 .1 .1 .1 .0
+    ∙ l .loop .inv .0 .rooms .stacks .states-long ∙ sym (start l .pre .0 .0 .stacks .states-long)
 
 same-length-5 : tie.Need-same-length-5 Inv-loop μ-loop
 same-length-5 c =
     let a = stopped-at c in
     let l = loop-at a in
-    a .step .kept .1 .1 .1 .1 .1 .1 .1 .1 .1 .1 .1 .1 .1 .1 .1 .1 .1 .1 .1 .1 .1 .0 ∙ l .loop .inv .0 .rooms .cells-long ∙ sym (start l .pre .0 .0 .cells-long)
+    a .step .kept .1 .1 .1 .1 .1 .1 .1 .1 .1 .1 .1 .1 .1 .1 .1 .1 .1 .1 .1 .1 .1 .1 .0
+    ∙ l .loop .inv .0 .rooms .cells-long ∙ sym (start l .pre .0 .0 .cells-long)
 
 same-length-6 : tie.Need-same-length-6 Inv-loop μ-loop
 same-length-6 c =
     let a = stopped-at c in
     let l = loop-at a in
-    a .step .kept .1 .1 .1 .1 .1 .1 .1 .1 .1 .1 .1 .1 .1 .1 .1 .1 .1 .1 .1 .1 .1 .1 .0 ∙ l .loop .inv .0 .rooms .stacks .synthesized-long ∙ sym (start l .pre .0 .0 .stacks .synthesized-long)
+    a .step .kept .1 .1 .1 .1 .1 .1 .1 .1 .1 .1 .1 .1 .1 .1 .1 .1 .1 .1 .1 .1 .1 .1 .1 .0
+    ∙ l .loop .inv .0 .rooms .stacks .synthesized-long ∙ sym (start l .pre .0 .0 .stacks .synthesized-long)
 
 same-length-7 : tie.Need-same-length-7 Inv-loop μ-loop
 same-length-7 c =
     let a = stopped-at c in
     let l = loop-at a in
-    a .step .kept .1 .1 .1 .1 .1 .1 .1 .1 .1 .1 .1 .1 .1 .1 .1 .1 .1 .1 .1 .1 .1 .1 .1 .0 ∙ l .loop .inv .0 .rooms .stacks .starts-long ∙ sym (start l .pre .0 .0 .stacks .starts-long)
+    a .step .kept .1 .1 .1 .1 .1 .1 .1 .1 .1 .1 .1 .1 .1 .1 .1 .1 .1 .1 .1 .1 .1 .1 .1 .1 .0
+    ∙ l .loop .inv .0 .rooms .stacks .starts-long ∙ sym (start l .pre .0 .0 .stacks .starts-long)
 
 same-length-8 : tie.Need-same-length-8 Inv-loop μ-loop
 same-length-8 c =
     let a = stopped-at c in
     let l = loop-at a in
-    a .step .kept .1 .1 .1 .1 .1 .1 .1 .1 .1 .1 .1 .1 .1 .1 .1 .1 .1 .1 .1 .1 .1 .1 .1 .1 .0 ∙ l .loop .inv .0 .rooms .stacks .rows-long ∙ sym (start l .pre .0 .0 .stacks .rows-long)
+    a .step .kept .1 .1 .1 .1 .1 .1 .1 .1 .1 .1 .1 .1 .1 .1 .1 .1 .1 .1 .1 .1 .1 .1 .1 .1 .1 .0
+    ∙ l .loop .inv .0 .rooms .stacks .rows-long ∙ sym (start l .pre .0 .0 .stacks .rows-long)
 
 returns : tie.Need-returns Inv-loop μ-loop
 returns c = λ b ks R M P.

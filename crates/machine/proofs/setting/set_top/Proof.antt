@@ -9,7 +9,7 @@ use Rattle.machine.proofs.setting.set_top.Tie as tie
 -- from each call back to the one before
 
 abbrev start : tie.After-planned-arg3 → tie.Start
-start c = c .before .before .before .before .before .before .before .before .before .before .before .before .before .before .before .before
+start c = c .before .before .before .before .before .before .before .before .before .before .before .before .before .before .before .before .before
 
 abbrev planned-at : tie.After-slice-known7 → tie.After-planned
 planned-at c = c .before .before .before .before .before .before

@@ -11,7 +11,7 @@ use Rattle.machine.proofs.step.step.Tie as tie
 abbrev start : tie.After-struct-known → tie.Start
 start c =
     c .before .before .before .before .before .before .before .before .before .before .before
-    .before .before .before .before .before .before .before .before .before .before .before .before
+    .before .before .before .before .before .before .before .before .before .before .before .before .before
 
 abbrev entry : tie.After-number → tie.Start
 entry c = start (c .before .before .before)
@@ -65,24 +65,24 @@ advance-requires c κs =
     let (b, ks, R, M, U) = entry n .pre .1 in
     let s = n .before .word .ensures in
     let k = n .number .ensures in (
-      (L .stacks, t .set-top .kept .1 .1 .1 .1 .1 .1 .1 .1 .1 .1 .1 .1 .1 .1 .1 .1 .0 ∙ L .cells-long),
+      (L .stacks, t .set-top .kept .1 .1 .1 .1 .1 .1 .1 .1 .1 .1 .1 .1 .1 .1 .1 .1 .1 .0 ∙ L .cells-long),
       (b, ks, U .at, run-moves R M U, run-poised R M U s k (t .set-top .ensures), run-facing R M U s k (v .number2 .ensures)),
     )
 
 same-length : tie.Need-same-length
-same-length c = value-at (advanced c .before .before .before .before .before .before) .set-top .kept .1 .1 .1 .1 .1 .1 .1 .1 .1 .1 .1 .1 .1 .0
+same-length c = value-at (advanced c .before .before .before .before .before .before) .set-top .kept .1 .1 .1 .1 .1 .1 .1 .1 .1 .1 .1 .1 .1 .1 .0
 
 same-length-2 : tie.Need-same-length-2
-same-length-2 c = value-at (advanced c .before .before .before .before .before .before) .set-top .kept .1 .1 .1 .1 .1 .1 .1 .1 .1 .1 .1 .1 .1 .1 .0
+same-length-2 c = value-at (advanced c .before .before .before .before .before .before) .set-top .kept .1 .1 .1 .1 .1 .1 .1 .1 .1 .1 .1 .1 .1 .1 .1 .0
 
 same-length-3 : tie.Need-same-length-3
-same-length-3 c = value-at (advanced c .before .before .before .before .before .before) .set-top .kept .1 .1 .1 .1 .1 .1 .1 .1 .1 .1 .1 .1 .1 .1 .1 .0
+same-length-3 c = value-at (advanced c .before .before .before .before .before .before) .set-top .kept .1 .1 .1 .1 .1 .1 .1 .1 .1 .1 .1 .1 .1 .1 .1 .1 .0
 
 same-length-4 : tie.Need-same-length-4
 same-length-4 c = advanced c .advance .kept .1 .1 .1 .1 .1 .1 .1 .1 .1 .1 .1 .0
 
 same-length-5 : tie.Need-same-length-5
-same-length-5 c = value-at (advanced c .before .before .before .before .before .before) .set-top .kept .1 .1 .1 .1 .1 .1 .1 .1 .1 .1 .1 .1 .1 .1 .1 .1 .0
+same-length-5 c = value-at (advanced c .before .before .before .before .before .before) .set-top .kept .1 .1 .1 .1 .1 .1 .1 .1 .1 .1 .1 .1 .1 .1 .1 .1 .1 .0
 
 same-length-6 : tie.Need-same-length-6
 same-length-6 c = advanced c .advance .kept .1 .1 .1 .1 .1 .1 .1 .1 .1 .1 .1 .1 .1 .0

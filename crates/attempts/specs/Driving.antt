@@ -6,11 +6,15 @@ use mathlib.Core.Option.{some}
 use lib.ListN.{length, replicate}
 use Rattle.grammar.specs.Limits.{PAGE-WORDS}
 use Rattle.grammar.specs.Data.Book.{Book as Lines}
+use Rattle.grammar.specs.Formulas.FormulaCheck as grammar
 use Rattle.grammar.specs.Evaluator.Tree.{Token}
 use Rattle.grammar.specs.Engine.{tokensOf}
 use Rattle.book.specs.declared.Book.{Book}
 use Rattle.conditions.specs.AskedLaws.{counted}
-use Rattle.plans.specs.Plans.{PlansIn, StatesHeld}
+use Rattle.attributes.specs.Checking.{CheckHeld}
+use Rattle.agreement.specs.OneFormula.{held-check}
+use Rattle.plans.specs.Idle.{PlacesIn}
+use Rattle.plans.specs.Plans.{PlansIn}
 use Rattle.plans.specs.PlansLaws.{plans-none}
 use Rattle.machine.specs.Moving.{Rooms, Driven}
 use Rattle.machine.specs.Running.{RunIn}
@@ -24,39 +28,35 @@ use Rattle.attempts.specs.Sides.{SidesIn}
 module _ {numbers : Book} {inherited synthesized rules definitions kernels goes : List ℕ} {vanishes begins reached starts closures table actions : List ℕ}
     {b : Lines} (h : TakenBook numbers inherited synthesized rules definitions kernels goes vanishes begins reached starts closures table actions b)
     {own firsts down up : List ℕ} (s : SidesIn b definitions own firsts down up) where
-  pub driven : Driven b rules (numbers .rules) definitions (numbers .«inherited_definitions») own kernels starts closures vanishes reached table
-  driven = record {
-    book-in = record {
-      spelled = h .spelled;
-      sound = h .sound;
-      rules-in = h .ready .arrays-in .rules-in;
-      definitions-in = h .ready .arrays-in .definitions-in;
-      table-in = h .ready .tables-in .table-in;
-    };
-    plans-held = record {
-      firsts = begins;
-      terminals = numbers .terminals;
-      states = numbers .states;
-      formulas-held = asked-formulas (h .ready);
-      owned-in = s .owned-in;
-    };
-  }
+  -- as the places of the definitions ask for it
+  pub places-asked : CheckHeld b definitions rules own (replicate 576 0)
+  places-asked = held-check (asked-formulas (h .ready)) (s .owned-in) (zeros 576)
 
-  -- as the plans of idle states ask for it
-  pub states-held : StatesHeld b definitions (numbers .«inherited_definitions») rules kernels starts closures (numbers .states)
-  states-held = record {
-    count = numbers .rules;
-    owned = own;
-    nulls = vanishes;
-    reaches = reached;
-    plans-held = driven .plans-held;
-    states-are = asked-formulas (h .ready) .states-are;
-  }
+  -- and with them
+  module _ {places : List ℕ} (L : PlacesIn b (grammar.definitions b) places) where
+    driven : Driven b rules (numbers .rules) definitions (numbers .«inherited_definitions») own kernels starts closures vanishes reached places table
+    driven = record {
+      book-in = record {
+        spelled = h .spelled;
+        sound = h .sound;
+        rules-in = h .ready .arrays-in .rules-in;
+        definitions-in = h .ready .arrays-in .definitions-in;
+        table-in = h .ready .tables-in .table-in;
+      };
+      plans-held = record {
+        firsts = begins;
+        terminals = numbers .terminals;
+        states = numbers .states;
+        formulas-held = asked-formulas (h .ready);
+        owned-in = s .owned-in;
+        places-in = L;
+      };
+    }
 
-  pub run-in : {tokens : List ℕ} {ks : List Token} → tokensOf tokens ≡ some ks
-      → RunIn b ks rules (numbers .rules) definitions (numbers .«inherited_definitions») own kernels starts closures vanishes reached firsts down up table
-      actions tokens
-  run-in e = record { driven = driven; left-in = s .left-in; actions-in = h .ready .tables-in .actions-in; tokens-in = e }
+    pub run-in : {tokens : List ℕ} {ks : List Token} → tokensOf tokens ≡ some ks
+        → RunIn b ks rules (numbers .rules) definitions (numbers .«inherited_definitions») own kernels starts closures vanishes reached places firsts down up
+        table actions tokens
+    run-in e = record { driven = driven; left-in = s .left-in; actions-in = h .ready .tables-in .actions-in; tokens-in = e }
 
 module _ {numbers : Book} {inherited synthesized rules definitions kernels goes : List ℕ} {vanishes begins reached starts closures table actions : List ℕ}
     {b : Lines} (h : TakenBook numbers inherited synthesized rules definitions kernels goes vanishes begins reached starts closures table actions b) where

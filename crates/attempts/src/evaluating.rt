@@ -24,7 +24,7 @@ use compiler::compile::compile;
 use machine::run::Outcome;
 use machine::run::run;
 use packing::packing::clear;
-use plans::memory::plan_idle;
+use plans::idle::mark_places;
 use text::classes;
 
 // Words of all rows.
@@ -94,18 +94,15 @@ fn message(
         &mut down,
         &mut up,
     );
-    let mut sets = [0u32; 576];
-    let mut slots = [0u8; 4096];
-    plan_idle(
+    let mut places = [0u32; 608];
+    mark_places(
         definitions,
         book.inherited_definitions as usize,
         rules,
-        kernels,
-        starts,
-        lookaheads,
-        book.states as usize,
-        &mut slots,
+        &mut places,
     );
+    let mut sets = [0u32; 576];
+    let mut slots = [0u8; 4096];
     let mut lists = [0u8; 4336];
     let mut states = [0u32; 129];
     let mut cells = [0u32; 2064];
@@ -122,6 +119,7 @@ fn message(
         lookaheads,
         vanishes,
         reached,
+        &places,
         &firsts,
         &down,
         &up,

@@ -1,8 +1,8 @@
--- `evaluating::message` meets its contract: the machine is asked with empty stacks, and the plans of idle states. Assumes nothing.
+-- `evaluating::message` meets its contract: the machine is asked with empty stacks, no plans, and the places of the definitions. Assumes nothing.
 use mathlib.Core.Path.{refl}
-use native.Mathlib.Omega.{arith}
+use Rattle.compiler.specs.Compiling.{asked-formulas}
 use Rattle.attempts.specs.Sides.{asked-sides}
-use Rattle.attempts.specs.Driving.{states-held, run-in, tokens-of, plans-of, run-room}
+use Rattle.attempts.specs.Driving.{places-asked, run-in, tokens-of, plans-of, run-room}
 use borrow.Author.Needs.{needs}
 use Rattle.attempts.proofs.evaluating.message.Statement.{statement}
 use Rattle.attempts.proofs.evaluating.message.Tie as tie
@@ -14,11 +14,11 @@ sides-start c =
     c .before .before .before .before .before .before .before .before .before .before .before
     .before .before .before .before .before .before .before .before
 
-abbrev sides-at : tie.After-slots → tie.After-fill-sides
-sides-at c = c .before .before .before .before .before .before .before
+abbrev sides-at : tie.After-places → tie.After-fill-sides
+sides-at c = c .before .before .before .before .before .before
 
-abbrev planned-at : tie.After-run-arg → tie.After-plan-idle
-planned-at c = c .before .before .before .before .before .before .before .before .before .before .before .before .before
+abbrev marked-at : tie.After-run-arg → tie.After-mark-places
+marked-at c = c .before .before .before .before .before .before .before .before .before .before .before .before .before .before
 
 slice-aggregate-fill-sides : tie.Need-slice-aggregate-fill-sides
 slice-aggregate-fill-sides c = search needs
@@ -36,20 +36,16 @@ fill-sides-requires : tie.Need-fill-sides-requires
 fill-sides-requires c κs = let s = sides-start c in
     ((s .pre .0 .0, asked-sides (s .pre .0 .1 .ready)), (refl, refl, refl, refl))
 
-cast-plan-idle : tie.Need-cast-plan-idle
-cast-plan-idle c = search needs
+cast-mark-places : tie.Need-cast-mark-places
+cast-mark-places c = search needs
 
-cast-plan-idle-2 : tie.Need-cast-plan-idle-2
-cast-plan-idle-2 c = search needs
+slice-aggregate-mark-places : tie.Need-slice-aggregate-mark-places
+slice-aggregate-mark-places c = search needs
 
-slice-aggregate-plan-idle : tie.Need-slice-aggregate-plan-idle
-slice-aggregate-plan-idle c = search needs
-
-plan-idle-requires : tie.Need-plan-idle-requires
-plan-idle-requires c κs = let o = sides-at c in
+mark-places-requires : tie.Need-mark-places-requires
+mark-places-requires c κs = let o = sides-at c in
     let (b, t) = sides-start (o .before) .pre .0 in
-    let held = states-held t (o .fill-sides .ensures b (asked-sides (t .ready))) in
-    ((b, held), omega (arith, plans-of t .slots-long, held .states-are))
+    ((b, _, _, places-asked t (o .fill-sides .ensures b (asked-sides (t .ready))), asked-formulas (t .ready) .definitions-counted), refl)
 
 slice-aggregate-run : tie.Need-slice-aggregate-run
 slice-aggregate-run c = search needs
@@ -84,15 +80,19 @@ slice-aggregate-run-10 c = search needs
 slice-aggregate-run-11 : tie.Need-slice-aggregate-run-11
 slice-aggregate-run-11 c = search needs
 
+slice-aggregate-run-12 : tie.Need-slice-aggregate-run-12
+slice-aggregate-run-12 c = search needs
+
 run-requires : tie.Need-run-requires
-run-requires c κs = let p = planned-at c in
+run-requires c κs = let p = marked-at c in
     let o = sides-at (p .before) in
     let s = sides-start (o .before) in
     let (b, t) = s .pre .0 in
     let m = s .pre .1 .0 in
-    let sides = o .fill-sides .ensures b (asked-sides (t .ready)) in (
+    let sides = o .fill-sides .ensures b (asked-sides (t .ready)) in
+    let places = p .mark-places .ensures b _ _ (places-asked t sides) (asked-formulas (t .ready) .definitions-counted) in (
       (run-room (s .pre .1 .1), s .pre .1 .1),
-      (b, m .list, run-in t sides (m .tokens-are), tokens-of t m, p .plan-idle .ensures b _ (states-held t sides) (plans-of t)),
+      (b, m .list, run-in t sides places (m .tokens-are), tokens-of t m, plans-of t),
     )
 
 same-length : tie.Need-same-length
@@ -100,11 +100,10 @@ same-length c = search needs
 
 returns : tie.Need-returns
 returns c = λ b t m. let k = c .before .before .before .before .before .before .before .before .before in
-    let p = planned-at (k .before) in
-    let o = sides-at (p .before) in
-    let sides = o .fill-sides .ensures b (asked-sides (t .ready)) in
-    k .run .ensures b (m .list) (run-in t sides (m .tokens-are)) (tokens-of t m)
-    (p .plan-idle .ensures b _ (states-held t sides) (plans-of t))
+    let p = marked-at (k .before) in
+    let sides = sides-at (p .before) .fill-sides .ensures b (asked-sides (t .ready)) in
+    let places = p .mark-places .ensures b _ _ (places-asked t sides) (asked-formulas (t .ready) .definitions-counted) in
+    k .run .ensures b (m .list) (run-in t sides places (m .tokens-are)) (tokens-of t m) (plans-of t)
 
 pub message-spec : {M : Type 1} → statement M
 message-spec =
@@ -115,10 +114,9 @@ message-spec =
     slice-aggregate-fill-sides-3
     slice-aggregate-fill-sides-4
     fill-sides-requires
-    cast-plan-idle
-    cast-plan-idle-2
-    slice-aggregate-plan-idle
-    plan-idle-requires
+    cast-mark-places
+    slice-aggregate-mark-places
+    mark-places-requires
     slice-aggregate-run
     slice-aggregate-run-2
     slice-aggregate-run-3
@@ -130,6 +128,7 @@ message-spec =
     slice-aggregate-run-9
     slice-aggregate-run-10
     slice-aggregate-run-11
+    slice-aggregate-run-12
     run-requires
     same-length
     returns)

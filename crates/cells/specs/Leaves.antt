@@ -10,15 +10,15 @@ use Rattle.formulas.specs.declared.nodes.Leaf.{Leaf}
 use Rattle.formulas.specs.declared.nodes.Leaf.the-variants.{Attribute, TokenValue}
 use Rattle.cells.specs.Frames.{cellValue, recordValue, tokenWord}
 
--- the two stacks have room for 129 cells and 128 records
-pub record Room (inherited synthesized : List ℕ) : Type 0 where
-  pub cells-long : length inherited ≡ 2064
-  pub records-long : length synthesized ≡ 4224
+-- the two stacks have room for `height` symbols and the top cell
+pub record Room (height : ℕ) (inherited synthesized : List ℕ) : Type 0 where
+  pub cells-long : 16 * height + 16 ≤ length inherited
+  pub records-long : 33 * height ≤ length synthesized
 
 -- the number n is that of a cell or a record of the stack
-abbrev pub Has : Stack → ℕ → Type 0
-Has Inherited n = n ≤ 128
-Has Synthesized n = n < 128
+abbrev pub Has : List ℕ → List ℕ → Stack → ℕ → Type 0
+Has inherited synthesized Inherited n = 16 * n + 16 ≤ length inherited
+Has inherited synthesized Synthesized n = 33 * n + 33 ≤ length synthesized
 
 -- the number of its words
 abbrev pub width : Stack → ℕ

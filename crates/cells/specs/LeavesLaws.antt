@@ -7,15 +7,15 @@ use lib.ListN.{length, getD, take, drop, length-take, length-drop}
 use lib.Seq.{getD-take, getD-drop}
 use Rattle.formulas.specs.declared.nodes.Stack.{Stack}
 use Rattle.formulas.specs.declared.nodes.Stack.the-variants.{Inherited, Synthesized}
-use Rattle.cells.specs.Leaves.{Room, Has, width, partOf, wordOf}
+use Rattle.cells.specs.Leaves.{Has, width, partOf, wordOf}
 
 part-word : (w n k : ℕ) (xs : List ℕ) → k < w → getD (take w (drop n xs)) k 0 ≡ getD xs (n + k) 0
 part-word w n k xs h = getD-take w (drop n xs) k 0 h ∙ getD-drop n xs k 0
 
-module _ {inherited synthesized : List ℕ} (R : Room inherited synthesized) where
-  pub part-long : (stack : Stack) (n : ℕ) → Has stack n → length (partOf stack inherited synthesized n) ≡ width stack
-  part-long Inherited n h = simp (length-take, length-drop) (omega (arith, R .cells-long))
-  part-long Synthesized n h = simp (length-take, length-drop) (omega (arith, R .records-long))
+pub part-long : (inherited synthesized : List ℕ) (stack : Stack) (n : ℕ) → Has inherited synthesized stack n
+    → length (partOf stack inherited synthesized n) ≡ width stack
+part-long inherited synthesized Inherited n h = simp (length-take, length-drop) (omega arith)
+part-long inherited synthesized Synthesized n h = simp (length-take, length-drop) (omega arith)
 
 pub part-at : (inherited synthesized : List ℕ) (stack : Stack) (n k : ℕ) → k < width stack
     → getD (partOf stack inherited synthesized n) k 0 ≡ wordOf stack inherited synthesized n k

@@ -28,7 +28,7 @@ fn set_attribute(
     inherited: &mut [u32],
     synthesized: &[u32],
 )
-    requires { ⌜ Room (now inherited) (now synthesized) × (height ≤ 128) × ((b : Book) × LineAsked b (now definitions) height line) ⌝ }
+    requires { ⌜ Room height (now inherited) (now synthesized) × ((b : Book) × LineAsked b (now definitions) height line) ⌝ }
     ensures { λ _. ⌜ ((b : Book) → LineAsked b (now (definitions .entry)) height line
         → now (inherited .exit) ≡ lineSet b (now (synthesized .entry)) height line (now (inherited .entry))) ⌝ }
 {
@@ -49,7 +49,7 @@ fn set_lines(
     inherited: &mut [u32],
     synthesized: &[u32],
 )
-    requires { ⌜ Room (now inherited) (now synthesized) × (height ≤ 128) × (from + count ≤ length (now plan)) ⌝ }
+    requires { ⌜ Room height (now inherited) (now synthesized) × (from + count ≤ length (now plan)) ⌝ }
     requires { ⌜ ((b : Book) × (lines : List ℕ) × PlanAsked b (now definitions) (now plan) from count height lines) ⌝ }
     ensures { λ _. ⌜ ((b : Book) (lines : List ℕ) → PlanAsked b (now (definitions .entry)) (now (plan .entry)) from count height lines
         → now (inherited .exit) ≡ linesSet b (now (synthesized .entry)) height lines (now (inherited .entry))) ⌝ }
@@ -72,7 +72,7 @@ pub fn set_cell(
     inherited: &mut [u32],
     synthesized: &[u32],
 )
-    requires { ⌜ Room (now inherited) (now synthesized) × (height ≤ 128) × (from + count ≤ length (now plan)) ⌝ }
+    requires { ⌜ Room height (now inherited) (now synthesized) × (from + count ≤ length (now plan)) ⌝ }
     requires { ⌜ ((b : Book) × (lines : List ℕ) × PlanAsked b (now definitions) (now plan) from count height lines) ⌝ }
     ensures { λ _. ⌜ ((b : Book) (lines : List ℕ) → PlanAsked b (now (definitions .entry)) (now (plan .entry)) from count height lines
         → now (inherited .exit) ≡ linesSet b (now (synthesized .entry)) height lines (cleared (16 * height) 16 (now (inherited .entry)))) ⌝ }

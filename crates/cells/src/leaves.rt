@@ -1,13 +1,13 @@
 // What leaves read on the two stacks.
 ghost use mathlib.Core.Path.{_≡_};
-ghost use Prim.Native.Nat.{_<_, _≤_};
+ghost use Prim.Native.Nat.{_<_};
 ghost use Rattle.cells.specs.Leaves.{Room, Has, width, partOf, wordOf, Readable, leafWord};
 use formulas::nodes::Leaf;
 use formulas::nodes::Stack;
 
 // The words of a cell of the inherited stack or of a record of the synthesized one.
 fn record<'a>(inherited: &'a [u32], synthesized: &'a [u32], stack: Stack, at: usize) -> &'a [u32]
-    requires { ⌜ Room (now inherited) (now synthesized) × Has stack at ⌝ }
+    requires { ⌜ Has (now inherited) (now synthesized) stack at ⌝ }
     ensures { λ r. ⌜ now r ≡ partOf stack (now (inherited .entry)) (now (synthesized .entry)) at ⌝ }
 {
     match stack {
@@ -23,7 +23,7 @@ fn record<'a>(inherited: &'a [u32], synthesized: &'a [u32], stack: Stack, at: us
 }
 
 fn word<'a>(inherited: &'a [u32], synthesized: &'a [u32], stack: Stack, at: usize, k: usize) -> u32
-    requires { ⌜ Room (now inherited) (now synthesized) × Has stack at × (k < width stack) ⌝ }
+    requires { ⌜ Has (now inherited) (now synthesized) stack at × (k < width stack) ⌝ }
     ensures { λ r. ⌜ r ≡ wordOf stack (now (inherited .entry)) (now (synthesized .entry)) at k ⌝ }
 {
     let r = record(inherited, synthesized, stack, at);
@@ -37,7 +37,7 @@ pub fn leaf_value<'a>(
     leaf: Leaf,
     height: usize,
 ) -> u32
-    requires { ⌜ Room (now inherited) (now synthesized) × (height ≤ 128) × Readable height leaf ⌝ }
+    requires { ⌜ Room height (now inherited) (now synthesized) × Readable height leaf ⌝ }
     ensures { λ r. ⌜ r ≡ leafWord (now (inherited .entry)) (now (synthesized .entry)) height leaf ⌝ }
 {
     match leaf {

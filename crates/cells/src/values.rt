@@ -58,7 +58,7 @@ fn step_value<'a>(
     stack: &[u32],
     top: usize,
 ) -> u32
-    requires { ⌜ Room (now inherited) (now synthesized) × (dot ≤ height) × (height ≤ 128) ⌝ }
+    requires { ⌜ Room height (now inherited) (now synthesized) × (dot ≤ height) ⌝ }
     requires { ⌜ Ready (MayRead dot) top (stepOf step) × (top ≤ length (now stack)) ⌝ }
     ensures { λ r. ⌜ r ≡ stepValue (placeIn (height - dot) (now (inherited .entry)) (now (synthesized .entry))) (now (stack .entry)) top (stepOf step) ⌝ }
 {
@@ -97,7 +97,7 @@ pub fn value<'a>(
     inherited: &'a [u32],
     synthesized: &'a [u32],
 ) -> u32
-    requires { ⌜ Room (now inherited) (now synthesized) × (dot ≤ height) × (height ≤ 128) ⌝ }
+    requires { ⌜ Room height (now inherited) (now synthesized) × (dot ≤ height) ⌝ }
     requires { ⌜ ((e : Expr) × Asked (now definitions) line dot e) ⌝ }
     ensures { λ r. ⌜ ((e : Expr) → Asked (now (definitions .entry)) line dot e
         → r ≡ eval e (placeIn (height - dot) (now (inherited .entry)) (now (synthesized .entry)))) ⌝ }

@@ -34,8 +34,8 @@ sub-dot c = search needs
 
 value-requires : tie.Need-value-requires
 value-requires c κs = let s = c .before .before .before .before .before in
-    let A = s .pre .2 .1 in
-    ((s .pre .0, rw (A .position-is) (A .deep), s .pre .1), (lineAt (s .pre .2 .0) (s .args .line) .expression, asked-at A))
+    let A = s .pre .1 .1 in
+    ((s .pre .0, rw (A .position-is) (A .deep)), (lineAt (s .pre .1 .0) (s .args .line) .expression, asked-at A))
 
 add-k : tie.Need-add-k
 add-k c = search needs

@@ -1,7 +1,7 @@
 -- `cells::set_lines` meets its contract: the loop keeps `SettingLines`, for every book and plan that the arrays hold.
 -- Assumes nothing.
 use Prim.Native.Nat.{ℕ, _+_, _-_}
-use mathlib.Core.Path.{_≡_, sym, ap, _∙_}
+use mathlib.Core.Path.{_≡_, refl, ap, _∙_}
 use mathlib.Core.List.{List}
 use native.Mathlib.Omega.{arith}
 use borrow.Author.Needs.{needs}
@@ -15,7 +15,7 @@ use Rattle.cells.proofs.cells.set_lines.Tie as tie
 abbrev Inv-loop : tie.InvT-loop
 Inv-loop definitions plan from count height inherited₀ synthesized i₀ inherited i =
     ((b : Book) (lines : List ℕ) → PlanAsked b definitions plan from count height lines → SettingLines b synthesized height lines inherited₀ inherited i)
-    × (length inherited ≡ 2064)
+    × (length inherited ≡ length inherited₀)
 
 abbrev μ-loop : tie.MeasureT-loop
 μ-loop definitions plan from count height inherited₀ synthesized i₀ inherited i = count - i
@@ -38,21 +38,23 @@ line-asked : (c : tie.In-loop Inv-loop μ-loop) {b : Book} {lines : List ℕ} �
 line-asked c A = rw (line-is c A) (A .line-asked _ (omega (arith, c .loop-test .taken, A .row-is .count-is)))
 
 loop-holds : tie.Need-loop-holds Inv-loop μ-loop
-loop-holds c = (λ b lines A. setting-start, c .before .before .before .before .pre .0 .0 .cells-long)
+loop-holds c = (λ b lines A. setting-start, refl)
 
 add-line : tie.Need-add-line Inv-loop μ-loop
 add-line c = search needs
 
 shared-slice-read-line : tie.Need-shared-slice-read-line Inv-loop μ-loop
-shared-slice-read-line c = omega (arith, entry (c .before .before) .pre .0 .2, c .before .loop-test .taken)
+shared-slice-read-line c = omega (arith, entry (c .before .before) .pre .0 .1, c .before .loop-test .taken)
 
 cast-line : tie.Need-cast-line Inv-loop μ-loop
 cast-line c = let s = entry (c .before .before) in omega (arith, c .shared-slice-known4 .given (s .args .from + c .before .before .loop .i) .fits)
 
 set-attribute-requires : tie.Need-set-attribute-requires Inv-loop μ-loop
 set-attribute-requires c κs = let s = entry (c .before .before .before) in (
-  record { cells-long = c .before .before .before .loop .inv .1; records-long = s .pre .0 .0 .records-long },
-  s .pre .0 .1,
+  record {
+    cells-long = omega (arith, c .before .before .before .loop .inv .1, s .pre .0 .0 .cells-long);
+    records-long = s .pre .0 .0 .records-long;
+  },
   (s .pre .1 .0, line-asked (c .before .before) (s .pre .1 .2)),
 )
 
@@ -74,7 +76,7 @@ loop-again c = (
 )
 
 same-length : tie.Need-same-length Inv-loop μ-loop
-same-length c = c .before .loop .inv .1 ∙ sym (entry (c .before) .pre .0 .0 .cells-long)
+same-length c = c .before .loop .inv .1
 
 returns : tie.Need-returns Inv-loop μ-loop
 returns c = λ b lines A. setting-end (c .before .loop .inv .0 b lines A) (omega (arith, c .loop-test .left, A .row-is .count-is))

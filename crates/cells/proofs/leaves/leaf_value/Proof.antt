@@ -14,15 +14,15 @@ use Rattle.cells.proofs.leaves.leaf_value.Tie as tie
 cell : (c : tie.After-enum-told)
     → (c .before .before .before .leaf .given .0 .1 .0 ≤ c .before .before .before .before .before .before .before .args .height)
     × (c .before .before .before .leaf .given .0 .1 .1 .0 < 16)
-cell c = rw (c .before .before .before .leaf .given .1, c .enum-told .given .1) at (c .before .before .before .before .before .before .before .pre .2)
+cell c = rw (c .before .before .before .leaf .given .1, c .enum-told .given .1) at (c .before .before .before .before .before .before .before .pre .1)
 
 attribute : (c : tie.After-enum-told2)
     → (c .before .before .before .leaf .given .0 .1 .0 < c .before .before .before .before .before .before .before .args .height)
     × (c .before .before .before .leaf .given .0 .1 .1 .0 < 32)
-attribute c = rw (c .before .before .before .leaf .given .1, c .enum-told2 .given .1) at (c .before .before .before .before .before .before .before .pre .2)
+attribute c = rw (c .before .before .before .leaf .given .1, c .enum-told2 .given .1) at (c .before .before .before .before .before .before .before .pre .1)
 
 token : (c : tie.After-enum-told4) → c .before .before .before .leaf2 .given .0 .1 .0 < c .before .before .before .before .before .before .before .args .height
-token c = rw (c .before .before .before .leaf2 .given .1, c .enum-told4 .given .1) at (c .before .before .before .before .before .before .before .pre .2)
+token c = rw (c .before .before .before .leaf2 .given .1, c .enum-told4 .given .1) at (c .before .before .before .before .before .before .before .pre .1)
 
 enum-known-leaf : tie.Need-enum-known-leaf
 enum-known-leaf c = search needs
@@ -40,7 +40,7 @@ sub-word : tie.Need-sub-word
 sub-word c = omega (arith, cell c .0)
 
 word-requires : tie.Need-word-requires
-word-requires c κs = let q = c .before .before .before .before .before .before .before in (q .pre .0, omega (arith, q .pre .1), cell c .1)
+word-requires c κs = let q = c .before .before .before .before .before .before .before in (omega (arith, q .pre .0 .cells-long), cell c .1)
 
 enum-told-2 : tie.Need-enum-told-2
 enum-told-2 c = search needs
@@ -57,7 +57,7 @@ add-word c = search needs
 word-requires-2 : tie.Need-word-requires-2
 word-requires-2 c κs =
     let q = c .before .before .before .before .before .before .before in
-    (q .pre .0, omega (arith, q .pre .1, attribute c .0), omega (arith, attribute c .1))
+    (omega (arith, q .pre .0 .records-long, attribute c .0), omega (arith, attribute c .1))
 
 enum-known-leaf-2 : tie.Need-enum-known-leaf-2
 enum-known-leaf-2 c = search needs
@@ -78,7 +78,7 @@ sub-word-5 : tie.Need-sub-word-5
 sub-word-5 c = omega (arith, token c)
 
 word-requires-3 : tie.Need-word-requires-3
-word-requires-3 c κs = let q = c .before .before .before .before .before .before .before in (q .pre .0, omega (arith, q .pre .1, token c), omega arith)
+word-requires-3 c κs = let q = c .before .before .before .before .before .before .before in (omega (arith, q .pre .0 .records-long, token c), omega arith)
 
 returns : tie.Need-returns
 returns c = let q = c .before .before .before .before .before .before .before .before in

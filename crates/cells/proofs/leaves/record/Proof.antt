@@ -1,18 +1,19 @@
 -- `leaves::record` meets its contract: each arm knows which stack it has.
 -- Assumes nothing.
-use Prim.Native.Nat.{_+_, _*_, _-_, _≤_, _<_}
+use Prim.Native.Nat.{_+_, _*_, _-_, _≤_}
 use mathlib.Core.Path.{_≡_}
 use native.Mathlib.Omega.{arith}
+use lib.ListN.{length}
 use borrow.Author.Needs.{needs}
 use Rattle.cells.proofs.leaves.record.Statement.{statement}
 use Rattle.cells.proofs.leaves.record.Tie as tie
 
 -- the number's bound, where the stack is known
-cell : (c : tie.After-enum-told) → c .before .before .args .at ≤ 128
-cell c = rw (c .enum-told .given .1) at (c .before .before .pre .1)
+cell : (c : tie.After-enum-told) → 16 * c .before .before .args .at + 16 ≤ length (c .before .before .args .inherited .now)
+cell c = rw (c .enum-told .given .1) at (c .before .before .pre)
 
-record-at : (c : tie.After-enum-told2) → c .before .before .args .at < 128
-record-at c = rw (c .enum-told2 .given .1) at (c .before .before .pre .1)
+record-at : (c : tie.After-enum-told2) → 33 * c .before .before .args .at + 33 ≤ length (c .before .before .args .synthesized .now)
+record-at c = rw (c .enum-told2 .given .1) at (c .before .before .pre)
 
 enum-told : tie.Need-enum-told
 enum-told c = search needs
@@ -33,7 +34,7 @@ part-result-start : tie.Need-part-result-start
 part-result-start c = search needs
 
 part-result-end : tie.Need-part-result-end
-part-result-end c = omega (arith, cell c, c .before .before .pre .0 .cells-long)
+part-result-end c = omega (arith, cell c)
 
 enum-told-2 : tie.Need-enum-told-2
 enum-told-2 c = search needs
@@ -54,7 +55,7 @@ part-result-start-2 : tie.Need-part-result-start-2
 part-result-start-2 c = search needs
 
 part-result-end-2 : tie.Need-part-result-end-2
-part-result-end-2 c = omega (arith, record-at c, c .before .before .pre .0 .records-long)
+part-result-end-2 c = omega (arith, record-at c)
 
 returns : tie.Need-returns
 returns c = let first = 16 * c .before .before .before .args .at in

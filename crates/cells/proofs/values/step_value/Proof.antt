@@ -38,7 +38,7 @@ enum-known-step-2 : tie.Need-enum-known-step-2
 enum-known-step-2 c = search needs
 
 leaf-value-requires : tie.Need-leaf-value-requires
-leaf-value-requires c κs = let q = c .before .before .before .before .before .before in (q .pre .0 .0, q .pre .0 .2, (q .pre .0 .1, own c))
+leaf-value-requires c κs = let q = c .before .before .before .before .before .before in (q .pre .0 .0, (q .pre .0 .1, own c))
 
 enum-known-step-3 : tie.Need-enum-known-step-3
 enum-known-step-3 c = search needs
@@ -49,7 +49,7 @@ sub-t18 c = at c .1
 leaf-value-requires-2 : tie.Need-leaf-value-requires-2
 leaf-value-requires-2 c κs =
     let q = c .before .before .before .before .before .before in
-    (q .pre .0 .0, q .pre .0 .2, (omega (arith, at c .0, at c .1, q .pre .0 .1), at c .2))
+    (q .pre .0 .0, (omega (arith, at c .0, at c .1, q .pre .0 .1), at c .2))
 
 enum-known-step-4 : tie.Need-enum-known-step-4
 enum-known-step-4 c = search needs
@@ -60,7 +60,7 @@ sub-t21 c = val c .1
 leaf-value-requires-3 : tie.Need-leaf-value-requires-3
 leaf-value-requires-3 c κs =
     let q = c .before .before .before .before .before .before in
-    (q .pre .0 .0, q .pre .0 .2, omega (arith, val c .0, val c .1, q .pre .0 .1))
+    (q .pre .0 .0, omega (arith, val c .0, val c .1, q .pre .0 .1))
 
 enum-known-step-5 : tie.Need-enum-known-step-5
 enum-known-step-5 c = search needs

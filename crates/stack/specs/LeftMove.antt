@@ -29,11 +29,11 @@ pub record LeftAsked (b : Book) (ks : List Token) (c : Config) (rules definition
   pub action-is : actionOf b c ≡ some (reduce P)
   pub few : length ks ≤ MAX-TOKENS
   pub rows-low : top .rows < 512
-  pub room : top .depth < 128 + getD rules (10 * P + 1) 0
+  pub room : top .depth < length starts + getD rules (10 * P + 1) 0
 
 module _ {b : Book} {ks : List Token} {c : Config} {rules definitions table firsts down up states inherited synthesized starts rows : List ℕ} {top : Top}
     {P : ℕ} (A : LeftAsked b ks c rules definitions table firsts down up states inherited synthesized starts rows top P) where
-  pub left-ready : RuleReady (A .book-in) (A .left-in) P ks states top
+  pub left-ready : RuleReady (A .book-in) (A .left-in) P ks states starts top
   left-ready = rule-ready (A .book-in) (A .left-in) P (A .config-in) (A .cell-in) (A .action-is)
 
   -- with the rule's size and its left side, read from their words
@@ -44,7 +44,7 @@ module _ {b : Book} {ks : List Token} {c : Config} {rules definitions table firs
     pub left-deep : n ≤ top .depth
     left-deep = omega (arith, same-size, left-ready .deep)
 
-    pub left-room : top .depth - n < 128
+    pub left-room : top .depth - n < length starts
     left-room = omega (arith, left-deep, A .room)
 
     pub left-owner : owner < 32
@@ -59,18 +59,19 @@ module _ {b : Book} {ks : List Token} {c : Config} {rules definitions table firs
     pub left-asked : NodeAsked b definitions firsts P n
     left-asked = rw size-is (left-ready .asked)
 
-    pub left-reducing : Stacks states synthesized starts rows → length inherited ≡ 2064 → Reducing top n owner down inherited up synthesized
+    pub left-reducing : Stacks states synthesized starts rows → length inherited ≡ 16 * length starts + 16
+        → Reducing top n owner down inherited up synthesized starts
     left-reducing L cells = record {
       deep = left-deep;
       room = omega (arith, A .room);
-      low = left-ready .depth-low;
+      low = omega (arith, left-ready .depth-low, L .starts-low);
       rows-low = A .rows-low;
-      down-in = gathers (A .left-in .down-in) left-owner (omega (arith, left-ready .depth-low, A .book-in .sound .limits .inherited-limit));
+      down-in = gathers (A .left-in .down-in) left-owner (omega (arith, left-room, A .book-in .sound .limits .inherited-limit));
       up-in = gathers (A .left-in .up-in) left-owner (omega (arith, left-room, L .synthesized-long, A .book-in .sound .limits .synthesized-limit));
     }
 
     pub left-pushed : {target start : ℕ} {fresh states′ synthesized′ starts′ rows′ : List ℕ} {next : Top} → Stacks states synthesized starts rows
-        → length inherited ≡ 2064
+        → length inherited ≡ 16 * length starts + 16
         → NodePushed top target P n owner start fresh down inherited up states synthesized starts rows states′ synthesized′ starts′ rows′ next
         → StartOf starts (top .depth - n) n (top .position) start → NodeValues b P (top .depth - n) inherited synthesized fresh
         → target ≡ getD table (64 * getD states (top .depth - n) 0 + (32 + owner)) 0

@@ -4,16 +4,17 @@ use mathlib.Core.Path.{_≡_}
 use mathlib.Core.List.{List}
 use native.Mathlib.Omega.{arith}
 use lib.ListN.{length, getD, set, replicate}
+use Rattle.grammar.specs.Limits.{MAX-STACK}
 use Rattle.stack.specs.declared.top.Top.{Top}
 use Rattle.stack.specs.Lists.{Gathers, gathered}
 use Rattle.stack.specs.Page.{tokenStored, nodeStored}
 use Rattle.stack.specs.Records.{Stored}
 
--- the arrays that a move changes, but for the cells
+-- the arrays that a move changes, but for the cells: room for as many symbols as there are starts
 pub record Stacks (states synthesized starts rows : List ℕ) : Type 0 where
-  pub states-long : length states ≡ 129
-  pub synthesized-long : length synthesized ≡ 4224
-  pub starts-long : length starts ≡ 128
+  pub starts-low : length starts ≤ MAX-STACK
+  pub states-long : length states ≡ length starts + 1
+  pub synthesized-long : length synthesized ≡ 33 * length starts
   pub rows-long : length rows ≡ 5120
 
 -- a token, over a stack of as many symbols as the top says
@@ -28,10 +29,10 @@ pub record TokenPushed (top : Top) (target kind value : ℕ) (states synthesized
   pub position-is : next .position ≡ top .position + 1
 
 -- a rule and the number of its right symbols, its left side's attributes, and where the run goes
-pub record Reducing (top : Top) (size owner : ℕ) (down inherited up synthesized : List ℕ) : Type 0 where
+pub record Reducing (top : Top) (size owner : ℕ) (down inherited up synthesized starts : List ℕ) : Type 0 where
   pub deep : size ≤ top .depth
-  pub room : top .depth < 128 + size
-  pub low : top .depth ≤ 128
+  pub room : top .depth < length starts + size
+  pub low : top .depth ≤ MAX-STACK
   pub rows-low : top .rows < 512
   pub down-in : Gathers down owner inherited (16 * (top .depth - size))
   pub up-in : Gathers up owner synthesized (33 * (top .depth - size) + 1)

@@ -5,9 +5,9 @@ use mathlib.Core.Option.{some}
 use mathlib.Core.List.{List, [], _∷_, _++_}
 use native.Mathlib.Omega.{arith}
 use native.Mathlib.Decide.{decLt}
-use lib.ListN.{length, getD, set, length-append}
+use lib.ListN.{length, getD, set, length-append, length-set}
 use lib.Seq.{getD-set-same, getD-set-other}
-use Rattle.grammar.specs.Limits.{MAX-OWNED, MAX-RULES, MAX-ROWS, MAX-STACK}
+use Rattle.grammar.specs.Limits.{MAX-OWNED, MAX-RULES, MAX-ROWS}
 use Rattle.grammar.specs.Data.Symbol.{nonterminal, leftOf, rightOf}
 use Rattle.grammar.specs.Data.Term.{Leaves, in-number, eval}
 use Rattle.grammar.specs.Data.Book.{Book, ownerAt, synthesizedExpr}
@@ -109,15 +109,15 @@ module _ {b : Book} {rules definitions table firsts down up : List ℕ} (B : Boo
 
     -- ---- the words after the push
 
-    module _ (room : length st < MAX-STACK + size) (line : length rs < MAX-ROWS) {target owner start : ℕ} {fresh : List ℕ} {next : Top}
-        {states′ synthesized′ starts′ rows′ : List ℕ} (L : Stacks states synthesized starts rows) (cells : length inherited ≡ 2064)
+    module _ (room : length st < length starts + size) (line : length rs < MAX-ROWS) {target owner start : ℕ} {fresh : List ℕ} {next : Top}
+        {states′ synthesized′ starts′ rows′ : List ℕ} (L : Stacks states synthesized starts rows) (cells : length inherited ≡ 16 * length starts + 16)
         (push : NodePushed top target P size owner start fresh down inherited up states synthesized starts rows states′ synthesized′ starts′ rows′ next)
         (owner-is : owner ≡ leftOf (b .rules) P) (start-is : start ≡ taken-off .start) (fresh-in : NodeValues b P low inherited synthesized fresh) where
       low-is : top .depth - size ≡ low
       unfolding low
       low-is = ap (λ n. n - size) (C .depth-is)
 
-      low-room : low < 128
+      low-room : low < length starts
       unfolding low
       low-room = omega (arith, reduce-deep)
 
@@ -170,7 +170,7 @@ module _ {b : Book} {rules definitions table firsts down up : List ℕ} (B : Boo
         state-is = rw states-are (getD-set-other states (low + 1) low target 0 (λ q. omega arith) ∙ taken-off .state-is);
         cell-is = taken-off .cell-is;
         result-is = result-next;
-        start-is = rw starts-are (getD-set-same starts low (taken-off .start) 0 (omega (arith, L .starts-long, low-room)));
+        start-is = rw starts-are (getD-set-same starts low (taken-off .start) 0 (omega (arith, low-room)));
       }
 
       frame-there : FrameIn states′ inherited synthesized′ starts′ (taken-off .state) (taken-off .cell) (values leftValues) (taken-off .start)
@@ -200,7 +200,7 @@ module _ {b : Book} {rules definitions table firsts down up : List ℕ} (B : Boo
         depth-is = push .depth-is ∙ omega (arith, low-is, taken-off .below-long);
         count-is = push .count-is ∙ omega (arith, C .count-is, length-append rs (rowOfNode b P (taken-off .start) (taken-off .cell) leftValues ∷ []));
         position-is = push .position-is ∙ C .position-is;
-        depth-low = omega (arith, low-room, taken-off .below-long);
+        depth-low = omega (arith, low-room, taken-off .below-long, ap length starts-are, length-set starts low (taken-off .start));
         count-low = rw length-append (omega arith);
         position-low = C .position-low;
         path = above path-off go;
@@ -209,13 +209,13 @@ module _ {b : Book} {rules definitions table firsts down up : List ℕ} (B : Boo
   -- ---- the move
 
   -- the words of the rule, and the state that its right side leaves on top
-  pub record RuleReady (ks : List Token) (states : List ℕ) (top : Top) : Type 0 where
+  pub record RuleReady (ks : List Token) (states starts : List ℕ) (top : Top) : Type 0 where
     pub rule-low : P < MAX-RULES
     pub size-is : getD rules (10 * P + 1) 0 ≡ size
     pub owner-is : getD rules (10 * P) 0 ≡ leftOf (b .rules) P
     pub owner-low : getD rules (10 * P) 0 < 32
     pub deep : size ≤ top .depth
-    pub depth-low : top .depth ≤ 128
+    pub depth-low : top .depth ≤ length starts
     pub position-low : top .position ≤ length ks
     pub state-there : getD states (top .depth - size) 0 < b .states
     pub state-low : getD states (top .depth - size) 0 < 128
@@ -223,7 +223,7 @@ module _ {b : Book} {rules definitions table firsts down up : List ℕ} (B : Boo
 
   module _ {ks : List Token} {states inherited synthesized starts rows : List ℕ} {top : Top} where
     pub rule-ready : {c : Config} → ConfigIn b ks states inherited synthesized starts rows top c → CellIn b inherited c → actionOf b c ≡ some (reduce P)
-        → RuleReady ks states top
+        → RuleReady ks states starts top
     unfolding low
     rule-ready (stands {S = S} {z = z} C) s e =
         let x : Reduced (B .spelled) (B .sound) S (kind z) P = reduced (B .spelled) (B .sound) S (kind z) P e in
@@ -254,16 +254,16 @@ module _ {b : Book} {rules definitions table firsts down up : List ℕ} (B : Boo
         }
 
   module _ {ks : List Token} {states inherited synthesized starts rows : List ℕ} {top next : Top} {target owner start : ℕ} {fresh : List ℕ}
-      {states′ synthesized′ starts′ rows′ : List ℕ} (L : Stacks states synthesized starts rows) (cells : length inherited ≡ 2064)
+      {states′ synthesized′ starts′ rows′ : List ℕ} (L : Stacks states synthesized starts rows) (cells : length inherited ≡ 16 * length starts + 16)
       (push : NodePushed top target P size owner start fresh down inherited up states synthesized starts rows states′ synthesized′ starts′ rows′ next)
       (owner-is : owner ≡ leftOf (b .rules) P) (start-of : StartOf starts (top .depth - size) size (top .position) start)
       (fresh-in : NodeValues b P (top .depth - size) inherited synthesized fresh)
       (target-is : target ≡ getD table (64 * getD states (top .depth - size) 0 + (32 + owner)) 0) where
     pub reduce-on : {c : Config} → ConfigIn b ks states inherited synthesized starts rows top c → CellIn b inherited c
-        → actionOf b c ≡ some (reduce P) → top .depth < 128 + size → top .rows < 512 → GoesOn b ks c states′ inherited synthesized′ starts′ rows′ next
+        → actionOf b c ≡ some (reduce P) → top .depth < length starts + size → top .rows < 512 → GoesOn b ks c states′ inherited synthesized′ starts′ rows′ next
     unfolding low
     reduce-on (stands {st = st} {S = S} {p = p} {z = z} {rs = rs} C) s e h l =
-        let room : length st < MAX-STACK + size = omega (arith, C .depth-is) in
+        let room : length st < length starts + size = omega (arith, C .depth-is) in
         let line : length rs < MAX-ROWS = omega (arith, C .count-is) in
         let (M, g) = reduce-goes (B .spelled) (B .sound) (kind z) (cell (tablesOf b) S (kind z) st) p (C .path) e (off .popped-is) in
         let place : 64 * getD states (top .depth - size) 0 + (32 + owner) ≡ 64 * off .state + symbolCode (nonterminal (leftOf (b .rules) P)) =
@@ -274,7 +274,7 @@ module _ {b : Book} {rules definitions table firsts down up : List ℕ} (B : Boo
         let go : tablesOf b .go (off .state) (nonterminal (leftOf (b .rules) P)) ≡ some target = g ∙ ap some same in
         record {
           then = reducedTo C e s target;
-          moves = moves.reduce-moves b (tablesOf b) st z p rs e (off .below) (off .popped-is) go line room;
+          moves = moves.reduce-moves b (tablesOf b) st z p rs e (off .below) (off .popped-is) go line (omega (arith, room, L .starts-low));
           holds = stands (reduce-stands C e s room line L cells push owner-is (start-by (decLt 0 size)) (rw low-is at fresh-in) go);
         }
       where

@@ -6,7 +6,7 @@ use mathlib.Core.Option.{Option}
 use mathlib.Core.List.{List, [], _∷_}
 use native.Mathlib.Omega.{arith}
 use lib.ListN.{length, getD, drop}
-use Rattle.grammar.specs.Limits.{MAX-ROWS, MAX-STACK, MAX-TOKENS}
+use Rattle.grammar.specs.Limits.{MAX-ROWS, MAX-TOKENS}
 use Rattle.grammar.specs.Data.Book.{Book}
 use Rattle.grammar.specs.Format.Ordered.{Spelled}
 use Rattle.grammar.specs.Automaton.States.{Action}
@@ -59,7 +59,7 @@ module _ (b : Book) (ks : List Token) (states inherited synthesized starts rows 
     pub depth-is : top .depth ≡ length st
     pub count-is : top .rows ≡ length rs
     pub position-is : top .position ≡ p
-    pub depth-low : length st ≤ MAX-STACK
+    pub depth-low : length st ≤ length starts
     pub count-low : length rs ≤ MAX-ROWS
     pub position-low : p ≤ length ks
     pub path : Path (tablesOf b) S st

@@ -2,7 +2,7 @@
 // The contract asks that the arrays hold some book and a configuration of its machine, and says its statement of all that they hold.
 ghost use mathlib.Core.Path.{_≡_};
 ghost use mathlib.Core.List.{List};
-ghost use Prim.Native.Nat.{_<_};
+ghost use Prim.Native.Nat.{_+_, _*_, _<_};
 ghost use lib.ListN.{length};
 ghost use Rattle.grammar.specs.Data.Book.{Book};
 ghost use Rattle.grammar.specs.Evaluator.Tree.{Token};
@@ -42,7 +42,7 @@ pub fn put_left(
     starts: &mut [u32],
     rows: &mut [u32],
 ) -> Top
-    requires { ⌜ Stacks (now states) (now synthesized) (now starts) (now rows) × (length (now inherited) ≡ 2064) ⌝ }
+    requires { ⌜ Stacks (now states) (now synthesized) (now starts) (now rows) × (length (now inherited) ≡ 16 * length (now starts) + 16) ⌝ }
     requires { ⌜ ((b : Book) × (ks : List Token) × (c : Config) × LeftAsked b ks c (now rules) (now definitions) (now table) (now firsts) (now down) (now up)
         (now states) (now inherited) (now synthesized) (now starts) (now rows) top rule) ⌝ }
     ensures { λ r. ⌜ ((b : Book) (ks : List Token) (c : Config)

@@ -1,5 +1,6 @@
 // A push: the state, the record, the start and the row of a symbol. The cell under it is set before.
 ghost use Prim.Native.Nat.{_<_};
+ghost use lib.ListN.{length};
 ghost use Rattle.stack.specs.Pushes.{Stacks, TokenPushed, Reducing, NodePushed};
 ghost use Rattle.stack.specs.PutValues.{Putting, leftRecord};
 use super::records::node_record;
@@ -20,7 +21,7 @@ pub fn push_token(
     rows: &mut [u32],
 ) -> Top
     requires { ⌜ Stacks (now states) (now synthesized) (now starts) (now rows) ⌝ }
-    requires { ⌜ (top .depth < 128) × (top .rows < 512) × (top .position < 255) × (kind < 32) ⌝ }
+    requires { ⌜ (top .depth < length (now starts)) × (top .rows < 512) × (top .position < 255) × (kind < 32) ⌝ }
     ensures { λ r. ⌜ TokenPushed top target kind value (now (states .entry)) (now (synthesized .entry)) (now (starts .entry)) (now (rows .entry))
         (now (states .exit)) (now (synthesized .exit)) (now (starts .exit)) (now (rows .exit)) r ⌝ }
 {
@@ -53,7 +54,7 @@ pub fn push_node(
     rows: &mut [u32],
 ) -> Top
     requires { ⌜ Stacks (now states) (now synthesized) (now starts) (now rows) × Putting (now definitions) (now firsts) (now values) rule ⌝ }
-    requires { ⌜ Reducing top size owner (now down) (now inherited) (now up) (now synthesized) ⌝ }
+    requires { ⌜ Reducing top size owner (now down) (now inherited) (now up) (now synthesized) (now starts) ⌝ }
     ensures { λ r. ⌜ NodePushed top target rule size owner start (leftRecord (now (definitions .entry)) (now (firsts .entry)) (now (values .entry)) rule)
         (now (down .entry)) (now (inherited .entry)) (now (up .entry))
         (now (states .entry)) (now (synthesized .entry)) (now (starts .entry)) (now (rows .entry))

@@ -14,7 +14,7 @@ use items::words::word;
 
 // The record of symbol `height` has no values.
 fn clear_record(synthesized: &mut [u32], height: usize)
-    requires { ⌜ (length (now synthesized) ≡ 4224) × (height < 128) ⌝ }
+    requires { ⌜ 33 * height + 33 ≤ length (now synthesized) ⌝ }
     ensures { λ _. ⌜ Stored (33 * height) (replicate 33 0) (now (synthesized .entry)) 33 (now (synthesized .exit)) ⌝ }
 {
     clear(synthesized, 33 * height, 33);
@@ -22,7 +22,7 @@ fn clear_record(synthesized: &mut [u32], height: usize)
 
 // The record of symbol `height` is that of a token.
 pub fn token_record(synthesized: &mut [u32], height: usize, value: u32)
-    requires { ⌜ (length (now synthesized) ≡ 4224) × (height < 128) ⌝ }
+    requires { ⌜ 33 * height + 33 ≤ length (now synthesized) ⌝ }
     ensures { λ _. ⌜ Stored (33 * height) (set (replicate 33 0) 0 value) (now (synthesized .entry)) 33 (now (synthesized .exit)) ⌝ }
 {
     clear_record(synthesized, height);
@@ -40,7 +40,7 @@ pub fn node_values<'a>(
     synthesized: &'a [u32],
     values: &mut [u32],
 )
-    requires { ⌜ Room (now inherited) (now synthesized) × (size ≤ height) × (height ≤ 128) × (length (now values) ≡ MAX-OWNED) ⌝ }
+    requires { ⌜ Room height (now inherited) (now synthesized) × (size ≤ height) × (length (now values) ≡ MAX-OWNED) ⌝ }
     requires { ⌜ ((b : Book) × NodeAsked b (now definitions) (now firsts) rule size) ⌝ }
     ensures { λ _. ⌜ ((b : Book) → NodeAsked b (now (definitions .entry)) (now (firsts .entry)) rule size
         → NodeValues b rule (height - size) (now (inherited .entry)) (now (synthesized .entry))
@@ -64,7 +64,7 @@ fn put_values(
     synthesized: &mut [u32],
     height: usize,
 )
-    requires { ⌜ (length (now synthesized) ≡ 4224) × (height < 128) × Putting (now definitions) (now firsts) (now values) rule ⌝ }
+    requires { ⌜ (33 * height + 33 ≤ length (now synthesized)) × Putting (now definitions) (now firsts) (now values) rule ⌝ }
     ensures { λ _. ⌜ now (synthesized .exit)
         ≡ linesPut (now (definitions .entry)) (now (firsts .entry)) (now (values .entry)) rule (33 * height + 1) (now (synthesized .entry)) ⌝ }
 {
@@ -88,7 +88,7 @@ pub fn node_record(
     synthesized: &mut [u32],
     height: usize,
 )
-    requires { ⌜ (length (now synthesized) ≡ 4224) × (height < 128) × Putting (now definitions) (now firsts) (now values) rule ⌝ }
+    requires { ⌜ (33 * height + 33 ≤ length (now synthesized)) × Putting (now definitions) (now firsts) (now values) rule ⌝ }
     ensures { λ _. ⌜ Stored (33 * height) (leftRecord (now (definitions .entry)) (now (firsts .entry)) (now (values .entry)) rule)
         (now (synthesized .entry)) 33 (now (synthesized .exit)) ⌝ }
 {

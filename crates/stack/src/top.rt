@@ -9,8 +9,6 @@ pub struct Top {
 }
 
 impl Top {
-    pub const MAX_SYMBOLS: usize = 128;
-
     pub const MAX_ROWS: usize = 512;
 
     // Before the first move.

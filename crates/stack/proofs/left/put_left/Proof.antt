@@ -38,7 +38,7 @@ module _ (c : tie.After-word2) where
   deep : c .word2 .result ≤ start c .args .top .depth
   deep = left-deep (start c .pre .1 .3) (c .word2 .ensures) (c .before .word .ensures)
 
-  room : start c .args .top .depth - c .word2 .result < 128
+  room : start c .args .top .depth - c .word2 .result < length (start c .args .starts .now)
   room = left-room (start c .pre .1 .3) (c .word2 .ensures) (c .before .word .ensures)
 
   owner : c .before .word .result < 32
@@ -70,7 +70,9 @@ sub-below : tie.Need-sub-below
 sub-below c = omega (arith, deep (c .before))
 
 cast-node-values : tie.Need-cast-node-values
-cast-node-values c = omega (arith, deep (c .before), left-ready (start (c .before) .pre .1 .3) .depth-low)
+cast-node-values c =
+    let p = start (c .before) .pre in
+    omega (arith, deep (c .before), left-ready (p .1 .3) .depth-low, p .0 .0 .starts-low)
 
 slice-aggregate-node-values : tie.Need-slice-aggregate-node-values
 slice-aggregate-node-values c = search needs
@@ -80,7 +82,14 @@ node-values-requires c κs =
     let w = c .before .before .before in
     let A = start w .pre .1 .3 in
     let R = start w .pre .0 in (
-      (record { cells-long = R .1; records-long = R .0 .synthesized-long }, deep w, left-ready A .depth-low, refl),
+      (
+        record {
+          cells-long = omega (arith, R .1, left-ready A .depth-low);
+          records-long = omega (arith, R .0 .synthesized-long, left-ready A .depth-low);
+        },
+        deep w,
+        refl,
+      ),
       (start w .pre .1 .0, left-asked A (w .word2 .ensures) (w .before .word .ensures)),
     )
 
@@ -88,7 +97,7 @@ cast-start-of : tie.Need-cast-start-of
 cast-start-of c = let s = start (words-at (c .before .before .before)) in omega (arith, left-ready (s .pre .1 .3) .position-low, s .pre .1 .3 .few)
 
 start-of-requires : tie.Need-start-of-requires
-start-of-requires c κs = let w = words-at (c .before .before .before) in omega (arith, room w, start w .pre .0 .0 .starts-long)
+start-of-requires c κs = let w = words-at (c .before .before .before) in omega (arith, room w)
 
 word-requires-3 : tie.Need-word-requires-3
 word-requires-3 c κs = let w = words-at (values-at (c .before)) in omega (arith, room w, start w .pre .0 .0 .states-long)

@@ -19,7 +19,7 @@ returns c =
     let p = c .before .before in
     let k = p .before .before .before .before in
     let s = k .before .before .before .before .before .before in
-    rw (p .put-values .ensures) (left-stored (s .pre .2) (k .clear-record .ensures) (omega (arith, s .pre .0, s .pre .1)))
+    rw (p .put-values .ensures) (left-stored (s .pre .1) (k .clear-record .ensures) (omega (arith, s .pre .0)))
 
 pub node-record-spec : {M : Type 1} → statement M
 node-record-spec = tie.close (tie.spec clear-record-requires put-values-requires same-length returns)

@@ -55,13 +55,13 @@ sub-count : tie.Need-sub-count Inv-loop μ-loop
 sub-count c = omega (arith, rule-lines (start c .pre .1 .1) .ascend, c .word2 .ensures, c .before .word .ensures)
 
 loop-holds : tie.Need-loop-holds Inv-loop μ-loop
-loop-holds c = (omega arith, start c .pre .0 .3, λ b A. left-none A _)
+loop-holds c = (omega arith, start c .pre .0 .2, λ b A. left-none A _)
 
 add-value : tie.Need-add-value Inv-loop μ-loop
 add-value c = omega (arith, line-there c .low)
 
 value-requires : tie.Need-value-requires Inv-loop μ-loop
-value-requires c κs = let p = s c .pre in ((p .0 .0, p .0 .1, p .0 .2), (_, line-there c .asked))
+value-requires c κs = let p = s c .pre in ((p .0 .0, p .0 .1), (_, line-there c .asked))
 
 mul-values : tie.Need-mul-values Inv-loop μ-loop
 mul-values c = omega (arith, room (c .before))
@@ -85,7 +85,7 @@ loop-again c =
     )
 
 same-length : tie.Need-same-length Inv-loop μ-loop
-same-length c = omega (arith, c .before .loop .inv .1, start (c .before .before) .pre .0 .3)
+same-length c = omega (arith, c .before .loop .inv .1, start (c .before .before) .pre .0 .2)
 
 returns : tie.Need-returns Inv-loop μ-loop
 returns c =

@@ -31,10 +31,10 @@ module _ (c : tie.In-loop Inv-loop μ-loop) where
   turn = omega (arith, c .loop-test .taken, words .word2 .ensures, words .before .word .ensures)
 
   line-low : words .before .word .result + c .before .loop .i < 128
-  line-low = omega (arith, turn, words .before .word .ensures, s .pre .2 .lines .low)
+  line-low = omega (arith, turn, words .before .word .ensures, s .pre .1 .lines .low)
 
   line-inside : 49 * (words .before .word .result + c .before .loop .i) + 49 ≤ length (s .args .definitions .now)
-  line-inside = omega (arith, turn, words .before .word .ensures, s .pre .2 .lines .inside)
+  line-inside = omega (arith, turn, words .before .word .ensures, s .pre .1 .lines .inside)
 
 -- the word of its attribute
 module _ (c : tie.After-word3 Inv-loop μ-loop) where
@@ -48,7 +48,7 @@ module _ (c : tie.After-word3 Inv-loop μ-loop) where
   attribute = c .word3 .ensures ∙ ap (λ n. attributeWord (entry .args .definitions .now) (line n)) (words (c .before) .before .word .ensures)
 
   attribute-low : c .word3 .result < 32
-  attribute-low = omega (arith, attribute, entry .pre .2 .attribute-low (c .before .before .loop .i) (turn (c .before)))
+  attribute-low = omega (arith, attribute, entry .pre .1 .attribute-low (c .before .before .loop .i) (turn (c .before)))
 
 mul-place : tie.Need-mul-place Inv-loop μ-loop
 mul-place c = search needs
@@ -57,16 +57,16 @@ add-place : tie.Need-add-place Inv-loop μ-loop
 add-place c = search needs
 
 word-requires : tie.Need-word-requires Inv-loop μ-loop
-word-requires c κs = omega (arith, c .before .before .before .before .pre .2 .lines .there)
+word-requires c κs = omega (arith, c .before .before .before .before .pre .1 .lines .there)
 
 add-word : tie.Need-add-word Inv-loop μ-loop
-add-word c = omega (arith, c .before .before .before .before .before .pre .2 .lines .there)
+add-word c = omega (arith, c .before .before .before .before .before .pre .1 .lines .there)
 
 word-requires-2 : tie.Need-word-requires-2 Inv-loop μ-loop
-word-requires-2 c κs = c .before .before .before .before .before .pre .2 .lines .there
+word-requires-2 c κs = c .before .before .before .before .before .pre .1 .lines .there
 
 sub-count : tie.Need-sub-count Inv-loop μ-loop
-sub-count c = omega (arith, start c .pre .2 .lines .ascend, c .word2 .ensures, c .before .word .ensures)
+sub-count c = omega (arith, start c .pre .1 .lines .ascend, c .word2 .ensures, c .before .word .ensures)
 
 loop-holds : tie.Need-loop-holds Inv-loop μ-loop
 loop-holds c = putting-start
@@ -87,18 +87,18 @@ mul-synthesized : tie.Need-mul-synthesized Inv-loop μ-loop
 mul-synthesized c = search needs
 
 shared-slice-read-synthesized : tie.Need-shared-slice-read-synthesized Inv-loop μ-loop
-shared-slice-read-synthesized c = let t = c .before .before in omega (arith, turn t, s t .pre .2 .few)
+shared-slice-read-synthesized c = let t = c .before .before in omega (arith, turn t, s t .pre .1 .few)
 
 add-synthesized : tie.Need-add-synthesized Inv-loop μ-loop
-add-synthesized c = omega (arith, attribute-low (c .before), s (c .before .before) .pre .1)
+add-synthesized c = omega (arith, attribute-low (c .before), s (c .before .before) .pre .0)
 
 mul-synthesized-2 : tie.Need-mul-synthesized-2 Inv-loop μ-loop
-mul-synthesized-2 c = omega (arith, attribute-low (c .before), s (c .before .before) .pre .1)
+mul-synthesized-2 c = omega (arith, attribute-low (c .before), s (c .before .before) .pre .0)
 
 slice-write-synthesized : tie.Need-slice-write-synthesized Inv-loop μ-loop
 slice-write-synthesized c =
     let t = c .before .before in
-    omega (arith, attribute-low (c .before), s t .pre .0, s t .pre .1, putting-long (t .before .loop .inv))
+    omega (arith, attribute-low (c .before), s t .pre .0, putting-long (t .before .loop .inv))
 
 add-i : tie.Need-add-i Inv-loop μ-loop
 add-i c = omega (arith, line-low (c .before .before))

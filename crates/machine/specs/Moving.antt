@@ -1,8 +1,9 @@
 -- What a move over the arrays asks, and what it tells: the next configuration, or the answer with which the run stops. Assumes nothing.
-use Prim.Native.Nat.{ℕ}
+use Prim.Native.Nat.{ℕ, _+_, _*_}
 use mathlib.Core.Path.{_≡_}
 use mathlib.Core.List.{List}
 use lib.ListN.{length}
+use Rattle.grammar.specs.Limits.{MAX-STACK}
 use Rattle.grammar.specs.Data.Book.{Book}
 use Rattle.grammar.specs.Evaluator.Tree.{Token}
 use Rattle.grammar.specs.Evaluator.Rows.{page}
@@ -19,7 +20,7 @@ use Rattle.stack.specs.Standing.{BookIn, Message, ConfigIn, CellIn, rowsOf, Goe
 -- the arrays that moves change, as they are lent
 pub record Rooms (states inherited synthesized starts rows sets : List ℕ) : Type 0 where
   pub stacks : Stacks states synthesized starts rows
-  pub cells-long : length inherited ≡ 2064
+  pub cells-long : length inherited ≡ 16 * length starts + 16
   pub sets-long : length sets ≡ 576
 
 -- a book that is taken, in the arrays that moves read
@@ -39,9 +40,14 @@ pub record Accepts (b : Book) (c : Config) (rows : List ℕ) : Type 0 where
   pub stops : step b (tablesOf b) c ≡ stop (accepted (rowsOf c))
   pub rows-are : rows ≡ page (rowsOf c)
 
+-- a number is the machine's answer: a want of room (17) is, where the room is for as many symbols as may stand
+abbrev pub Final : ℕ → ℕ → Type 0
+Final room number = number ≡ 17 → room ≡ MAX-STACK
+
 -- what a move tells
 module _ (b : Book) (ks : List Token) (c : Config) (states inherited synthesized starts rows : List ℕ) where
   pub data Told : Moved → Type 0 where
     told-on : {top : Top} → GoesOn b ks c states inherited synthesized starts rows top → Told (On top)
     told-accepted : {r : Outcome} → Accepts b c rows → r .number ≡ 0 → r .count ≡ length (rowsOf c) → Told (Stopped r)
-    told-refused : {r : Outcome} → step b (tablesOf b) c ≡ stop (refused (r .number)) → r .count ≡ 0 → Told (Stopped r)
+    told-refused : {r : Outcome} → (Final (length starts) (r .number) → step b (tablesOf b) c ≡ stop (refused (r .number))) → r .count ≡ 0
+        → Told (Stopped r)

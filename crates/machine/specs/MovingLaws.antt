@@ -1,11 +1,12 @@
 -- The answers with which a run stops: none is due (15), accepted, no row is left (16), no symbol is left (17). Assumes that the book is taken.
-use Prim.Native.Nat.{ℕ, _≤_, _<_}
+use Prim.Native.Nat.{ℕ, _<_}
 use mathlib.Core.Path.{_≡_, refl, ap}
 use mathlib.Core.Logic.{_≢_}
 use mathlib.Core.Option.{none, some}
 use mathlib.Core.List.{List, [], _∷_}
 use native.Mathlib.Omega.{arith}
 use lib.ListN.{length}
+use Rattle.grammar.specs.Limits.{MAX-STACK}
 use Rattle.grammar.specs.Data.Symbol.{Symbol, rightOf}
 use Rattle.grammar.specs.Data.Book.{Book}
 use Rattle.grammar.specs.Automaton.States.{shift, accept, reduce}
@@ -35,7 +36,7 @@ module _ {b : Book} {rules definitions table : List ℕ} (B : BookIn b rules def
   shift-rows (stands {st = st} {p = p} {z = k ∷ z} {rs = rs} C) e h = shift-16 b (tablesOf b) k st z p rs e (λ l. omega (arith, C .count-is))
 
   pub shift-symbols : {c : Config} → ConfigIn b ks states inherited synthesized starts rows top c → actionOf b c ≡ some shift → top .rows ≢ 512
-      → top .depth ≡ 128 → step b (tablesOf b) c ≡ stop (refused 17)
+      → top .depth ≡ MAX-STACK → step b (tablesOf b) c ≡ stop (refused 17)
   shift-symbols (stands {S = S} {z = []} C) e n h = let g = shift-goes (B .spelled) (B .sound) S 0 e in absurd (omega (arith, g .low))
   shift-symbols (stands {st = st} {p = p} {z = k ∷ z} {rs = rs} C) e n h =
       shift-17 b (tablesOf b) k st z p rs e (omega (arith, C .count-is, C .count-low)) (λ l. omega (arith, C .depth-is))
@@ -46,7 +47,7 @@ module _ {b : Book} {rules definitions table : List ℕ} (B : BookIn b rules def
     reduce-rows (stands {st = st} {p = p} {z = z} {rs = rs} C) e h = reduce-16 b (tablesOf b) st z p rs e (λ l. omega (arith, C .count-is))
 
     pub reduce-symbols : {c : Config} → ConfigIn b ks states inherited synthesized starts rows top c → actionOf b c ≡ some (reduce P) → top .rows ≢ 512
-        → length (rightOf (b .rules) P) ≡ 0 → top .depth ≡ 128 → step b (tablesOf b) c ≡ stop (refused 17)
+        → length (rightOf (b .rules) P) ≡ 0 → top .depth ≡ MAX-STACK → step b (tablesOf b) c ≡ stop (refused 17)
     reduce-symbols (stands {st = st} {p = p} {z = z} {rs = rs} C) e n s h =
         reduce-17 b (tablesOf b) st z p rs e (omega (arith, C .count-is, C .count-low)) (nothing (rightOf (b .rules) P) s) (λ l. omega (arith, C .depth-is))
       where
@@ -57,6 +58,3 @@ module _ {b : Book} {rules definitions table : List ℕ} (B : BookIn b rules def
   -- there is room, where the tests do not refuse
   pub room-left : {c : Config} → ConfigIn b ks states inherited synthesized starts rows top c → top .rows ≢ 512 → top .rows < 512
   room-left (stands C) n = omega (arith, C .count-is, C .count-low)
-
-  pub depth-left : {c : Config} → ConfigIn b ks states inherited synthesized starts rows top c → top .depth ≤ 128
-  depth-left (stands C) = omega (arith, C .depth-is, C .depth-low)

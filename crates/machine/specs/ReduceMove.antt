@@ -6,6 +6,7 @@ use mathlib.Core.Option.{some}
 use mathlib.Core.List.{List}
 use native.Mathlib.Omega.{arith}
 use lib.ListN.{length, getD}
+use Rattle.grammar.specs.Limits.{MAX-STACK}
 use Rattle.grammar.specs.Data.Symbol.{rightOf}
 use Rattle.grammar.specs.Data.Book.{Book}
 use Rattle.grammar.specs.Automaton.States.{reduce}
@@ -26,13 +27,14 @@ pub record Reduces (b : Book) (c : Config) (P : ℕ) : Type 0 where
   pub action-is : actionOf b c ≡ some (reduce P)
 
 -- its numbers are small
-pub record ReduceLow (b : Book) (top : Top) (P : ℕ) : Type 0 where
+pub record ReduceLow (b : Book) (starts : List ℕ) (top : Top) (P : ℕ) : Type 0 where
   pub rule-low : P < 64
   pub deep : length (rightOf (b .rules) P) ≤ top .depth
-  pub depth-low : top .depth ≤ 128
+  pub depth-low : top .depth ≤ length starts
 
 reduce-low-of : {b : Book} {ks : List Token} {c : Config} {rules definitions table states inherited synthesized starts rows : List ℕ} {top : Top} {P : ℕ}
-    → BookIn b rules definitions table → ConfigIn b ks states inherited synthesized starts rows top c → actionOf b c ≡ some (reduce P) → ReduceLow b top P
+    → BookIn b rules definitions table → ConfigIn b ks states inherited synthesized starts rows top c → actionOf b c ≡ some (reduce P)
+    → ReduceLow b starts top P
 reduce-low-of {b} {P = P} B (stands {S = S} C) e =
     let x = reduced (B .spelled) (B .sound) S _ P e in
     record {
@@ -43,7 +45,7 @@ reduce-low-of {b} {P = P} B (stands {S = S} C) e =
 
 module _ {b : Book} {ks : List Token} {c : Config} {rules definitions table states inherited synthesized starts rows : List ℕ} {top : Top} {P : ℕ}
     (B : BookIn b rules definitions table) (H : Poised b ks c states inherited synthesized starts rows top) (X : Reduces b c P) where
-  pub reduce-low : ReduceLow b top P
+  pub reduce-low : ReduceLow b starts top P
   reduce-low = reduce-low-of B (H .config-in) (X .action-is)
 
   -- with the rule's size, read from its word
@@ -55,12 +57,12 @@ module _ {b : Book} {ks : List Token} {c : Config} {rules definitions table stat
     reduce-deep = omega (arith, same-size, reduce-low .deep)
 
     -- no symbol is left
-    pub reduce-full : top .rows ≢ 512 → top .depth - n ≡ 128 → step b (tablesOf b) c ≡ stop (refused 17)
-    reduce-full m e =
+    pub reduce-full : top .rows ≢ 512 → top .depth - n ≡ length starts → length starts ≡ MAX-STACK → step b (tablesOf b) c ≡ stop (refused 17)
+    reduce-full m e full =
         reduce-symbols B P (H .config-in) (X .action-is) m (omega (arith, same-size, reduce-deep, reduce-low .depth-low))
         (omega (arith, reduce-low .depth-low))
 
-    pub reduce-left : {firsts down up : List ℕ} → LeftIn b definitions firsts down up → top .rows ≢ 512 → top .depth - n ≢ 128
+    pub reduce-left : {firsts down up : List ℕ} → LeftIn b definitions firsts down up → top .rows ≢ 512 → top .depth - n ≢ length starts
         → LeftAsked b ks c rules definitions table firsts down up states inherited synthesized starts rows top P
     reduce-left F m e = record {
       book-in = B;

@@ -113,12 +113,12 @@ facing-of {b} {ks} {states = states} {top = top} tokens B t M (stands {S = S} {p
     }
 
 -- the machine's numbers are small
-pub record TopLow (top : Top) : Type 0 where
-  pub depth-low : top .depth ≤ 128
+pub record TopLow (starts : List ℕ) (top : Top) : Type 0 where
+  pub depth-low : top .depth ≤ length starts
   pub position-low : top .position ≤ 255
 
 pub top-low : {b : Book} {ks : List Token} {c : Config} {states inherited synthesized starts rows : List ℕ} {top : Top}
-    → Message b ks → ConfigIn b ks states inherited synthesized starts rows top c → TopLow top
+    → Message b ks → ConfigIn b ks states inherited synthesized starts rows top c → TopLow starts top
 top-low M (stands C) = record {
   depth-low = omega (arith, C .depth-is, C .depth-low);
   position-low = omega (arith, C .position-is, C .position-low, M .few);

@@ -1,5 +1,5 @@
 -- The moves of a run come to the machine's answer: from the start, move by move, to the move that stops. Assumes that the book is taken.
-use Prim.Native.Nat.{ℕ, _+_, _*_, _-_, _<_}
+use Prim.Native.Nat.{ℕ, _+_, _*_, _-_, _≤_, _<_}
 use mathlib.Core.Path.{_≡_, refl, _∙_}
 use mathlib.Core.List.{List, []}
 use native.Mathlib.Omega.{arith}
@@ -18,7 +18,7 @@ use Rattle.machine.specs.declared.moves.Moved.{Moved}
 use Rattle.machine.specs.declared.moves.Moved.the-variants.{On, Stopped}
 use Rattle.machine.specs.declared.run.Outcome.{Outcome}
 use Rattle.stack.specs.declared.top.Top.{Top}
-use Rattle.machine.specs.Moving.{Rooms, Poised, Told, told-on, told-accepted, told-refused}
+use Rattle.machine.specs.Moving.{Rooms, Final, Poised, Told, told-on, told-accepted, told-refused}
 use Rattle.machine.specs.Running.{RunIn, MovesIn, Facing, facing-of, TopLow, top-low, rows-count}
 use Rattle.machine.specs.Setting.{TopAsked, TopSet, config-asked, config-set, config-cell}
 use Rattle.stack.specs.Path.{bottom}
@@ -51,7 +51,7 @@ pub record Underway (b : Book) (ks : List Token) (states inherited synthesized s
 
 -- "Start: state 0, no symbols, no rows, first token next"
 pub underway-start : {b : Book} {ks : List Token} {inherited synthesized starts rows slots lists : List ℕ} {top : Top} (states : List ℕ)
-    → PlansIn b slots lists → length states ≡ 129 → rows ≡ replicate 5120 0 → top .depth ≡ 0 → top .rows ≡ 0 → top .position ≡ 0
+    → PlansIn b slots lists → 1 ≤ length states → rows ≡ replicate 5120 0 → top .depth ≡ 0 → top .rows ≡ 0 → top .position ≡ 0
     → Underway b ks (set states 0 0) inherited synthesized starts rows slots lists top
 unfolding page filled
 underway-start {b} {ks} states P l r d n p = record {
@@ -100,24 +100,24 @@ module _ {b : Book} {ks : List Token} {states inherited synthesized starts rows 
 module _ (b : Book) (ks : List Token) (top : Top) (states inherited synthesized starts rows slots lists : List ℕ) where
   pub data Stepped : Moved → Type 0 where
     goes-on : {next : Top} → Underway b ks states inherited synthesized starts rows slots lists next → 512 - next .rows < 512 - top .rows → Stepped (On next)
-    answers : {r : Outcome} → Answered (evaluate b (tablesOf b) ks) r rows → Stepped (Stopped r)
+    answers : {r : Outcome} → PlansIn b slots lists → (Final (length starts) (r .number) → Answered (evaluate b (tablesOf b) ks) r rows) → Stepped (Stopped r)
 
 -- by its answer
 module _ {b : Book} {ks : List Token} {top : Top} {states inherited synthesized starts rows slots lists : List ℕ} where
   pub step-more : {m : Moved} {next : Top} → Stepped b ks top states inherited synthesized starts rows slots lists m → m ≡ On next
       → Underway b ks states inherited synthesized starts rows slots lists next
   step-more {next = next} (goes-on {next = n} u l) e = let same : n ≡ next = cc in rw same at u
-  step-more (answers a) e = absurd (let z : _≡_ {A = ℕ} 0 1 = cc in omega arith)
+  step-more (answers p a) e = absurd (let z : _≡_ {A = ℕ} 0 1 = cc in omega arith)
 
   pub step-less : {m : Moved} {next : Top} → Stepped b ks top states inherited synthesized starts rows slots lists m → m ≡ On next
       → 512 - next .rows < 512 - top .rows
   step-less {next = next} (goes-on {next = n} u l) e = let same : n ≡ next = cc in rw same at l
-  step-less (answers a) e = absurd (let z : _≡_ {A = ℕ} 0 1 = cc in omega arith)
+  step-less (answers p a) e = absurd (let z : _≡_ {A = ℕ} 0 1 = cc in omega arith)
 
   pub step-answers : {m : Moved} {r : Outcome} → Stepped b ks top states inherited synthesized starts rows slots lists m → m ≡ Stopped r
-      → Answered (evaluate b (tablesOf b) ks) r rows
+      → PlansIn b slots lists × (Final (length starts) (r .number) → Answered (evaluate b (tablesOf b) ks) r rows)
   step-answers (goes-on u l) e = absurd (let z : _≡_ {A = ℕ} 0 1 = cc in omega arith)
-  step-answers {r = r} (answers {r = s} a) e = let same : s ≡ r = cc in rw same at a
+  step-answers {r = r} (answers {r = s} p a) e = let same : s ≡ r = cc in (p, rw same at a)
 
 -- what a move told is what the step tells
 stepped : {b : Book} {ks : List Token} {states inherited synthesized starts rows slots lists : List ℕ} {top : Top}
@@ -125,8 +125,8 @@ stepped : {b : Book} {ks : List Token} {states inherited synthesized starts rows
     {states′ inherited′ synthesized′ starts′ rows′ slots′ lists′ : List ℕ} {m : Moved} → PlansIn b slots′ lists′
     → Told b ks (U .at) states′ inherited′ synthesized′ starts′ rows′ m → Stepped b ks top states′ inherited′ synthesized′ starts′ rows′ slots′ lists′ m
 stepped U P (told-on on) = goes-on (underway-more U on P) (underway-less U on)
-stepped {b} U P (told-accepted {r = r} a z n) = answers {r = r} (rw (ends-stop b (tablesOf b) (U .ends) (a .stops)) (z, n, a .rows-are))
-stepped {b} U P (told-refused {r = r} e z) = answers {r = r} (rw (ends-stop b (tablesOf b) (U .ends) e) (refl, z))
+stepped {b} U P (told-accepted {r = r} a z n) = answers {r = r} P λ f. rw (ends-stop b (tablesOf b) (U .ends) (a .stops)) (z, n, a .rows-are)
+stepped {b} U P (told-refused {r = r} e z) = answers {r = r} P λ f. rw (ends-stop b (tablesOf b) (U .ends) (e f)) (refl, z)
 
 -- ---- a step
 
@@ -135,7 +135,7 @@ module _ {b : Book} {ks : List Token} {rules : List ℕ} {count : ℕ} {definiti
     {states inherited synthesized starts rows slots lists : List ℕ} {top : Top}
     (R : RunIn b ks rules count definitions lines owned kernels heads closures nulls reaches places firsts down up table actions tokens) (M : Message b ks)
     (U : Underway b ks states inherited synthesized starts rows slots lists top) where
-  pub run-low : TopLow top
+  pub run-low : TopLow starts top
   run-low = top-low M (U .config-in)
 
   pub run-moves : MovesIn b rules definitions firsts down up table actions
@@ -175,27 +175,29 @@ module _ {b : Book} {ks : List Token} {rules : List ℕ} {count : ℕ} {definiti
         run-stepped = stepped U (cell-set .plans-in) (moved b ks (U .at) run-moves run-poised (run-facing value-is))
 
 -- the arrays as they are lent, after a step
-pub record RoomsLeft (room : ℕ) (states inherited synthesized starts rows sets slots lists : List ℕ) : Type 0 where
+pub record RoomsLeft (room symbols : ℕ) (states inherited synthesized starts rows sets slots lists : List ℕ) : Type 0 where
   pub rooms : Rooms states inherited synthesized starts rows sets
+  pub starts-long : length starts ≡ symbols
   pub slots-long : length slots ≡ room
   pub lists-long : length lists ≡ 4336
 
-pub rooms-kept : {room : ℕ} {states inherited synthesized starts rows sets slots lists : List ℕ}
+pub rooms-kept : {room symbols : ℕ} {states inherited synthesized starts rows sets slots lists : List ℕ}
     {states′ inherited′ synthesized′ starts′ rows′ sets′ slots′ lists′ : List ℕ}
-    → RoomsLeft room states inherited synthesized starts rows sets slots lists → length states′ ≡ length states → length inherited′ ≡ length inherited
+    → RoomsLeft room symbols states inherited synthesized starts rows sets slots lists → length states′ ≡ length states → length inherited′ ≡ length inherited
     → length synthesized′ ≡ length synthesized → length starts′ ≡ length starts → length rows′ ≡ length rows → length sets′ ≡ length sets
-    → length slots′ ≡ length slots → length lists′ ≡ length lists → RoomsLeft room states′ inherited′ synthesized′ starts′ rows′ sets′ slots′ lists′
+    → length slots′ ≡ length slots → length lists′ ≡ length lists → RoomsLeft room symbols states′ inherited′ synthesized′ starts′ rows′ sets′ slots′ lists′
 rooms-kept R a b c d e f g h = record {
   rooms = record {
     stacks = record {
-      states-long = a ∙ R .rooms .stacks .states-long;
-      synthesized-long = c ∙ R .rooms .stacks .synthesized-long;
-      starts-long = d ∙ R .rooms .stacks .starts-long;
+      starts-low = omega (arith, R .rooms .stacks .starts-low);
+      states-long = omega (arith, R .rooms .stacks .states-long);
+      synthesized-long = omega (arith, R .rooms .stacks .synthesized-long);
       rows-long = e ∙ R .rooms .stacks .rows-long;
     };
-    cells-long = b ∙ R .rooms .cells-long;
+    cells-long = omega (arith, R .rooms .cells-long);
     sets-long = f ∙ R .rooms .sets-long;
   };
+  starts-long = d ∙ R .starts-long;
   slots-long = g ∙ R .slots-long;
   lists-long = h ∙ R .lists-long;
 }

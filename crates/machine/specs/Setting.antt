@@ -1,6 +1,6 @@
 -- The top cell is set by the plan of the partial state: the plan's lines may be asked for, since the frames are a path of the states, and the cell is the
 -- machine's. Assumes that the book is taken.
-use Prim.Native.Nat.{ℕ, _*_, _≤_, _<_}
+use Prim.Native.Nat.{ℕ, _+_, _*_, _≤_, _<_}
 use mathlib.Core.Path.{_≡_, sym, _∙_}
 use mathlib.Core.Bool.{Bool}
 use mathlib.Core.List.{List}
@@ -71,10 +71,10 @@ module _ {b : Book} {definitions inherited synthesized : List ℕ} {state height
   pub top-short : {lists : List ℕ} {from n : ℕ} → PlanRow (planOf b state a) lists from n → n ≤ 16
   top-short R = omega (arith, R .count-is, plan-short b (partialItems b state a))
 
-  pub top-set : {slots lists new : List ℕ} → length inherited ≡ 2064 → height ≤ 128 → PlansIn b slots lists
+  pub top-set : {slots lists new : List ℕ} → 16 * height + 16 ≤ length inherited → PlansIn b slots lists
       → new ≡ linesSet b synthesized height (planOf b state a) (cleared (16 * height) 16 inherited)
       → TopSet b slots lists inherited new synthesized state a states starts st
-  top-set long low M e = record {
+  top-set long M e = record {
     plans-in = M;
     cell-in = rw (e, A .height-is) (cell-set b definitions (planOf b state a) inherited (A .frames-in) (omega (arith, A .height-is)) plan-deep);
   }

@@ -27,16 +27,16 @@ pub record Shifts (b : Book) (c : Config) (state kind value : ℕ) : Type 0 wher
   pub value-is : value ≡ valueOf c
 
 -- the numbers of a shift are small
-pub record ShiftLow (b : Book) (top : Top) (state kind : ℕ) : Type 0 where
+pub record ShiftLow (b : Book) (starts : List ℕ) (top : Top) (state kind : ℕ) : Type 0 where
   pub state-there : state < b .states
   pub state-low : state < 128
   pub kind-low : kind < 32
   pub position-low : top .position < 255
-  pub depth-low : top .depth ≤ 128
+  pub depth-low : top .depth ≤ length starts
 
 low-of : {b : Book} {ks : List Token} {c : Config} {rules definitions table states inherited synthesized starts rows : List ℕ} {top : Top} {state kind : ℕ}
     → BookIn b rules definitions table → length ks ≤ MAX-TOKENS → ConfigIn b ks states inherited synthesized starts rows top c → actionOf b c ≡ some shift
-    → state ≡ stateOf c → kind ≡ kindOf c → ShiftLow b top state kind
+    → state ≡ stateOf c → kind ≡ kindOf c → ShiftLow b starts top state kind
 low-of B few (stands {S = S} {z = []} C) e s k = let g = shift-goes (B .spelled) (B .sound) S 0 e in absurd (omega (arith, g .low))
 low-of {b} {ks} B few (stands {S = S} {p = p} {z = x ∷ z} C) e s k =
     let g = shift-goes (B .spelled) (B .sound) S (x .kind) e in
@@ -52,11 +52,11 @@ low-of {b} {ks} B few (stands {S = S} {p = p} {z = x ∷ z} C) e s k =
 module _ {b : Book} {ks : List Token} {c : Config} {rules definitions table states inherited synthesized starts rows : List ℕ} {top : Top}
     {state kind value : ℕ} (B : BookIn b rules definitions table) (H : Poised b ks c states inherited synthesized starts rows top)
     (X : Shifts b c state kind value) where
-  pub shift-low : ShiftLow b top state kind
+  pub shift-low : ShiftLow b starts top state kind
   shift-low = low-of B (H .message .few) (H .config-in) (X .action-is) (X .state-is) (X .kind-is)
 
   pub shift-told : {states′ synthesized′ starts′ rows′ : List ℕ} {target : ℕ} {next : Top} → Stacks states synthesized starts rows → top .rows ≢ 512
-      → top .depth ≢ 128 → TokenPushed top target kind value states synthesized starts rows states′ synthesized′ starts′ rows′ next
+      → top .depth ≢ length starts → TokenPushed top target kind value states synthesized starts rows states′ synthesized′ starts′ rows′ next
       → target ≡ getD table (64 * state + kind) 0 → GoesOn b ks c states′ inherited synthesized′ starts′ rows′ next
   shift-told L n m push t =
       shift-on B L push (H .config-in) (H .cell-in) (X .action-is) (X .state-is) (X .kind-is) (X .value-is) (omega (arith, shift-low .depth-low))

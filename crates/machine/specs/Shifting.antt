@@ -4,9 +4,9 @@ use mathlib.Core.Path.{_≡_, refl, sym, ap, _∙_}
 use mathlib.Core.Option.{some}
 use mathlib.Core.List.{List, [], _∷_, _++_}
 use native.Mathlib.Omega.{arith}
-use lib.ListN.{length, getD, set, replicate, length-append, length-drop}
+use lib.ListN.{length, getD, set, replicate, length-append, length-drop, length-set}
 use lib.Seq.{getD-set-same, getD-set-other}
-use Rattle.grammar.specs.Limits.{MAX-ROWS, MAX-STACK}
+use Rattle.grammar.specs.Limits.{MAX-ROWS}
 use Rattle.grammar.specs.Data.Symbol.{terminal}
 use Rattle.grammar.specs.Data.ListLaws.{drop-step}
 use Rattle.grammar.specs.Data.Book.{Book}
@@ -32,7 +32,7 @@ use Rattle.stack.specs.Standing.{BookIn, state-low, Standing, ConfigIn, stands,
 module _ {b : Book} {ks : List Token} {states inherited synthesized starts rows : List ℕ} {top : Top} {st : List Frame} {S p : ℕ} {k : Token}
     {z : List Token} {rs : List Row} (C : Standing b ks states inherited synthesized starts rows top st S (k ∷ z) p rs) where
   -- a frame on the stacks, over those that stand
-  shift-stands : (room : length st < MAX-STACK) (line : length rs < MAX-ROWS) {target : ℕ} {next : Top} {states′ synthesized′ starts′ rows′ : List ℕ}
+  shift-stands : (room : length st < length starts) (line : length rs < MAX-ROWS) {target : ℕ} {next : Top} {states′ synthesized′ starts′ rows′ : List ℕ}
       → Stacks states synthesized starts rows
       → TokenPushed top target (k .kind) (k .value) states synthesized starts rows states′ synthesized′ starts′ rows′ next
       → cell (tablesOf b) S (k .kind) st ≡ cellValue inherited (length st) → tablesOf b .go S (terminal (k .kind)) ≡ some target
@@ -55,7 +55,7 @@ module _ {b : Book} {ks : List Token} {states inherited synthesized starts rows 
     depth-is = P .depth-is ∙ rw (C .depth-is) (omega arith);
     count-is = P .count-is ∙ rw (C .count-is, length-append) (omega arith);
     position-is = P .position-is ∙ rw (C .position-is) (omega arith);
-    depth-low = omega arith;
+    depth-low = omega (arith, ap length starts-are, length-set starts (length st) p);
     count-low = rw length-append (omega arith);
     position-low = omega (arith, ap length (C .left-is), length-drop p ks);
     path = above (C .path) go;
@@ -74,7 +74,7 @@ module _ {b : Book} {ks : List Token} {states inherited synthesized starts rows 
       below-next = rw states-are (getD-set-other states (length st + 1) (length st) target 0 (λ e. omega arith) ∙ C .state-is)
 
       start-next : getD starts′ (length st) 0 ≡ p
-      start-next = rw starts-are (getD-set-same starts (length st) p 0 (omega (arith, L .starts-long)))
+      start-next = rw starts-are (getD-set-same starts (length st) p 0 (omega arith))
 
       state-next : getD states′ (suc (length st)) 0 ≡ target
       state-next =
@@ -88,13 +88,13 @@ module _ {b : Book} {rules definitions table : List ℕ} (B : BookIn b rules def
       {states′ synthesized′ starts′ rows′ : List ℕ} (L : Stacks states synthesized starts rows)
       (push : TokenPushed top target kind value states synthesized starts rows states′ synthesized′ starts′ rows′ next) where
     pub shift-on : {c : Config} {state : ℕ} → ConfigIn b ks states inherited synthesized starts rows top c → CellIn b inherited c → actionOf b c ≡ some shift
-        → state ≡ stateOf c → kind ≡ kindOf c → value ≡ valueOf c → top .depth < 128 → top .rows < 512
+        → state ≡ stateOf c → kind ≡ kindOf c → value ≡ valueOf c → top .depth < length starts → top .rows < 512
         → target ≡ getD table (64 * state + kind) 0 → GoesOn b ks c states′ inherited synthesized′ starts′ rows′ next
     shift-on (stands {S = S} {z = []} C) s e i k v h l t = let g = shift-goes (B .spelled) (B .sound) S 0 e in absurd (omega (arith, g .low))
     shift-on {state = state} (stands {st = st} {S = S} {p = p} {z = x ∷ z} {rs = rs} C) s e i k v h l t =
         let g = shift-goes (B .spelled) (B .sound) S (x .kind) e in
         let low : x .kind < 32 = omega (arith, g .high, B .sound .limits .terminals-limit .high) in
-        let room : length st < MAX-STACK = omega (arith, C .depth-is) in
+        let room : length st < length starts = omega (arith, C .depth-is) in
         let line : length rs < MAX-ROWS = omega (arith, C .count-is) in
         let place : 64 * state + kind ≡ 64 * S + symbolCode (terminal (x .kind)) = omega (arith, terminal-code (x .kind) low) in
         let same : g .target ≡ target =
@@ -103,6 +103,6 @@ module _ {b : Book} {rules definitions table : List ℕ} (B : BookIn b rules def
         let go : tablesOf b .go S (terminal (x .kind)) ≡ some target = g .goes ∙ ap some same in
         record {
           then = shifted b (tablesOf b) x st S target z p rs;
-          moves = shift-moves b (tablesOf b) x st z p rs e go line room;
+          moves = shift-moves b (tablesOf b) x st z p rs e go line (omega (arith, room, L .starts-low));
           holds = stands (shift-stands C room line L (rw (← k, ← v) push) s go);
         }

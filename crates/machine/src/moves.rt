@@ -19,7 +19,7 @@ pub enum Moved {
     Stopped(Outcome),
 }
 
-// A shift: "push the token with its value".
+// A shift: "push the token with its value". Where no symbol has room it stops with 17, which is the machine's answer where the room is for 128 symbols.
 pub fn shift(
     top: Top,
     state: usize,
@@ -46,7 +46,7 @@ pub fn shift(
             count: 0,
         });
     }
-    if top.depth == Top::MAX_SYMBOLS {
+    if top.depth == starts.len() {
         return Moved::Stopped(Outcome {
             number: 17,
             count: 0,

@@ -1,6 +1,7 @@
 // The reduce. The contract asks that the arrays hold some book and a configuration of its machine, and says its statement of all that they hold.
 ghost use mathlib.Core.Path.{_≡_};
 ghost use mathlib.Core.List.{List};
+ghost use Prim.Native.Nat.{_+_, _*_};
 ghost use lib.ListN.{length};
 ghost use Rattle.grammar.specs.Data.Book.{Book};
 ghost use Rattle.grammar.specs.Evaluator.Tree.{Token};
@@ -31,7 +32,7 @@ pub fn reduce(
     starts: &mut [u32],
     rows: &mut [u32],
 ) -> Moved
-    requires { ⌜ Stacks (now states) (now synthesized) (now starts) (now rows) × (length (now inherited) ≡ 2064) ⌝ }
+    requires { ⌜ Stacks (now states) (now synthesized) (now starts) (now rows) × (length (now inherited) ≡ 16 * length (now starts) + 16) ⌝ }
     requires { ⌜ ((b : Book) × (ks : List Token) × (c : Config) × BookIn b (now rules) (now definitions) (now table)
         × LeftIn b (now definitions) (now firsts) (now down) (now up)
         × Poised b ks c (now states) (now inherited) (now synthesized) (now starts) (now rows) top × Reduces b c rule) ⌝ }
@@ -48,7 +49,7 @@ pub fn reduce(
         });
     }
     let below = top.depth - word(rules, 10 * rule as usize + 1);
-    if below == Top::MAX_SYMBOLS {
+    if below == starts.len() {
         return Moved::Stopped(Outcome {
             number: 17,
             count: 0,

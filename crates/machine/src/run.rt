@@ -2,13 +2,13 @@
 // A contract asks that the arrays hold some book and a list of its tokens, and says its statement of all that they hold.
 ghost use mathlib.Core.Path.{_≡_};
 ghost use mathlib.Core.List.{List};
-ghost use lib.ListN.{replicate};
+ghost use lib.ListN.{length, replicate};
 ghost use Rattle.grammar.specs.Data.Book.{Book};
 ghost use Rattle.grammar.specs.Evaluator.Tree.{Token};
 ghost use Rattle.grammar.specs.Evaluator.Machine.{evaluate};
 ghost use Rattle.grammar.specs.Engine.{tablesOf};
 ghost use Rattle.plans.specs.Plans.{PlansIn};
-ghost use Rattle.machine.specs.Moving.{Rooms};
+ghost use Rattle.machine.specs.Moving.{Rooms, Final};
 ghost use Rattle.machine.specs.Running.{RunIn};
 ghost use Rattle.machine.specs.RunningLaws.{Answered};
 ghost use Rattle.stack.specs.Standing.{Message};
@@ -22,7 +22,8 @@ pub struct Outcome {
     pub count: u32,
 }
 
-// The run from the start: the moves until one stops. On a refusal the rows are left as they are, for the caller to clear.
+// The run from the start: the moves until one stops. On a refusal the rows are left as they are, for the caller to clear. Nothing is said of a 17 for
+// want of room in the arrays; the plans are right after it.
 pub fn run(
     rules: &[u32],
     count: u32,
@@ -59,7 +60,9 @@ pub fn run(
         → RunIn b ks (now (rules .entry)) count (now (definitions .entry)) lines (now (owned .entry)) (now (kernels .entry)) (now (heads .entry))
         (now (closures .entry)) (now (nulls .entry)) (now (reaches .entry)) (now (places .entry)) (now (firsts .entry)) (now (down .entry)) (now (up .entry))
         (now (table .entry)) (now (actions .entry)) (now (tokens .entry))
-        → Message b ks → PlansIn b (now (slots .entry)) (now (lists .entry)) → Answered (evaluate b (tablesOf b) ks) r (now (rows .exit))) ⌝ }
+        → Message b ks → PlansIn b (now (slots .entry)) (now (lists .entry))
+        → PlansIn b (now (slots .exit)) (now (lists .exit))
+        × (Final (length (now (starts .entry))) (r .number) → Answered (evaluate b (tablesOf b) ks) r (now (rows .exit)))) ⌝ }
 {
     states[0] = 0;
     let mut top = Top::empty();

@@ -2,6 +2,7 @@
 // A contract asks that the arrays hold some book and a list of its tokens, and says its statement of all that they hold.
 ghost use mathlib.Core.Path.{_≡_};
 ghost use mathlib.Core.List.{List};
+ghost use Prim.Native.Nat.{_+_, _*_};
 ghost use lib.ListN.{length, getD};
 ghost use Rattle.grammar.specs.Data.Book.{Book};
 ghost use Rattle.grammar.specs.Evaluator.Tree.{Token};
@@ -51,7 +52,7 @@ pub fn advance(
     starts: &mut [u32],
     rows: &mut [u32],
 ) -> Moved
-    requires { ⌜ Stacks (now states) (now synthesized) (now starts) (now rows) × (length (now inherited) ≡ 2064) ⌝ }
+    requires { ⌜ Stacks (now states) (now synthesized) (now starts) (now rows) × (length (now inherited) ≡ 16 * length (now starts) + 16) ⌝ }
     requires { ⌜ ((b : Book) × (ks : List Token) × (c : Config)
         × MovesIn b (now rules) (now definitions) (now firsts) (now down) (now up) (now table) (now actions)
         × Poised b ks c (now states) (now inherited) (now synthesized) (now starts) (now rows) top × Facing b c state kind value) ⌝ }

@@ -1,6 +1,6 @@
 -- `machine::moves::shift` meets its contract: the tests refuse where the machine does, and the push is the machine's. Assumes nothing.
 use Prim.Native.Nat.{_+_, _*_}
-use mathlib.Core.Path.{refl}
+use mathlib.Core.Path.{refl, _∙_}
 use native.Mathlib.Omega.{arith}
 use Rattle.machine.specs.Moving.{told-on, told-refused}
 use Rattle.machine.specs.MovingLaws.{shift-rows, shift-symbols, room-left}
@@ -20,15 +20,15 @@ abbrev tests-at : tie.After-push-token → tie.Else2
 tests-at c = c .before .before .before .before .before .before
 
 -- the numbers are small
-low : (c : tie.Start) → ShiftLow (c .pre .1 .0) (c .args .top) (c .args .state) (c .args .kind)
+low : (c : tie.Start) → ShiftLow (c .pre .1 .0) (c .args .starts .now) (c .args .top) (c .args .state) (c .args .kind)
 low c = let s = c .pre .1 in shift-low (s .6) (s .7) (s .8)
 
 returns : tie.Need-returns
-returns c = λ b ks k rules definitions inherited B H X. told-refused (shift-rows B (H .config-in) (X .action-is) (c .if1 .taken)) refl
+returns c = λ b ks k rules definitions inherited B H X. told-refused (λ f. shift-rows B (H .config-in) (X .action-is) (c .if1 .taken)) refl
 
 returns-2 : tie.Need-returns-2
 returns-2 c = λ b ks k rules definitions inherited B H X.
-    told-refused (shift-symbols B (H .config-in) (X .action-is) (c .before .before .if1 .left) (c .if2 .taken)) refl
+    told-refused (λ f. shift-symbols B (H .config-in) (X .action-is) (c .before .before .if1 .left) (c .if2 .taken ∙ f refl)) refl
 
 mul-target : tie.Need-mul-target
 mul-target c = omega (arith, low (start c) .state-low)

@@ -22,11 +22,11 @@ abbrev tests-at : tie.After-put-left → tie.Else2
 tests-at c = c .before .before .before .before .before
 
 -- the numbers are small
-low : (c : tie.Start) → ReduceLow (c .pre .1 .0) (c .args .top) (c .args .rule)
+low : (c : tie.Start) → ReduceLow (c .pre .1 .0) (c .args .starts .now) (c .args .top) (c .args .rule)
 low c = let s = c .pre .1 in reduce-low (s .3) (s .5) (s .6)
 
 returns : tie.Need-returns
-returns c = λ b ks k B F H X. told-refused (reduce-rows B _ (H .config-in) (X .action-is) (c .if1 .taken)) refl
+returns c = λ b ks k B F H X. told-refused (λ f. reduce-rows B _ (H .config-in) (X .action-is) (c .if1 .taken)) refl
 
 mul-word : tie.Need-mul-word
 mul-word c = omega (arith, low (start c) .rule-low)
@@ -43,7 +43,7 @@ sub-below c = let p = start (c .before .before) .pre .1 in reduce-deep (p .3) (p
 returns-2 : tie.Need-returns-2
 returns-2 c = λ b ks k B F H X.
     let w = c .before .before in
-    told-refused (reduce-full B H X (w .word .ensures) (w .before .if1 .left) (c .if2 .taken)) refl
+    told-refused (λ f. reduce-full B H X (w .word .ensures) (w .before .if1 .left) (c .if2 .taken) (f refl)) refl
 
 put-left-requires : tie.Need-put-left-requires
 put-left-requires c κs =

@@ -18,7 +18,7 @@ use Rattle.machine.proofs.run.run.Tie as tie
 abbrev Inv-loop : tie.InvT-loop
 Inv-loop rules count definitions lines owned kernels heads closures nulls reaches places firsts down up table actions tokens =
     λ sets₀ slots₀ lists₀ states₀ inherited₀ synthesized₀ starts₀ rows₀ top₀ sets slots lists states inherited synthesized starts rows top.
-    RoomsLeft (length slots₀) states inherited synthesized starts rows sets slots lists
+    RoomsLeft (length slots₀) (length starts₀) states inherited synthesized starts rows sets slots lists
     × ((b : Book) (ks : List Token)
     → RunIn b ks rules count definitions lines owned kernels heads closures nulls reaches places firsts down up table actions tokens → Message b ks
     → PlansIn b slots₀ lists₀ → Underway b ks states inherited synthesized starts rows slots lists top)
@@ -60,12 +60,12 @@ loop-holds : tie.Need-loop-holds Inv-loop μ-loop
 loop-holds c =
     let s = entry (c .before) in
     let (b, ks, R, M, P) = s .pre .1 in
-    let lent : RoomsLeft (length (s .args .slots .now)) (s .args .states .now) (s .args .inherited .now) (s .args .synthesized .now) (s .args .starts .now)
-    (s .args .rows .now) (s .args .sets .now) (s .args .slots .now) (s .args .lists .now) =
-    record { rooms = s .pre .0 .0; slots-long = refl; lists-long = P .lists-long } in
+    let lent : RoomsLeft (length (s .args .slots .now)) (length (s .args .starts .now)) (s .args .states .now) (s .args .inherited .now)
+    (s .args .synthesized .now) (s .args .starts .now) (s .args .rows .now) (s .args .sets .now) (s .args .slots .now) (s .args .lists .now) =
+    record { rooms = s .pre .0 .0; starts-long = refl; slots-long = refl; lists-long = P .lists-long } in
     let e = c .empty .ensures in (
       rooms-kept lent (length-set (s .args .states .now) 0 0) refl refl refl refl refl refl refl,
-      λ b ks R M P. underway-start (s .args .states .now) P (s .pre .0 .0 .stacks .states-long) (s .pre .0 .1) (e .0) (e .1) (e .2),
+      λ b ks R M P. underway-start (s .args .states .now) P (omega (arith, s .pre .0 .0 .stacks .states-long)) (s .pre .0 .1) (e .0) (e .1) (e .2),
     )
 
 step-requires : tie.Need-step-requires Inv-loop μ-loop
@@ -125,29 +125,43 @@ same-length-4 : tie.Need-same-length-4 Inv-loop μ-loop
 same-length-4 c =
     let a = stopped-at c in
     let l = loop-at a in
-    a .step .kept .1 .1 .1 .1 .1 .1 .1 .1 .1 .1 .1 .1 .1 .1 .1 .1 .1 .1 .1 .1 .1 .0
-    ∙ l .loop .inv .0 .rooms .stacks .states-long ∙ sym (start l .pre .0 .0 .stacks .states-long)
+    omega (
+      arith,
+      a .step .kept .1 .1 .1 .1 .1 .1 .1 .1 .1 .1 .1 .1 .1 .1 .1 .1 .1 .1 .1 .1 .1 .0,
+      l .loop .inv .0 .rooms .stacks .states-long,
+      l .loop .inv .0 .starts-long,
+      start l .pre .0 .0 .stacks .states-long,
+    )
 
 same-length-5 : tie.Need-same-length-5 Inv-loop μ-loop
 same-length-5 c =
     let a = stopped-at c in
     let l = loop-at a in
-    a .step .kept .1 .1 .1 .1 .1 .1 .1 .1 .1 .1 .1 .1 .1 .1 .1 .1 .1 .1 .1 .1 .1 .1 .0
-    ∙ l .loop .inv .0 .rooms .cells-long ∙ sym (start l .pre .0 .0 .cells-long)
+    omega (
+      arith,
+      a .step .kept .1 .1 .1 .1 .1 .1 .1 .1 .1 .1 .1 .1 .1 .1 .1 .1 .1 .1 .1 .1 .1 .1 .0,
+      l .loop .inv .0 .rooms .cells-long,
+      l .loop .inv .0 .starts-long,
+      start l .pre .0 .0 .cells-long,
+    )
 
 same-length-6 : tie.Need-same-length-6 Inv-loop μ-loop
 same-length-6 c =
     let a = stopped-at c in
     let l = loop-at a in
-    a .step .kept .1 .1 .1 .1 .1 .1 .1 .1 .1 .1 .1 .1 .1 .1 .1 .1 .1 .1 .1 .1 .1 .1 .1 .0
-    ∙ l .loop .inv .0 .rooms .stacks .synthesized-long ∙ sym (start l .pre .0 .0 .stacks .synthesized-long)
+    omega (
+      arith,
+      a .step .kept .1 .1 .1 .1 .1 .1 .1 .1 .1 .1 .1 .1 .1 .1 .1 .1 .1 .1 .1 .1 .1 .1 .1 .0,
+      l .loop .inv .0 .rooms .stacks .synthesized-long,
+      l .loop .inv .0 .starts-long,
+      start l .pre .0 .0 .stacks .synthesized-long,
+    )
 
 same-length-7 : tie.Need-same-length-7 Inv-loop μ-loop
 same-length-7 c =
     let a = stopped-at c in
     let l = loop-at a in
-    a .step .kept .1 .1 .1 .1 .1 .1 .1 .1 .1 .1 .1 .1 .1 .1 .1 .1 .1 .1 .1 .1 .1 .1 .1 .1 .0
-    ∙ l .loop .inv .0 .rooms .stacks .starts-long ∙ sym (start l .pre .0 .0 .stacks .starts-long)
+    a .step .kept .1 .1 .1 .1 .1 .1 .1 .1 .1 .1 .1 .1 .1 .1 .1 .1 .1 .1 .1 .1 .1 .1 .1 .1 .0 ∙ l .loop .inv .0 .starts-long
 
 same-length-8 : tie.Need-same-length-8 Inv-loop μ-loop
 same-length-8 c =
@@ -159,7 +173,10 @@ same-length-8 c =
 returns : tie.Need-returns Inv-loop μ-loop
 returns c = λ b ks R M P.
     let a = stopped-at c in
-    step-answers (a .step .ensures b ks R M (loop-at a .loop .inv .1 b ks R M P)) (c .before .moved2 .given .1)
+    let l = loop-at a in
+    let (plans, answered) = step-answers (a .step .ensures b ks R M (l .loop .inv .1 b ks R M P)) (c .before .moved2 .given .1) in
+    let same = a .step .kept .1 .1 .1 .1 .1 .1 .1 .1 .1 .1 .1 .1 .1 .1 .1 .1 .1 .1 .1 .1 .1 .1 .1 .1 .0 ∙ l .loop .inv .0 .starts-long in
+    (plans, λ final. answered (λ e. same ∙ final e))
 
 pub run-spec : {M : Type 1} → statement M
 run-spec =

@@ -19,7 +19,7 @@ slot-low : (q : tie.After-planned) → q .planned .result < 255
 slot-low q = let (b, states, starts, st, A, l, H, M) = start (q .before) .pre .1 in q .planned .ensures b H l M .slot-low
 
 planned-requires : tie.Need-planned-requires
-planned-requires c κs = let p = start c .pre in ((p .1 .0, p .1 .6, p .1 .5, p .1 .7), p .0 .2, p .0 .3)
+planned-requires c κs = let p = start c .pre in ((p .1 .0, p .1 .6, p .1 .5, p .1 .7), p .0 .1, p .0 .2)
 
 mul-n : tie.Need-mul-n
 mul-n c = omega (arith, slot-low (planned-at c))
@@ -44,10 +44,10 @@ set-cell-requires : tie.Need-set-cell-requires
 set-cell-requires c κs =
     let q = planned-at (c .before .before .before) in
     let s = start (q .before) in
-    let (room, height, kind, sets) = s .pre .0 in
+    let (room, kind, sets) = s .pre .0 in
     let (b, states, starts, st, A, l, H, M) = s .pre .1 in
     let T = q .planned .ensures b H l M in (
-      (room, height, omega (arith, T .slot-low, T .plans-in .lists-long, top-short A (s .args .kind) (T .plan-in))),
+      (room, omega (arith, T .slot-low, T .plans-in .lists-long, top-short A (s .args .kind) (T .plan-in))),
       (b, _, top-asked A (s .args .kind) (T .plan-in)),
     )
 
@@ -70,7 +70,7 @@ returns c = λ b states starts st A l H M.
     let s = start (q .before) in
     let T = q .planned .ensures b H l M in
     let asked = top-asked A (s .args .kind) (T .plan-in) in
-    top-set A (s .args .kind) (s .pre .0 .0 .cells-long) (s .pre .0 .1) (T .plans-in) (e .set-cell .ensures b _ asked)
+    top-set A (s .args .kind) (s .pre .0 .0 .cells-long) (T .plans-in) (e .set-cell .ensures b _ asked)
 
 pub set-top-spec : {M : Type 1} → statement M
 set-top-spec =

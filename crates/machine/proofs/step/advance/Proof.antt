@@ -33,7 +33,7 @@ enum-told : tie.Need-enum-told
 enum-told c = search needs
 
 returns : tie.Need-returns
-returns c = λ b ks k R H F. told-refused (due-none R H F (c .before .before .action-of .ensures) (c .enum-told .given .1)) refl
+returns c = λ b ks k R H F. told-refused (λ f. due-none R H F (c .before .before .action-of .ensures) (c .enum-told .given .1)) refl
 
 enum-told-2 : tie.Need-enum-told-2
 enum-told-2 c = search needs

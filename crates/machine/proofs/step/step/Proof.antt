@@ -44,7 +44,14 @@ set-top-requires c κs =
     let (b, ks, R, M, U) = entry n .pre .1 in
     let s = n .before .word .ensures in
     let F = run-facing R M U s (n .number .ensures) refl in (
-      (record { cells-long = L .cells-long; records-long = L .stacks .synthesized-long }, omega (arith, run-low R M U .depth-low), F .kind-low, L .sets-long),
+      (
+        record {
+          cells-long = omega (arith, L .cells-long, run-low R M U .depth-low);
+          records-long = omega (arith, L .stacks .synthesized-long, run-low R M U .depth-low);
+        },
+        F .kind-low,
+        L .sets-long,
+      ),
       (b, _, _, _, run-asked R M U s (n .number .ensures), F .state-there, R .driven .plans-held, U .plans-in),
     )
 

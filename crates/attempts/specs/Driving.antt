@@ -1,10 +1,11 @@
 -- A stored book that is taken, and a message, as the machine asks for them. Assumes nothing.
-use Prim.Native.Nat.{ℕ}
+use Prim.Native.Nat.{ℕ, _+_, _*_, _≤_}
 use mathlib.Core.Path.{_≡_, ap, _∙_}
 use mathlib.Core.List.{List}
 use mathlib.Core.Option.{some}
+use native.Mathlib.Omega.{arith}
 use lib.ListN.{length, replicate}
-use Rattle.grammar.specs.Limits.{PAGE-WORDS}
+use Rattle.grammar.specs.Limits.{PAGE-WORDS, MAX-STACK}
 use Rattle.grammar.specs.Data.Book.{Book as Lines}
 use Rattle.grammar.specs.Formulas.FormulaCheck as grammar
 use Rattle.grammar.specs.Evaluator.Tree.{Token}
@@ -67,16 +68,16 @@ module _ {numbers : Book} {inherited synthesized rules definitions kernels goes 
   pub plans-of : PlansIn b (replicate 4096 0) (replicate 4336 0)
   plans-of = plans-none b (h .ready .conditions-met .limits .states-limit .high)
 
--- the stacks as they are before the first move
-pub run-room : {rows : List ℕ} → rows ≡ replicate PAGE-WORDS 0
-    → Rooms (replicate 129 0) (replicate 2064 0) (replicate 4224 0) (replicate 128 0) rows (replicate 576 0)
-run-room e = record {
+-- the stacks as they are before the first move, with room for n symbols
+pub run-room : (n : ℕ) → n ≤ MAX-STACK → {rows sets : List ℕ} → rows ≡ replicate PAGE-WORDS 0 → length sets ≡ 576
+    → Rooms (replicate (n + 1) 0) (replicate (16 * n + 16) 0) (replicate (33 * n) 0) (replicate n 0) rows sets
+run-room n low e long = record {
   stacks = record {
-    states-long = zeros 129;
-    synthesized-long = zeros 4224;
-    starts-long = zeros 128;
+    starts-low = omega (arith, zeros n);
+    states-long = omega (arith, zeros n, zeros (n + 1));
+    synthesized-long = omega (arith, zeros n, zeros (33 * n));
     rows-long = ap length e ∙ zeros PAGE-WORDS;
   };
-  cells-long = zeros 2064;
-  sets-long = zeros 576;
+  cells-long = omega (arith, zeros n, zeros (16 * n + 16));
+  sets-long = long;
 }

@@ -15,6 +15,7 @@ ghost use Rattle.attempts.specs.Stored.{Found, TakenBook};
 ghost use Rattle.attempts.specs.Evaluations.{Asked, Message};
 ghost use Rattle.attempts.specs.Attempts.{Read, Attempts};
 ghost use Rattle.book.specs.declared.Room.{Room};
+use super::runs::run_message;
 use super::sides::fill_sides;
 use super::tokens::kinds_right;
 use book::Book;
@@ -22,7 +23,6 @@ use book::Room;
 use compiler::compile::Compiled;
 use compiler::compile::compile;
 use machine::run::Outcome;
-use machine::run::run;
 use packing::packing::clear;
 use plans::idle::mark_places;
 use text::classes;
@@ -104,11 +104,7 @@ fn message(
     let mut sets = [0u32; 576];
     let mut slots = [0u8; 4096];
     let mut lists = [0u8; 4336];
-    let mut states = [0u32; 129];
-    let mut cells = [0u32; 2064];
-    let mut records = [0u32; 4224];
-    let mut bounds = [0u32; 128];
-    run(
+    run_message(
         rules,
         book.rules,
         definitions,
@@ -129,10 +125,6 @@ fn message(
         &mut sets,
         &mut slots,
         &mut lists,
-        &mut states,
-        &mut cells,
-        &mut records,
-        &mut bounds,
         rows,
     )
 }

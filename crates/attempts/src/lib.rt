@@ -2,6 +2,7 @@
 pub mod evaluating;
 pub mod reading;
 pub mod rooms;
+pub mod runs;
 pub mod sides;
 pub mod stored;
 pub mod tokens;

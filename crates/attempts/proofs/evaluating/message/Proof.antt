@@ -1,8 +1,8 @@
--- `evaluating::message` meets its contract: the machine is asked with empty stacks, no plans, and the places of the definitions. Assumes nothing.
+-- `evaluating::message` meets its contract: the run is asked with no plans, and the places of the definitions. Assumes nothing.
 use mathlib.Core.Path.{refl}
 use Rattle.compiler.specs.Compiling.{asked-formulas}
 use Rattle.attempts.specs.Sides.{asked-sides}
-use Rattle.attempts.specs.Driving.{places-asked, run-in, tokens-of, plans-of, run-room}
+use Rattle.attempts.specs.Driving.{places-asked, run-in, tokens-of, plans-of}
 use borrow.Author.Needs.{needs}
 use Rattle.attempts.proofs.evaluating.message.Statement.{statement}
 use Rattle.attempts.proofs.evaluating.message.Tie as tie
@@ -17,8 +17,8 @@ sides-start c =
 abbrev sides-at : tie.After-places → tie.After-fill-sides
 sides-at c = c .before .before .before .before .before .before
 
-abbrev marked-at : tie.After-run-arg → tie.After-mark-places
-marked-at c = c .before .before .before .before .before .before .before .before .before .before .before .before .before .before
+abbrev marked-at : tie.After-run-message-arg → tie.After-mark-places
+marked-at c = c .before .before .before .before .before .before .before .before .before .before
 
 slice-aggregate-fill-sides : tie.Need-slice-aggregate-fill-sides
 slice-aggregate-fill-sides c = search needs
@@ -47,51 +47,39 @@ mark-places-requires c κs = let o = sides-at c in
     let (b, t) = sides-start (o .before) .pre .0 in
     ((b, _, _, places-asked t (o .fill-sides .ensures b (asked-sides (t .ready))), asked-formulas (t .ready) .definitions-counted), refl)
 
-slice-aggregate-run : tie.Need-slice-aggregate-run
-slice-aggregate-run c = search needs
+slice-aggregate-run-message : tie.Need-slice-aggregate-run-message
+slice-aggregate-run-message c = search needs
 
-slice-aggregate-run-2 : tie.Need-slice-aggregate-run-2
-slice-aggregate-run-2 c = search needs
+slice-aggregate-run-message-2 : tie.Need-slice-aggregate-run-message-2
+slice-aggregate-run-message-2 c = search needs
 
-slice-aggregate-run-3 : tie.Need-slice-aggregate-run-3
-slice-aggregate-run-3 c = search needs
+slice-aggregate-run-message-3 : tie.Need-slice-aggregate-run-message-3
+slice-aggregate-run-message-3 c = search needs
 
-slice-aggregate-run-4 : tie.Need-slice-aggregate-run-4
-slice-aggregate-run-4 c = search needs
+slice-aggregate-run-message-4 : tie.Need-slice-aggregate-run-message-4
+slice-aggregate-run-message-4 c = search needs
 
-slice-aggregate-run-5 : tie.Need-slice-aggregate-run-5
-slice-aggregate-run-5 c = search needs
+slice-aggregate-run-message-5 : tie.Need-slice-aggregate-run-message-5
+slice-aggregate-run-message-5 c = search needs
 
-slice-aggregate-run-6 : tie.Need-slice-aggregate-run-6
-slice-aggregate-run-6 c = search needs
+slice-aggregate-run-message-6 : tie.Need-slice-aggregate-run-message-6
+slice-aggregate-run-message-6 c = search needs
 
-slice-aggregate-run-7 : tie.Need-slice-aggregate-run-7
-slice-aggregate-run-7 c = search needs
+slice-aggregate-run-message-7 : tie.Need-slice-aggregate-run-message-7
+slice-aggregate-run-message-7 c = search needs
 
-slice-aggregate-run-8 : tie.Need-slice-aggregate-run-8
-slice-aggregate-run-8 c = search needs
+slice-aggregate-run-message-8 : tie.Need-slice-aggregate-run-message-8
+slice-aggregate-run-message-8 c = search needs
 
-slice-aggregate-run-9 : tie.Need-slice-aggregate-run-9
-slice-aggregate-run-9 c = search needs
-
-slice-aggregate-run-10 : tie.Need-slice-aggregate-run-10
-slice-aggregate-run-10 c = search needs
-
-slice-aggregate-run-11 : tie.Need-slice-aggregate-run-11
-slice-aggregate-run-11 c = search needs
-
-slice-aggregate-run-12 : tie.Need-slice-aggregate-run-12
-slice-aggregate-run-12 c = search needs
-
-run-requires : tie.Need-run-requires
-run-requires c κs = let p = marked-at c in
+run-message-requires : tie.Need-run-message-requires
+run-message-requires c κs = let p = marked-at c in
     let o = sides-at (p .before) in
     let s = sides-start (o .before) in
     let (b, t) = s .pre .0 in
     let m = s .pre .1 .0 in
     let sides = o .fill-sides .ensures b (asked-sides (t .ready)) in
     let places = p .mark-places .ensures b _ _ (places-asked t sides) (asked-formulas (t .ready) .definitions-counted) in (
-      (run-room (s .pre .1 .1), s .pre .1 .1),
+      (s .pre .1 .1, refl),
       (b, m .list, run-in t sides places (m .tokens-are), tokens-of t m, plans-of t),
     )
 
@@ -99,11 +87,11 @@ same-length : tie.Need-same-length
 same-length c = search needs
 
 returns : tie.Need-returns
-returns c = λ b t m. let k = c .before .before .before .before .before .before .before .before .before in
+returns c = λ b t m. let k = c .before .before .before .before .before in
     let p = marked-at (k .before) in
     let sides = sides-at (p .before) .fill-sides .ensures b (asked-sides (t .ready)) in
     let places = p .mark-places .ensures b _ _ (places-asked t sides) (asked-formulas (t .ready) .definitions-counted) in
-    k .run .ensures b (m .list) (run-in t sides places (m .tokens-are)) (tokens-of t m) (plans-of t)
+    k .run-message .ensures b (m .list) (run-in t sides places (m .tokens-are)) (tokens-of t m) (plans-of t)
 
 pub message-spec : {M : Type 1} → statement M
 message-spec =
@@ -117,18 +105,14 @@ message-spec =
     cast-mark-places
     slice-aggregate-mark-places
     mark-places-requires
-    slice-aggregate-run
-    slice-aggregate-run-2
-    slice-aggregate-run-3
-    slice-aggregate-run-4
-    slice-aggregate-run-5
-    slice-aggregate-run-6
-    slice-aggregate-run-7
-    slice-aggregate-run-8
-    slice-aggregate-run-9
-    slice-aggregate-run-10
-    slice-aggregate-run-11
-    slice-aggregate-run-12
-    run-requires
+    slice-aggregate-run-message
+    slice-aggregate-run-message-2
+    slice-aggregate-run-message-3
+    slice-aggregate-run-message-4
+    slice-aggregate-run-message-5
+    slice-aggregate-run-message-6
+    slice-aggregate-run-message-7
+    slice-aggregate-run-message-8
+    run-message-requires
     same-length
     returns)

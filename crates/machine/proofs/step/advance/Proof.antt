@@ -18,7 +18,9 @@ mul-action-of : tie.Need-mul-action-of
 mul-action-of c = omega (arith, c .before .before .before .before .before .before .before .before .before .before .before .before .pre .1 .5 .state-low)
 
 add-action-of : tie.Need-add-action-of
-add-action-of c = let F = c .before .before .before .before .before .before .before .before .before .before .before .before .pre .1 .5 in omega (arith, F .state-low, F .kind-low)
+add-action-of c =
+    let F = c .before .before .before .before .before .before .before .before .before .before .before .before .pre .1 .5 in
+    omega (arith, F .state-low, F .kind-low)
 
 shared-slice-read-action-of : tie.Need-shared-slice-read-action-of
 shared-slice-read-action-of c = search needs

@@ -1,6 +1,8 @@
-"""Books whose size is about one at which an engine may go another way: 32 states, 64 kernel or go lines, 48 definitions, 4,096 bytes; and 8 states,
-16 lines of each kind, 1,024 bytes."""
+"""Books and messages whose size is about one at which an engine may go another way: 32 states, 64 kernel or go lines, 48 definitions, 4,096 bytes; 8
+states, 16 lines of each kind, 1,024 bytes; stacks of 32 and of 128 symbols under 24 tokens or a few more; and 253 partial states with definitions."""
 
+import grammar as grammars
+import lr
 import states
 from generate import full, lists, shapes
 from generate.books import random_book
@@ -51,6 +53,71 @@ def lengths(rng, group, shape, shortest, longest, middle):
         add_book(rng, group, grammar, full.padded(grammar, automaton, middle + more))
 
 
+# A token t1 stands on the stack with six empty symbols, t3 alone: few tokens need a stack of any depth.
+DEEP = """(book 3 2)
+(inh i0 n1)
+(syn s0 n1)
+(syn s1 n2)
+(rule 0 n0 n1)
+(rule 1 n1 t1 n2 n2 n2 n2 n2 n2 n1)
+(rule 2 n1 t3 n1)
+(rule 3 n1 t2)
+(rule 4 n2)
+(inhdef 0 1 i0 7)
+(inhdef 1 8 i0 (add (own i0) (at 2 s1)))
+(inhdef 2 2 i0 (sub (own i0) (val 1)))
+(syndef 1 s0 (max (at 8 s0) (own i0)))
+(syndef 2 s0 (add (at 2 s0) (val 1)))
+(syndef 3 s0 (add (val 1) (own i0)))
+(syndef 4 s1 3)
+"""
+
+
+def depths(group):
+    """Stacks of about 32 and 128 symbols under few tokens, and messages of about 24 tokens with a shallow stack; some end too early."""
+    grammar = grammars.read(DEEP)
+    text = states.book_text(grammar, lr.canonical(grammar, 128)).encode()
+    assert compiled(text)[0] == 0
+    group.base(text)
+    deep = [[1] * ((depth - 1) // 7) + [3] * ((depth - 1) % 7) + [2] for middle in (32, 128) for depth in range(middle - 2, middle + 4)]
+    long = [[3] * (count - 1) + [2] for count in (23, 24, 25, 33, 34)]
+    for kinds in deep + long:
+        for ended in (kinds, kinds[:-1], kinds + [2]):
+            group.add(text + lists.spelled([(kind, 10 * place) for place, kind in enumerate(ended)]).encode())
+
+
+LETTERS = 15
+
+
+def empties():
+    """n1 -> n1 tJ n2 n3 n4 for each of 15 terminals, all nonterminals empty: n2, n3 and n4 are given values before every token that follows."""
+    grammar = shapes.of_rules(LETTERS, 4, "n0 n1", "n1", *(f"n1 n1 t{which + 1} n2 n3 n4" for which in range(LETTERS)), "n2", "n3", "n4")
+    grammar.inh, grammar.syn = ["n2", "n3", "n4"], ["n1", "n2", "n3", "n4"]
+    grammar.syndefs[1, 0] = "1"
+    for rule in range(2, 2 + LETTERS):
+        grammar.inhdefs[rule, 3, 0] = ["add", ["val", "2"], str(rule)]
+        grammar.inhdefs[rule, 4, 1] = ["sub", ["at", "3", "s1"], ["at", "1", "s0"]]
+        grammar.inhdefs[rule, 5, 2] = ["max", ["at", "4", "s2"], ["val", "2"]]
+        grammar.syndefs[rule, 0] = ["add", ["at", "5", "s3"], ["at", "3", "s1"]]
+    for which in range(3):
+        grammar.syndefs[2 + LETTERS + which, 1 + which] = ["own", f"i{which}"]
+    return grammar
+
+
+def many_partial_states(group):
+    """Messages that meet more than 253 partial states with definitions, and then some of them again."""
+    grammar = empties()
+    text = states.book_text(grammar, lr.canonical(grammar, 128)).encode()
+    assert compiled(text)[0] == 0
+    group.base(text)
+    follows, letters = [LETTERS] * LETTERS, [0]
+    while len(letters) < 103:
+        follows[letters[-1]] -= 1
+        letters.append(follows[letters[-1]])
+    for kinds in (letters[:84], letters[:85], letters[:102], letters, letters[:96] + letters[:6], letters[:90] + [7] * 12):
+        group.add(text + lists.spelled([(kind + 1, 5 * place) for place, kind in enumerate(kinds)]).encode())
+
+
 def fill(rng, group):
     """All of these."""
     counts_of_states(rng, group, shapes.sums, {"all_states": 32, "all_kernels": 64, "all_goes": 64})
@@ -59,3 +126,5 @@ def fill(rng, group):
     counts_of_states(rng, group, shapes.left_list, {"all_states": 8, "all_kernels": 16, "all_goes": 16})
     counts_of_definitions(rng, group, (shapes.right_list, shapes.left_list, shapes.right_list_of_tokens), 16, 1000)
     lengths(rng, group, lambda: grown(rng, 31, 3, 5, 30, True), 600, 900, 1024)
+    depths(group)
+    many_partial_states(group)

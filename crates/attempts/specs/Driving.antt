@@ -69,9 +69,9 @@ module _ {numbers : Book} {inherited synthesized rules definitions kernels goes 
   plans-of = plans-none b (h .ready .conditions-met .limits .states-limit .high)
 
 -- the stacks as they are before the first move, with room for n symbols
-pub run-room : (n : ℕ) → n ≤ MAX-STACK → {rows sets : List ℕ} → rows ≡ replicate PAGE-WORDS 0 → length sets ≡ 576
-    → Rooms (replicate (n + 1) 0) (replicate (16 * n + 16) 0) (replicate (33 * n) 0) (replicate n 0) rows sets
-run-room n low e long = record {
+pub run-room : (n : ℕ) → n ≤ MAX-STACK → {rows : List ℕ} → rows ≡ replicate PAGE-WORDS 0
+    → Rooms (replicate (n + 1) 0) (replicate (16 * n + 16) 0) (replicate (33 * n) 0) (replicate n 0) rows (replicate 576 0)
+run-room n low e = record {
   stacks = record {
     starts-low = omega (arith, zeros n);
     states-long = omega (arith, zeros n, zeros (n + 1));
@@ -79,5 +79,5 @@ run-room n low e long = record {
     rows-long = ap length e ∙ zeros PAGE-WORDS;
   };
   cells-long = omega (arith, zeros n, zeros (16 * n + 16));
-  sets-long = long;
+  sets-long = zeros 576;
 }

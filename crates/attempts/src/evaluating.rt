@@ -1,30 +1,19 @@
 // A message under a stored book, by arrays of a room.
-ghost use mathlib.Core.Path.{_≡_};
 ghost use mathlib.Core.Bool.{true};
 ghost use mathlib.Core.List.{List};
 ghost use Prim.Native.Nat.{ℕ, _+_, _*_, _≤_};
-ghost use lib.ListN.{length, replicate};
-ghost use Rattle.grammar.specs.Limits.{PAGE-WORDS};
-ghost use Rattle.grammar.specs.Data.Book.{Book as Lines};
-ghost use Rattle.grammar.specs.Evaluator.Machine.{evaluate};
-ghost use Rattle.grammar.specs.Engine.{tablesOf};
-ghost use Rattle.conditions.specs.Answers.{Some};
-ghost use Rattle.machine.specs.RunningLaws.{Answered};
+ghost use lib.ListN.{length};
 ghost use Rattle.attempts.specs.Rooms.{ArraysLent};
-ghost use Rattle.attempts.specs.Stored.{Found, TakenBook};
-ghost use Rattle.attempts.specs.Evaluations.{Asked, Message};
+ghost use Rattle.attempts.specs.Stored.{Found};
+ghost use Rattle.attempts.specs.Evaluations.{Asked};
 ghost use Rattle.attempts.specs.Attempts.{Read, Attempts};
 ghost use Rattle.book.specs.declared.Room.{Room};
-use super::runs::run_message;
-use super::sides::fill_sides;
+use super::messages::message;
 use super::tokens::kinds_right;
-use book::Book;
 use book::Room;
 use compiler::compile::Compiled;
 use compiler::compile::compile;
-use machine::run::Outcome;
 use packing::packing::clear;
-use plans::idle::mark_places;
 use text::classes;
 
 // Words of all rows.
@@ -50,83 +39,6 @@ fn asked(tokens: &[u32], terminals: u32, lent: usize) -> u32
         return 14;
     }
     0
-}
-
-// Runs the machine over a book that is taken and the tokens of a message.
-fn message(
-    book: Book,
-    inherited: &[u32],
-    synthesized: &[u32],
-    rules: &[u32],
-    definitions: &[u32],
-    kernels: &[u32],
-    goes: &[u32],
-    vanishes: &[u32],
-    begins: &[u32],
-    reached: &[u32],
-    starts: &[u32],
-    lookaheads: &[u32],
-    table: &[u8],
-    actions: &[u8],
-    tokens: &[u32],
-    rows: &mut [u32],
-) -> Outcome
-    requires { ⌜ Some (TakenBook book (now inherited) (now synthesized) (now rules) (now definitions) (now kernels) (now goes) (now vanishes) (now begins)
-        (now reached) (now starts) (now lookaheads) (now table) (now actions)) ⌝ }
-    requires { ⌜ Message (book .terminals) (now tokens) × (now rows ≡ replicate PAGE-WORDS 0) ⌝ }
-    ensures { λ r. ⌜ ((b : Lines) → TakenBook book (now (inherited .entry)) (now (synthesized .entry)) (now (rules .entry)) (now (definitions .entry))
-        (now (kernels .entry)) (now (goes .entry)) (now (vanishes .entry)) (now (begins .entry)) (now (reached .entry)) (now (starts .entry))
-        (now (lookaheads .entry)) (now (table .entry)) (now (actions .entry)) b
-        → (m : Message (book .terminals) (now (tokens .entry)))
-        → Answered (evaluate b (tablesOf b) (m .list)) r (now (rows .exit))) ⌝ }
-{
-    let mut own = [0u32; 32];
-    let mut firsts = [0u32; 65];
-    let mut down = [0u32; 160];
-    let mut up = [0u32; 160];
-    fill_sides(
-        book,
-        inherited,
-        synthesized,
-        definitions,
-        &mut own,
-        &mut firsts,
-        &mut down,
-        &mut up,
-    );
-    let mut places = [0u32; 608];
-    mark_places(
-        definitions,
-        book.inherited_definitions as usize,
-        rules,
-        &mut places,
-    );
-    let mut sets = [0u32; 576];
-    let mut slots = [0u8; 4096];
-    let mut lists = [0u8; 4336];
-    run_message(
-        rules,
-        book.rules,
-        definitions,
-        book.inherited_definitions,
-        &own,
-        kernels,
-        starts,
-        lookaheads,
-        vanishes,
-        reached,
-        &places,
-        &firsts,
-        &down,
-        &up,
-        table,
-        actions,
-        tokens,
-        &mut sets,
-        &mut slots,
-        &mut lists,
-        rows,
-    )
 }
 
 // The number that is answered; nothing is said where arrays have no room for what the book has.

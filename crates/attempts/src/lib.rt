@@ -1,8 +1,8 @@
 // The two calls by arrays of a room: a text read, or a message answered, where the arrays have room for the book.
 pub mod evaluating;
+pub mod messages;
 pub mod reading;
 pub mod rooms;
-pub mod runs;
 pub mod sides;
 pub mod stored;
 pub mod tokens;

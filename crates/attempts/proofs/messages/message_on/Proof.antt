@@ -1,24 +1,24 @@
--- `evaluating::message` meets its contract: the run is asked with no plans, and the places of the definitions. Assumes nothing.
+-- `messages::message_on` meets its contract: the machine is asked with no plans, and the places of the definitions. Assumes nothing.
 use mathlib.Core.Path.{refl}
 use Rattle.compiler.specs.Compiling.{asked-formulas}
 use Rattle.attempts.specs.Sides.{asked-sides}
 use Rattle.attempts.specs.Driving.{places-asked, run-in, tokens-of, plans-of}
 use borrow.Author.Needs.{needs}
-use Rattle.attempts.proofs.evaluating.message.Statement.{statement}
-use Rattle.attempts.proofs.evaluating.message.Tie as tie
+use Rattle.attempts.proofs.messages.message_on.Statement.{statement}
+use Rattle.attempts.proofs.messages.message_on.Tie as tie
 
 -- from each call back to the entry
 
 abbrev sides-start : tie.After-up → tie.Start
 sides-start c =
-    c .before .before .before .before .before .before .before .before .before .before .before
-    .before .before .before .before .before .before .before .before
+    c .before .before .before .before .before .before .before .before .before .before .before .before
+    .before .before .before .before .before .before .before .before .before .before .before
 
 abbrev sides-at : tie.After-places → tie.After-fill-sides
 sides-at c = c .before .before .before .before .before .before
 
-abbrev marked-at : tie.After-run-message-arg → tie.After-mark-places
-marked-at c = c .before .before .before .before .before .before .before .before .before .before
+abbrev marked-at : tie.After-run-arg5 → tie.After-mark-places
+marked-at c = c .before .before .before .before .before .before .before .before .before .before .before .before .before .before
 
 slice-aggregate-fill-sides : tie.Need-slice-aggregate-fill-sides
 slice-aggregate-fill-sides c = search needs
@@ -47,54 +47,66 @@ mark-places-requires c κs = let o = sides-at c in
     let (b, t) = sides-start (o .before) .pre .0 in
     ((b, _, _, places-asked t (o .fill-sides .ensures b (asked-sides (t .ready))), asked-formulas (t .ready) .definitions-counted), refl)
 
-slice-aggregate-run-message : tie.Need-slice-aggregate-run-message
-slice-aggregate-run-message c = search needs
+slice-aggregate-run : tie.Need-slice-aggregate-run
+slice-aggregate-run c = search needs
 
-slice-aggregate-run-message-2 : tie.Need-slice-aggregate-run-message-2
-slice-aggregate-run-message-2 c = search needs
+slice-aggregate-run-2 : tie.Need-slice-aggregate-run-2
+slice-aggregate-run-2 c = search needs
 
-slice-aggregate-run-message-3 : tie.Need-slice-aggregate-run-message-3
-slice-aggregate-run-message-3 c = search needs
+slice-aggregate-run-3 : tie.Need-slice-aggregate-run-3
+slice-aggregate-run-3 c = search needs
 
-slice-aggregate-run-message-4 : tie.Need-slice-aggregate-run-message-4
-slice-aggregate-run-message-4 c = search needs
+slice-aggregate-run-4 : tie.Need-slice-aggregate-run-4
+slice-aggregate-run-4 c = search needs
 
-slice-aggregate-run-message-5 : tie.Need-slice-aggregate-run-message-5
-slice-aggregate-run-message-5 c = search needs
+slice-aggregate-run-5 : tie.Need-slice-aggregate-run-5
+slice-aggregate-run-5 c = search needs
 
-slice-aggregate-run-message-6 : tie.Need-slice-aggregate-run-message-6
-slice-aggregate-run-message-6 c = search needs
+slice-aggregate-run-6 : tie.Need-slice-aggregate-run-6
+slice-aggregate-run-6 c = search needs
 
-slice-aggregate-run-message-7 : tie.Need-slice-aggregate-run-message-7
-slice-aggregate-run-message-7 c = search needs
+slice-aggregate-run-7 : tie.Need-slice-aggregate-run-7
+slice-aggregate-run-7 c = search needs
 
-slice-aggregate-run-message-8 : tie.Need-slice-aggregate-run-message-8
-slice-aggregate-run-message-8 c = search needs
+slice-aggregate-run-8 : tie.Need-slice-aggregate-run-8
+slice-aggregate-run-8 c = search needs
 
-run-message-requires : tie.Need-run-message-requires
-run-message-requires c κs = let p = marked-at c in
+run-requires : tie.Need-run-requires
+run-requires c κs = let p = marked-at c in
     let o = sides-at (p .before) in
     let s = sides-start (o .before) in
     let (b, t) = s .pre .0 in
     let m = s .pre .1 .0 in
     let sides = o .fill-sides .ensures b (asked-sides (t .ready)) in
     let places = p .mark-places .ensures b _ _ (places-asked t sides) (asked-formulas (t .ready) .definitions-counted) in (
-      (s .pre .1 .1, refl),
+      (s .pre .1 .2, s .pre .1 .1),
       (b, m .list, run-in t sides places (m .tokens-are), tokens-of t m, plans-of t),
     )
 
 same-length : tie.Need-same-length
 same-length c = search needs
 
+same-length-2 : tie.Need-same-length-2
+same-length-2 c = search needs
+
+same-length-3 : tie.Need-same-length-3
+same-length-3 c = search needs
+
+same-length-4 : tie.Need-same-length-4
+same-length-4 c = search needs
+
+same-length-5 : tie.Need-same-length-5
+same-length-5 c = search needs
+
 returns : tie.Need-returns
-returns c = λ b t m. let k = c .before .before .before .before .before in
+returns c = λ b t m. let k = c .before .before .before .before .before .before .before .before .before .before .before .before .before in
     let p = marked-at (k .before) in
     let sides = sides-at (p .before) .fill-sides .ensures b (asked-sides (t .ready)) in
     let places = p .mark-places .ensures b _ _ (places-asked t sides) (asked-formulas (t .ready) .definitions-counted) in
-    k .run-message .ensures b (m .list) (run-in t sides places (m .tokens-are)) (tokens-of t m) (plans-of t)
+    k .run .ensures b (m .list) (run-in t sides places (m .tokens-are)) (tokens-of t m) (plans-of t) .1
 
-pub message-spec : {M : Type 1} → statement M
-message-spec =
+pub message-on-spec : {M : Type 1} → statement M
+message-on-spec =
     tie.close
     (tie.spec
     slice-aggregate-fill-sides
@@ -105,14 +117,18 @@ message-spec =
     cast-mark-places
     slice-aggregate-mark-places
     mark-places-requires
-    slice-aggregate-run-message
-    slice-aggregate-run-message-2
-    slice-aggregate-run-message-3
-    slice-aggregate-run-message-4
-    slice-aggregate-run-message-5
-    slice-aggregate-run-message-6
-    slice-aggregate-run-message-7
-    slice-aggregate-run-message-8
-    run-message-requires
+    slice-aggregate-run
+    slice-aggregate-run-2
+    slice-aggregate-run-3
+    slice-aggregate-run-4
+    slice-aggregate-run-5
+    slice-aggregate-run-6
+    slice-aggregate-run-7
+    slice-aggregate-run-8
+    run-requires
     same-length
+    same-length-2
+    same-length-3
+    same-length-4
+    same-length-5
     returns)

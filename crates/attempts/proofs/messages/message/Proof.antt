@@ -1,0 +1,70 @@
+-- `messages::message` meets its contract: after a short run that has no room the rows are cleared, so that the full one may follow. Assumes nothing.
+use mathlib.Core.Path.{ap, _∙_}
+use lib.ListN.{length, replicate}
+use borrow.Author.Needs.{needs}
+use Rattle.grammar.specs.Limits.{PAGE-WORDS}
+use Rattle.attempts.specs.Rooms.{zeros}
+use Rattle.attempts.proofs.messages.message.Statement.{statement}
+use Rattle.attempts.proofs.messages.message.Tie as tie
+
+-- from each call back to the one before
+
+abbrev start : tie.After-message-short → tie.Start
+start c =
+    c .before .before .before .before .before .before .before .before .before
+    .before .before .before .before .before .before .before .before .before
+
+abbrev short-at : tie.After-clear → tie.After-message-short
+short-at c = c .before .before .before .before .before .before
+
+message-full-requires : tie.Need-message-full-requires
+message-full-requires c κs = search needs
+
+same-length : tie.Need-same-length
+same-length c = search needs
+
+returns : tie.Need-returns
+returns c = search needs
+
+message-short-requires : tie.Need-message-short-requires
+message-short-requires c κs = search needs
+
+same-length-2 : tie.Need-same-length-2
+same-length-2 c = search needs
+
+returns-2 : tie.Need-returns-2
+returns-2 c = λ b t m.
+    let k = c .before .before .before .before in
+    k .message-short .ensures b t m (c .if2 .taken)
+
+clear-requires : tie.Need-clear-requires
+clear-requires c κs = search needs
+
+message-full-requires-2 : tie.Need-message-full-requires-2
+message-full-requires-2 c κs =
+    let e = c .before .before .before in
+    let k = short-at e in
+    let s = start k in
+    let long = k .message-short .kept .1 .1 .1 .1 .1 .1 .1 .1 .1 .1 .1 .1 .1 .1 .1 .0 in
+    (s .pre .0, (s .pre .1 .0, e .clear .ensures ∙ ap (λ n. replicate n 0) (long ∙ ap length (s .pre .1 .1) ∙ zeros PAGE-WORDS)))
+
+same-length-3 : tie.Need-same-length-3
+same-length-3 c = search needs
+
+returns-3 : tie.Need-returns-3
+returns-3 c = search needs
+
+pub message-spec : {M : Type 1} → statement M
+message-spec =
+    tie.close
+    (tie.spec
+    message-full-requires
+    same-length
+    returns
+    message-short-requires
+    same-length-2
+    returns-2
+    clear-requires
+    message-full-requires-2
+    same-length-3
+    returns-3)

@@ -1,0 +1,45 @@
+-- `messages::message_short` meets its contract: an answer other than a want of room is the machine's. Assumes nothing.
+use native.Mathlib.Omega.{arith}
+use borrow.Author.Needs.{needs}
+use Rattle.attempts.specs.Driving.{run-room}
+use Rattle.attempts.proofs.messages.message_short.Statement.{statement}
+use Rattle.attempts.proofs.messages.message_short.Tie as tie
+
+-- from the call back to the entry
+abbrev start : tie.After-bounds → tie.Start
+start c =
+    c .before .before .before .before .before .before .before .before .before .before
+    .before .before .before .before .before .before .before .before .before .before
+
+slice-aggregate-message-on : tie.Need-slice-aggregate-message-on
+slice-aggregate-message-on c = search needs
+
+slice-aggregate-message-on-2 : tie.Need-slice-aggregate-message-on-2
+slice-aggregate-message-on-2 c = search needs
+
+slice-aggregate-message-on-3 : tie.Need-slice-aggregate-message-on-3
+slice-aggregate-message-on-3 c = search needs
+
+slice-aggregate-message-on-4 : tie.Need-slice-aggregate-message-on-4
+slice-aggregate-message-on-4 c = search needs
+
+message-on-requires : tie.Need-message-on-requires
+message-on-requires c κs = let s = start c in (s .pre .0, (s .pre .1 .0, s .pre .1 .1, run-room 32 (omega arith) (s .pre .1 .1)))
+
+same-length : tie.Need-same-length
+same-length c = search needs
+
+returns : tie.Need-returns
+returns c = λ b t m n. let k = c .before .before .before .before .before .before in k .message-on .ensures b t m (λ e. absurd (n e))
+
+pub message-short-spec : {M : Type 1} → statement M
+message-short-spec =
+    tie.close
+    (tie.spec
+    slice-aggregate-message-on
+    slice-aggregate-message-on-2
+    slice-aggregate-message-on-3
+    slice-aggregate-message-on-4
+    message-on-requires
+    same-length
+    returns)

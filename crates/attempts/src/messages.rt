@@ -1,0 +1,319 @@
+// The machine's run over a message under a book that is taken, by stacks of two sizes: short messages need few symbols, and long arrays cost time to clear.
+ghost use mathlib.Core.Path.{_≡_};
+ghost use mathlib.Core.Logic.{_≢_};
+ghost use lib.ListN.{length, replicate};
+ghost use Rattle.grammar.specs.Limits.{PAGE-WORDS};
+ghost use Rattle.grammar.specs.Data.Book.{Book as Lines};
+ghost use Rattle.grammar.specs.Evaluator.Machine.{evaluate};
+ghost use Rattle.grammar.specs.Engine.{tablesOf};
+ghost use Rattle.conditions.specs.Answers.{Some};
+ghost use Rattle.machine.specs.Moving.{Rooms, Final};
+ghost use Rattle.machine.specs.RunningLaws.{Answered};
+ghost use Rattle.attempts.specs.Stored.{TakenBook};
+ghost use Rattle.attempts.specs.Evaluations.{Message};
+use super::sides::fill_sides;
+use book::Book;
+use machine::run::Outcome;
+use machine::run::run;
+use packing::packing::clear;
+use plans::idle::mark_places;
+
+// Symbols of the short stacks and of the full ones. Each has a state, a cell of 16 words, a record of 33 and its start; above them stand the state and the
+// cell on top.
+const SHORT_STACK: usize = 32;
+
+const FULL_STACK: usize = 128;
+
+// Numbers of the most tokens of a short message.
+const SHORT_WORDS: usize = 48;
+
+// The answer where the symbols have no room.
+const NO_ROOM: u32 = 17;
+
+// The run by stacks of the caller, whose symbols are as many as their bounds. Nothing is said of a 17 for want of room in stacks that are not full.
+fn message_on(
+    book: Book,
+    inherited: &[u32],
+    synthesized: &[u32],
+    rules: &[u32],
+    definitions: &[u32],
+    kernels: &[u32],
+    goes: &[u32],
+    vanishes: &[u32],
+    begins: &[u32],
+    reached: &[u32],
+    starts: &[u32],
+    lookaheads: &[u32],
+    table: &[u8],
+    actions: &[u8],
+    tokens: &[u32],
+    rows: &mut [u32],
+    states: &mut [u32],
+    cells: &mut [u32],
+    records: &mut [u32],
+    bounds: &mut [u32],
+) -> Outcome
+    requires { ⌜ Some (TakenBook book (now inherited) (now synthesized) (now rules) (now definitions) (now kernels) (now goes) (now vanishes) (now begins)
+        (now reached) (now starts) (now lookaheads) (now table) (now actions)) ⌝ }
+    requires { ⌜ Message (book .terminals) (now tokens) × (now rows ≡ replicate PAGE-WORDS 0)
+        × Rooms (now states) (now cells) (now records) (now bounds) (now rows) (replicate 576 0) ⌝ }
+    ensures { λ r. ⌜ ((b : Lines) → TakenBook book (now (inherited .entry)) (now (synthesized .entry)) (now (rules .entry)) (now (definitions .entry))
+        (now (kernels .entry)) (now (goes .entry)) (now (vanishes .entry)) (now (begins .entry)) (now (reached .entry)) (now (starts .entry))
+        (now (lookaheads .entry)) (now (table .entry)) (now (actions .entry)) b
+        → (m : Message (book .terminals) (now (tokens .entry)))
+        → Final (length (now (bounds .entry))) (r .number) → Answered (evaluate b (tablesOf b) (m .list)) r (now (rows .exit))) ⌝ }
+{
+    let mut own = [0u32; 32];
+    let mut firsts = [0u32; 65];
+    let mut down = [0u32; 160];
+    let mut up = [0u32; 160];
+    fill_sides(
+        book,
+        inherited,
+        synthesized,
+        definitions,
+        &mut own,
+        &mut firsts,
+        &mut down,
+        &mut up,
+    );
+    let mut places = [0u32; 608];
+    mark_places(
+        definitions,
+        book.inherited_definitions as usize,
+        rules,
+        &mut places,
+    );
+    let mut sets = [0u32; 576];
+    let mut slots = [0u8; 4096];
+    let mut lists = [0u8; 4336];
+    run(
+        rules,
+        book.rules,
+        definitions,
+        book.inherited_definitions,
+        &own,
+        kernels,
+        starts,
+        lookaheads,
+        vanishes,
+        reached,
+        &places,
+        &firsts,
+        &down,
+        &up,
+        table,
+        actions,
+        tokens,
+        &mut sets,
+        &mut slots,
+        &mut lists,
+        states,
+        cells,
+        records,
+        bounds,
+        rows,
+    )
+}
+
+// The run by the short stacks. Nothing is said where they have no room.
+fn message_short(
+    book: Book,
+    inherited: &[u32],
+    synthesized: &[u32],
+    rules: &[u32],
+    definitions: &[u32],
+    kernels: &[u32],
+    goes: &[u32],
+    vanishes: &[u32],
+    begins: &[u32],
+    reached: &[u32],
+    starts: &[u32],
+    lookaheads: &[u32],
+    table: &[u8],
+    actions: &[u8],
+    tokens: &[u32],
+    rows: &mut [u32],
+) -> Outcome
+    requires { ⌜ Some (TakenBook book (now inherited) (now synthesized) (now rules) (now definitions) (now kernels) (now goes) (now vanishes) (now begins)
+        (now reached) (now starts) (now lookaheads) (now table) (now actions)) ⌝ }
+    requires { ⌜ Message (book .terminals) (now tokens) × (now rows ≡ replicate PAGE-WORDS 0) ⌝ }
+    ensures { λ r. ⌜ ((b : Lines) → TakenBook book (now (inherited .entry)) (now (synthesized .entry)) (now (rules .entry)) (now (definitions .entry))
+        (now (kernels .entry)) (now (goes .entry)) (now (vanishes .entry)) (now (begins .entry)) (now (reached .entry)) (now (starts .entry))
+        (now (lookaheads .entry)) (now (table .entry)) (now (actions .entry)) b
+        → (m : Message (book .terminals) (now (tokens .entry)))
+        → r .number ≢ 17 → Answered (evaluate b (tablesOf b) (m .list)) r (now (rows .exit))) ⌝ }
+{
+    let mut states = [0u32; SHORT_STACK + 1];
+    let mut cells = [0u32; 16 * SHORT_STACK + 16];
+    let mut records = [0u32; 33 * SHORT_STACK];
+    let mut bounds = [0u32; SHORT_STACK];
+    message_on(
+        book,
+        inherited,
+        synthesized,
+        rules,
+        definitions,
+        kernels,
+        goes,
+        vanishes,
+        begins,
+        reached,
+        starts,
+        lookaheads,
+        table,
+        actions,
+        tokens,
+        rows,
+        &mut states,
+        &mut cells,
+        &mut records,
+        &mut bounds,
+    )
+}
+
+// The run by the full stacks, of as many symbols as may stand.
+fn message_full(
+    book: Book,
+    inherited: &[u32],
+    synthesized: &[u32],
+    rules: &[u32],
+    definitions: &[u32],
+    kernels: &[u32],
+    goes: &[u32],
+    vanishes: &[u32],
+    begins: &[u32],
+    reached: &[u32],
+    starts: &[u32],
+    lookaheads: &[u32],
+    table: &[u8],
+    actions: &[u8],
+    tokens: &[u32],
+    rows: &mut [u32],
+) -> Outcome
+    requires { ⌜ Some (TakenBook book (now inherited) (now synthesized) (now rules) (now definitions) (now kernels) (now goes) (now vanishes) (now begins)
+        (now reached) (now starts) (now lookaheads) (now table) (now actions)) ⌝ }
+    requires { ⌜ Message (book .terminals) (now tokens) × (now rows ≡ replicate PAGE-WORDS 0) ⌝ }
+    ensures { λ r. ⌜ ((b : Lines) → TakenBook book (now (inherited .entry)) (now (synthesized .entry)) (now (rules .entry)) (now (definitions .entry))
+        (now (kernels .entry)) (now (goes .entry)) (now (vanishes .entry)) (now (begins .entry)) (now (reached .entry)) (now (starts .entry))
+        (now (lookaheads .entry)) (now (table .entry)) (now (actions .entry)) b
+        → (m : Message (book .terminals) (now (tokens .entry)))
+        → Answered (evaluate b (tablesOf b) (m .list)) r (now (rows .exit))) ⌝ }
+{
+    let mut states = [0u32; FULL_STACK + 1];
+    let mut cells = [0u32; 16 * FULL_STACK + 16];
+    let mut records = [0u32; 33 * FULL_STACK];
+    let mut bounds = [0u32; FULL_STACK];
+    message_on(
+        book,
+        inherited,
+        synthesized,
+        rules,
+        definitions,
+        kernels,
+        goes,
+        vanishes,
+        begins,
+        reached,
+        starts,
+        lookaheads,
+        table,
+        actions,
+        tokens,
+        rows,
+        &mut states,
+        &mut cells,
+        &mut records,
+        &mut bounds,
+    )
+}
+
+// The run by the short stacks where the message is short, and by the full ones where it is not or where the short ones have no room.
+pub fn message(
+    book: Book,
+    inherited: &[u32],
+    synthesized: &[u32],
+    rules: &[u32],
+    definitions: &[u32],
+    kernels: &[u32],
+    goes: &[u32],
+    vanishes: &[u32],
+    begins: &[u32],
+    reached: &[u32],
+    starts: &[u32],
+    lookaheads: &[u32],
+    table: &[u8],
+    actions: &[u8],
+    tokens: &[u32],
+    rows: &mut [u32],
+) -> Outcome
+    requires { ⌜ Some (TakenBook book (now inherited) (now synthesized) (now rules) (now definitions) (now kernels) (now goes) (now vanishes) (now begins)
+        (now reached) (now starts) (now lookaheads) (now table) (now actions)) ⌝ }
+    requires { ⌜ Message (book .terminals) (now tokens) × (now rows ≡ replicate PAGE-WORDS 0) ⌝ }
+    ensures { λ r. ⌜ ((b : Lines) → TakenBook book (now (inherited .entry)) (now (synthesized .entry)) (now (rules .entry)) (now (definitions .entry))
+        (now (kernels .entry)) (now (goes .entry)) (now (vanishes .entry)) (now (begins .entry)) (now (reached .entry)) (now (starts .entry))
+        (now (lookaheads .entry)) (now (table .entry)) (now (actions .entry)) b
+        → (m : Message (book .terminals) (now (tokens .entry)))
+        → Answered (evaluate b (tablesOf b) (m .list)) r (now (rows .exit))) ⌝ }
+{
+    if SHORT_WORDS < tokens.len() {
+        return message_full(
+            book,
+            inherited,
+            synthesized,
+            rules,
+            definitions,
+            kernels,
+            goes,
+            vanishes,
+            begins,
+            reached,
+            starts,
+            lookaheads,
+            table,
+            actions,
+            tokens,
+            rows,
+        );
+    }
+    let outcome = message_short(
+        book,
+        inherited,
+        synthesized,
+        rules,
+        definitions,
+        kernels,
+        goes,
+        vanishes,
+        begins,
+        reached,
+        starts,
+        lookaheads,
+        table,
+        actions,
+        tokens,
+        rows,
+    );
+    if outcome.number != NO_ROOM {
+        return outcome;
+    }
+    clear(rows);
+    message_full(
+        book,
+        inherited,
+        synthesized,
+        rules,
+        definitions,
+        kernels,
+        goes,
+        vanishes,
+        begins,
+        reached,
+        starts,
+        lookaheads,
+        table,
+        actions,
+        tokens,
+        rows,
+    )
+}

@@ -100,24 +100,24 @@ module _ {b : Book} {ks : List Token} {states inherited synthesized starts rows 
 module _ (b : Book) (ks : List Token) (top : Top) (states inherited synthesized starts rows slots lists : List ℕ) where
   pub data Stepped : Moved → Type 0 where
     goes-on : {next : Top} → Underway b ks states inherited synthesized starts rows slots lists next → 512 - next .rows < 512 - top .rows → Stepped (On next)
-    answers : {r : Outcome} → PlansIn b slots lists → (Final (length starts) (r .number) → Answered (evaluate b (tablesOf b) ks) r rows) → Stepped (Stopped r)
+    answers : {r : Outcome} → (Final (length starts) (r .number) → Answered (evaluate b (tablesOf b) ks) r rows) → Stepped (Stopped r)
 
 -- by its answer
 module _ {b : Book} {ks : List Token} {top : Top} {states inherited synthesized starts rows slots lists : List ℕ} where
   pub step-more : {m : Moved} {next : Top} → Stepped b ks top states inherited synthesized starts rows slots lists m → m ≡ On next
       → Underway b ks states inherited synthesized starts rows slots lists next
   step-more {next = next} (goes-on {next = n} u l) e = let same : n ≡ next = cc in rw same at u
-  step-more (answers p a) e = absurd (let z : _≡_ {A = ℕ} 0 1 = cc in omega arith)
+  step-more (answers a) e = absurd (let z : _≡_ {A = ℕ} 0 1 = cc in omega arith)
 
   pub step-less : {m : Moved} {next : Top} → Stepped b ks top states inherited synthesized starts rows slots lists m → m ≡ On next
       → 512 - next .rows < 512 - top .rows
   step-less {next = next} (goes-on {next = n} u l) e = let same : n ≡ next = cc in rw same at l
-  step-less (answers p a) e = absurd (let z : _≡_ {A = ℕ} 0 1 = cc in omega arith)
+  step-less (answers a) e = absurd (let z : _≡_ {A = ℕ} 0 1 = cc in omega arith)
 
   pub step-answers : {m : Moved} {r : Outcome} → Stepped b ks top states inherited synthesized starts rows slots lists m → m ≡ Stopped r
-      → PlansIn b slots lists × (Final (length starts) (r .number) → Answered (evaluate b (tablesOf b) ks) r rows)
+      → Final (length starts) (r .number) → Answered (evaluate b (tablesOf b) ks) r rows
   step-answers (goes-on u l) e = absurd (let z : _≡_ {A = ℕ} 0 1 = cc in omega arith)
-  step-answers {r = r} (answers {r = s} p a) e = let same : s ≡ r = cc in (p, rw same at a)
+  step-answers {r = r} (answers {r = s} a) e = let same : s ≡ r = cc in rw same at a
 
 -- what a move told is what the step tells
 stepped : {b : Book} {ks : List Token} {states inherited synthesized starts rows slots lists : List ℕ} {top : Top}
@@ -125,8 +125,8 @@ stepped : {b : Book} {ks : List Token} {states inherited synthesized starts rows
     {states′ inherited′ synthesized′ starts′ rows′ slots′ lists′ : List ℕ} {m : Moved} → PlansIn b slots′ lists′
     → Told b ks (U .at) states′ inherited′ synthesized′ starts′ rows′ m → Stepped b ks top states′ inherited′ synthesized′ starts′ rows′ slots′ lists′ m
 stepped U P (told-on on) = goes-on (underway-more U on P) (underway-less U on)
-stepped {b} U P (told-accepted {r = r} a z n) = answers {r = r} P λ f. rw (ends-stop b (tablesOf b) (U .ends) (a .stops)) (z, n, a .rows-are)
-stepped {b} U P (told-refused {r = r} e z) = answers {r = r} P λ f. rw (ends-stop b (tablesOf b) (U .ends) (e f)) (refl, z)
+stepped {b} U P (told-accepted {r = r} a z n) = answers {r = r} λ f. rw (ends-stop b (tablesOf b) (U .ends) (a .stops)) (z, n, a .rows-are)
+stepped {b} U P (told-refused {r = r} e z) = answers {r = r} λ f. rw (ends-stop b (tablesOf b) (U .ends) (e f)) (refl, z)
 
 -- ---- a step
 

@@ -23,7 +23,7 @@ pub struct Outcome {
 }
 
 // The run from the start: the moves until one stops. On a refusal the rows are left as they are, for the caller to clear. Nothing is said of a 17 for
-// want of room in the arrays; the plans are right after it.
+// want of room in the arrays.
 pub fn run(
     rules: &[u32],
     count: u32,
@@ -61,8 +61,7 @@ pub fn run(
         (now (closures .entry)) (now (nulls .entry)) (now (reaches .entry)) (now (places .entry)) (now (firsts .entry)) (now (down .entry)) (now (up .entry))
         (now (table .entry)) (now (actions .entry)) (now (tokens .entry))
         → Message b ks → PlansIn b (now (slots .entry)) (now (lists .entry))
-        → PlansIn b (now (slots .exit)) (now (lists .exit))
-        × (Final (length (now (starts .entry))) (r .number) → Answered (evaluate b (tablesOf b) ks) r (now (rows .exit)))) ⌝ }
+        → Final (length (now (starts .entry))) (r .number) → Answered (evaluate b (tablesOf b) ks) r (now (rows .exit))) ⌝ }
 {
     states[0] = 0;
     let mut top = Top::empty();

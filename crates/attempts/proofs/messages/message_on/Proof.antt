@@ -103,7 +103,7 @@ returns c = λ b t m. let k = c .before .before .before .before .before .before 
     let p = marked-at (k .before) in
     let sides = sides-at (p .before) .fill-sides .ensures b (asked-sides (t .ready)) in
     let places = p .mark-places .ensures b _ _ (places-asked t sides) (asked-formulas (t .ready) .definitions-counted) in
-    k .run .ensures b (m .list) (run-in t sides places (m .tokens-are)) (tokens-of t m) (plans-of t) .1
+    k .run .ensures b (m .list) (run-in t sides places (m .tokens-are)) (tokens-of t m) (plans-of t)
 
 pub message-on-spec : {M : Type 1} → statement M
 message-on-spec =

@@ -171,12 +171,11 @@ same-length-8 c =
     ∙ l .loop .inv .0 .rooms .stacks .rows-long ∙ sym (start l .pre .0 .0 .stacks .rows-long)
 
 returns : tie.Need-returns Inv-loop μ-loop
-returns c = λ b ks R M P.
+returns c = λ b ks R M P final.
     let a = stopped-at c in
     let l = loop-at a in
-    let (plans, answered) = step-answers (a .step .ensures b ks R M (l .loop .inv .1 b ks R M P)) (c .before .moved2 .given .1) in
     let same = a .step .kept .1 .1 .1 .1 .1 .1 .1 .1 .1 .1 .1 .1 .1 .1 .1 .1 .1 .1 .1 .1 .1 .1 .1 .1 .0 ∙ l .loop .inv .0 .starts-long in
-    (plans, λ final. answered (λ e. same ∙ final e))
+    step-answers (a .step .ensures b ks R M (l .loop .inv .1 b ks R M P)) (c .before .moved2 .given .1) (λ e. same ∙ final e)
 
 pub run-spec : {M : Type 1} → statement M
 run-spec =

@@ -57,6 +57,25 @@ pub and-second : (s t : Bool) → s && t ≡ true → t ≡ true
 and-second true t e = e
 and-second false t e = absurd (let z : _≡_ {A = ℕ} 0 1 = cc in omega arith)
 
+-- pair by pair
+pub and-mixed : (p q r s : Bool) → (p && q) && (r && s) ≡ (p && r) && (q && s)
+and-mixed true true true s = refl
+and-mixed true true false s = refl
+and-mixed true false true s = refl
+and-mixed true false false s = refl
+and-mixed false q r s = refl
+
+-- the second is asked where the first holds
+pub and-where : (s : Bool) {t u : Bool} → (s ≡ true → t ≡ u) → s && t ≡ s && u
+and-where true f = f refl
+and-where false f = refl
+
+pub and-asked : {d p q r : Bool} → d ≡ p → d ≡ true → r ≡ q → r ≡ p && q
+and-asked {q = q} e t f = f ∙ ap (λ (s : Bool). s && q) (sym t ∙ e)
+
+pub and-refused : {d p : Bool} (q : Bool) → d ≡ p → d ≡ false → false ≡ p && q
+and-refused q e t = ap (λ (s : Bool). s && q) (sym t ∙ e)
+
 below-more : (f : ℕ → Bool) (n : ℕ) → allBelow (suc n) f ≡ allBelow n f && f n
 unfolding allBelow
 below-more f n = then-and (allBelow n f) (f n)
@@ -95,15 +114,8 @@ pub below-and : (f g : ℕ → Bool) (n : ℕ) → allBelow n (λ i. f i && g i)
 unfolding allBelow
 below-and f g zero = refl
 below-and f g (suc n) =
-    below-more (λ i. f i && g i) n ∙ (ap (λ (t : Bool). t && (f n && g n)) (below-and f g n) ∙ (mixed (allBelow n f) (allBelow n g) (f n) (g n)
+    below-more (λ i. f i && g i) n ∙ (ap (λ (t : Bool). t && (f n && g n)) (below-and f g n) ∙ (and-mixed (allBelow n f) (allBelow n g) (f n) (g n)
     ∙ sym (ap₂ _&&_ (below-more f n) (below-more g n))))
-  where
-    mixed : (p q r s : Bool) → (p && q) && (r && s) ≡ (p && r) && (q && s)
-    mixed true true true s = refl
-    mixed true true false s = refl
-    mixed true false true s = refl
-    mixed true false false s = refl
-    mixed false q r s = refl
 
 pub below-at : (f : ℕ → Bool) (n i : ℕ) → allBelow n f ≡ true → i < n → f i ≡ true
 below-at f n i e l = allBelow-decides {f = f} (λ k. holds (f k)) n .sound e i l

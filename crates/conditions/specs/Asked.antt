@@ -3,14 +3,14 @@
 use Prim.Native.Nat.{ℕ, _+_, _*_, _≤_, _<_}
 use mathlib.Core.Path.{_≡_}
 use mathlib.Core.Bool.{true}
-use mathlib.Core.List.{List}
+use mathlib.Core.List.{List, List·Memᴰ as Mem}
 use lib.ListN.{length, getD}
 use Rattle.grammar.specs.Limits.{MAX-INHERITED, MAX-SYNTHESIZED, MAX-RIGHT, MAX-DEFINITIONS, MAX-NODES}
-use Rattle.grammar.specs.Data.Symbol.{Rule, rightOf}
+use Rattle.grammar.specs.Data.Symbol.{Symbol, Rule, rightOf}
 use Rattle.grammar.specs.Data.Term.{nodes}
 use Rattle.grammar.specs.Data.Book.{InheritedDefinition, Kernel, Book as Lines}
-use Rattle.grammar.specs.Conditions.Meaning.{WithinLimits, Declared, Owned}
-use Rattle.grammar.specs.Conditions.Tests.{withinLimits, declared, allLeaves, declaredPlace}
+use Rattle.grammar.specs.Conditions.Meaning.{WithinLimits, IsNonterminal, RightSymbol, Declared, Owned}
+use Rattle.grammar.specs.Conditions.Tests.{withinLimits}
 use Rattle.grammar.specs.Conditions.Decides.{OneTo}
 use Rattle.grammar.specs.Format.Ordered.{Ascending, kernelKey, Ordered}
 use Rattle.book.specs.declared.Book.{Book}
@@ -128,11 +128,13 @@ pub record Within (numbers : Book) (inherited synthesized rules definitions kern
   pub goes-in : GoesIn (b .goes) goes
   pub within : withinLimits b ≡ true
 
--- Books in which what is mentioned is declared
+-- Books whose owners and right symbols are declared
 
 pub record SymbolsIn (rules : List ℕ) (b : Lines) : Type 0 where
   pub within : WithinLimits b
-  pub declared : Declared b
+  pub inherited-owners : (A : ℕ) → Mem A (b .inheritedOwners) → IsNonterminal b A
+  pub synthesized-owners : (A : ℕ) → Mem A (b .synthesizedOwners) → IsNonterminal b A
+  pub right-symbols : (r : Rule) → Mem r (b .rules) → (X : Symbol) → Mem X (r .right) → RightSymbol b X
   pub rules-in : RulesIn (b .rules) rules
 
 pub record DeclaredIn (inherited synthesized rules : List ℕ) (b : Lines) : Type 0 where
@@ -149,51 +151,40 @@ pub record NodeThere (inherited synthesized rules : List ℕ) (p kind first seco
   pub at-there : kind ≡ 2 → second < length synthesized
   pub at-owner : kind ≡ 2 → getD synthesized second 0 < 32
 
--- the definition in line i, of a rule P, whose leaves are declared
-pub record LeavesThere (inherited synthesized rules definitions : List ℕ) (i : ℕ) (x : Entry) : Type 0 where
+-- the definition in line i, declared or not
+pub record LineThere (numbers : Book) (inherited synthesized rules definitions : List ℕ) (i : ℕ) (x : Entry) : Type 0 where
+  pub counted : Counted numbers (x .book)
   pub declared-in : DeclaredIn inherited synthesized rules (x .book)
   pub line-is : LineIs definitions i (x .line)
-  pub rule-there : x .line .rule < length (x .book .rules)
-  pub leaves-there : allLeaves (declaredPlace (x .book) (x .line .rule)) (x .line .expression) ≡ true
 
-pub record InheritedThere (inherited synthesized rules definitions : List ℕ) (i : ℕ) (x : Entry) : Type 0 where
-  pub leaves-of : LeavesThere inherited synthesized rules definitions i x
+-- its rule is declared, and has so many right symbols
+pub record LeavesThere (numbers : Book) (inherited synthesized rules definitions : List ℕ) (i size : ℕ) (x : Entry) : Type 0 where
+  pub declared-in : DeclaredIn inherited synthesized rules (x .book)
+  pub leaves-of : LeavesOf numbers definitions i size x
+  pub rule-there : x .line .rule < length (x .book .rules)
+
+-- its position and its attribute too
+pub record InheritedThere (numbers : Book) (inherited synthesized rules definitions : List ℕ) (i size : ℕ) (x : Entry) : Type 0 where
+  pub leaves-there : LeavesThere numbers inherited synthesized rules definitions i size x
   pub attribute-there : x .line .attribute < length (x .book .inheritedOwners)
   pub position-there : OneTo (length (rightOf (x .book .rules) (x .line .rule))) (x .line .position)
   pub few-right : length (rightOf (x .book .rules) (x .line .rule)) ≤ MAX-RIGHT
   pub owner-low : getD inherited (x .line .attribute) 0 < 32
 
-pub record SynthesizedThere (inherited synthesized rules definitions : List ℕ) (i : ℕ) (x : Entry) : Type 0 where
-  pub leaves-of : LeavesThere inherited synthesized rules definitions i x
+pub record SynthesizedThere (numbers : Book) (inherited synthesized rules definitions : List ℕ) (i size : ℕ) (x : Entry) : Type 0 where
+  pub leaves-there : LeavesThere numbers inherited synthesized rules definitions i size x
   pub attribute-there : x .line .attribute < length (x .book .synthesizedOwners)
 
--- a book, but for its states
-pub record DeclaredLines (inherited synthesized rules definitions : List ℕ) (b : Lines) : Type 0 where
-  pub inherited-in : OwnersIn MAX-INHERITED (b .inheritedOwners) inherited
-  pub synthesized-in : OwnersIn MAX-SYNTHESIZED (b .synthesizedOwners) synthesized
-  pub rules-in : RulesIn (b .rules) rules
-  pub definitions-in : DefinitionsIn (b .inheritedDefinitions) (b .synthesizedDefinitions) definitions
-  pub within : withinLimits b ≡ true
-  pub declared : declared b ≡ true
-
--- with the number of inherited attributes' definitions, and of those of synthesized ones after them
-pub record InheritedLines (inherited synthesized rules definitions : List ℕ) (n : ℕ) (b : Lines) : Type 0 where
-  pub lines : DeclaredLines inherited synthesized rules definitions b
-  pub count : n ≡ length (b .inheritedDefinitions)
-
-pub record SynthesizedLines (inherited synthesized rules definitions : List ℕ) (first n : ℕ) (b : Lines) : Type 0 where
-  pub lines : DeclaredLines inherited synthesized rules definitions b
-  pub start : first ≡ length (b .inheritedDefinitions)
-  pub count : n ≡ length (b .synthesizedDefinitions)
-
--- with all numbers
-pub record DeclaredBook (numbers : Book) (inherited synthesized rules definitions : List ℕ) (b : Lines) : Type 0 where
+-- a book whose names are declared, but for its states
+pub record NamedBook (numbers : Book) (inherited synthesized rules definitions : List ℕ) (b : Lines) : Type 0 where
   pub counted : Counted numbers b
-  pub lines : DeclaredLines inherited synthesized rules definitions b
+  pub declared-in : DeclaredIn inherited synthesized rules b
+  pub definitions-in : DefinitionsIn (b .inheritedDefinitions) (b .synthesizedDefinitions) definitions
 
 -- a book whose definitions are of attributes that belong to their symbols, but for its states and the words of its definitions
 pub record OwnedBook (numbers : Book) (inherited synthesized rules : List ℕ) (b : Lines) : Type 0 where
   pub counted : Counted numbers b
   pub ordered : Ordered b
   pub declared-in : DeclaredIn inherited synthesized rules b
+  pub declared : Declared b
   pub owned : Owned b

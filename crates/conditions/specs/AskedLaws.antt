@@ -2,20 +2,23 @@
 -- Assumes nothing.
 use Prim.Native.Nat.{ℕ, zero, suc, _+_, _<_}
 use mathlib.Core.Path.{_≡_, refl, sym, ap, ap₂, _∙_}
-use mathlib.Core.Bool.{true}
+use mathlib.Core.Bool.{true, _&&_}
 use mathlib.Core.List.{List, [], _∷_}
 use native.Mathlib.Omega.{arith}
+use lib.Dec.{eqb}
 use lib.ListN.{length, getD, take, length-take}
 use lib.Seq.{getD-take, ext-getD}
 use Rattle.grammar.specs.Data.Book.{SynthesizedDefinition, Book as Lines}
-use Rattle.grammar.specs.Conditions.Meaning.{WithinLimits}
+use Rattle.grammar.specs.Data.Symbol.{Symbol, terminal, nonterminal, leftOf, rightOf}
+use Rattle.grammar.specs.Conditions.Decides.{Decides, and-decides, oneTo-decides, all-decides, allBelow}
+use Rattle.grammar.specs.Conditions.Meaning.{WithinLimits, RightSymbol}
 use Rattle.grammar.specs.Format.Ordered.{Ordered}
-use Rattle.grammar.specs.Conditions.Tests.{withinLimits, declared, owned}
+use Rattle.grammar.specs.Conditions.Tests.{withinLimits, oneNonterminal, rightSymbol, declared, owned}
 use Rattle.grammar.specs.Conditions.TestsLaws.{withinLimits-decides, declared-decides, owned-decides}
 use Rattle.grammar.specs.Conditions.MeaningLaws.{right-length}
 use Rattle.grammar.specs.Data.ListLaws.{at-member}
 use Rattle.book.specs.declared.Book.{Book}
-use Rattle.book.specs.Held.{inheritedAt, synthesizedAt, OwnersIn, DefinitionsIn, Held, HasRoom, kept}
+use Rattle.book.specs.Held.{inheritedAt, synthesizedAt, OwnersIn, RulesIn, DefinitionsIn, Held, HasRoom, kept}
 use Rattle.book.specs.HeldLaws.{kept-all, within-room}
 use Rattle.book.specs.Counts.{countsOf}
 use Rattle.conditions.specs.Asked.{
@@ -35,11 +38,12 @@ use Rattle.conditions.specs.Asked.{
   GoesOf,
   GrammarOf,
   Within,
-  InheritedLines,
-  SynthesizedLines,
-  DeclaredBook,
+  SymbolsIn,
+  NamedBook,
   OwnedBook,
 }
+use Rattle.conditions.specs.Answers.{holds, and-first}
+use Rattle.conditions.specs.DeclaredTests.{leftDeclared, grammarDeclared, namesDeclared}
 
 -- where there is room, what is kept is all
 pub stored-kept : {numbers : Book} {inherited synthesized rules definitions kernels : List ℕ} {b : Lines}
@@ -147,16 +151,22 @@ module _ {numbers : Book} {inherited synthesized rules definitions kernels goes 
   pub goes-of : GoesOf numbers goes b
   goes-of = record { counted = h .stored .counted; within = within-limits; goes-in = h .goes-in }
 
--- The lines of each kind of a declared book
+-- Owners and right symbols that are declared
 
-module _ {numbers : Book} {inherited synthesized rules definitions : List ℕ} {b : Lines}
-    (h : DeclaredBook numbers inherited synthesized rules definitions b) where
-  pub inherited-lines : InheritedLines inherited synthesized rules definitions (numbers .«inherited_definitions») b
-  inherited-lines = record { lines = h .lines; count = h .counted .inherited-definitions-are }
+symbol-decides : (b : Lines) (X : Symbol) → Decides (rightSymbol b X) (RightSymbol b X)
+unfolding rightSymbol
+symbol-decides b (terminal t) = oneTo-decides (b .terminals) t
+symbol-decides b (nonterminal A) = oneTo-decides (b .nonterminals) A
 
-  pub synthesized-lines : SynthesizedLines inherited synthesized rules definitions (numbers .«inherited_definitions») (numbers .«synthesized_definitions») b
-  synthesized-lines =
-      record { lines = h .lines; start = h .counted .inherited-definitions-are; count = h .counted .synthesized-definitions-are }
+symbols-named : {rules : List ℕ} {b : Lines} → WithinLimits b → RulesIn (b .rules) rules → grammarDeclared b ≡ true → SymbolsIn rules b
+unfolding grammarDeclared
+symbols-named {rules} {b} w r e =
+    let owners =
+    and-decides (all-decides (oneTo-decides (b .nonterminals)) (b .inheritedOwners)) (all-decides (oneTo-decides (b .nonterminals)) (b .synthesizedOwners)) in
+    let start = holds (eqb (leftOf (b .rules) 0) 0 && oneNonterminal (rightOf (b .rules) 0) && allBelow (length (b .rules)) (λ P. leftDeclared P b)) in
+    let symbols = all-decides (λ r. all-decides (symbol-decides b) (r .right)) (b .rules) in
+    let ((inherited, synthesized), (_, rights)) = and-decides owners (and-decides start symbols) .sound e in
+    record { within = w; inherited-owners = inherited; synthesized-owners = synthesized; right-symbols = rights; rules-in = r }
 
 -- From arrays in which a book is stored to what each condition is asked of
 
@@ -204,33 +214,29 @@ module _ {numbers : Book} {inherited synthesized rules definitions kernels goes 
         within = w;
       }
 
-  -- after condition 4
-  pub declared-book : Within numbers inherited synthesized rules definitions kernels goes b → declared b ≡ true
-      → DeclaredBook numbers inherited synthesized rules definitions b
-  declared-book h d =
+  -- after the names of condition 4
+  pub named-book : Within numbers inherited synthesized rules definitions kernels goes b → namesDeclared b ≡ true
+      → NamedBook numbers inherited synthesized rules definitions b
+  unfolding namesDeclared
+  named-book h n =
       record {
         counted = h .stored .counted;
-        lines = record {
+        declared-in = record {
+          symbols-in = symbols-named (within-limits h) (h .stored .rules-in) (and-first (grammarDeclared b) _ n);
           inherited-in = h .stored .inherited-in;
           synthesized-in = h .stored .synthesized-in;
-          rules-in = h .stored .rules-in;
-          definitions-in = h .stored .definitions-in;
-          within = h .within;
-          declared = d;
         };
+        definitions-in = h .stored .definitions-in;
       }
 
   -- after condition 5
-  pub owned-book : Within numbers inherited synthesized rules definitions kernels goes b → declared b ≡ true → owned b ≡ true
+  pub owned-book : Within numbers inherited synthesized rules definitions kernels goes b → namesDeclared b ≡ true → declared b ≡ true → owned b ≡ true
       → OwnedBook numbers inherited synthesized rules b
-  owned-book h d o =
+  owned-book h n d o =
       record {
         counted = h .stored .counted;
         ordered = h .stored .ordered;
-        declared-in = record {
-          symbols-in = record { within = within-limits h; declared = declared-decides b .sound d; rules-in = h .stored .rules-in };
-          inherited-in = h .stored .inherited-in;
-          synthesized-in = h .stored .synthesized-in;
-        };
+        declared-in = named-book h n .declared-in;
+        declared = declared-decides b .sound d;
         owned = owned-decides b .sound o;
       }

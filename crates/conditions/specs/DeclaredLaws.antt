@@ -58,6 +58,8 @@ use Rattle.conditions.specs.DeclaredTests.{
   synthesizedDeclared,
   kernelsDeclared,
   goesDeclared,
+  namesDeclared,
+  definitionsDeclared,
 }
 
 -- Nodes
@@ -318,6 +320,12 @@ start-rules {rules} {b} w h =
     ∙ and-when (allBelow (length (b .rules)) (λ P. leftDeclared P b)) (all (λ r. all (rightSymbol b) (r .right)) (b .rules))
     (λ e. start-code w h (below-at (λ P. rightDeclared P b) (length (b .rules)) 0 (sym rights ∙ e) (w .rules-limit .low)))
 
-pub declared-parts : (b : Lines) → grammarDeclared b && (inheritedDeclared b && synthesizedDeclared b) && (kernelsDeclared b && goesDeclared b) ≡ declared b
-unfolding grammarDeclared leftDeclared inheritedDeclared synthesizedDeclared kernelsDeclared goesDeclared declared allOwnersDeclared allRulesDeclared
-declared-parts b = refl
+pub declared-parts : (b : Lines) → namesDeclared b && definitionsDeclared b ≡ declared b
+unfolding namesDeclared definitionsDeclared grammarDeclared leftDeclared inheritedDeclared synthesizedDeclared kernelsDeclared goesDeclared declared
+    allOwnersDeclared allRulesDeclared
+declared-parts b = swapped (grammarDeclared b) (kernelsDeclared b && goesDeclared b) (definitionsDeclared b)
+  where
+    swapped : (p q r : Bool) → p && q && r ≡ p && r && q
+    swapped true true r = sym (and-true r)
+    swapped true false r = sym (and-false r)
+    swapped false q r = refl

@@ -92,9 +92,16 @@ kernelsDeclared b = all (declaredKernel b) (b .kernels)
 unfoldable pub goesDeclared : Lines → Bool
 goesDeclared b = all (declaredGo b) (b .goes)
 
+-- all but the definitions, and the definitions
+unfoldable pub namesDeclared : Lines → Bool
+namesDeclared b = grammarDeclared b && (kernelsDeclared b && goesDeclared b)
+
+unfoldable pub definitionsDeclared : Lines → Bool
+definitionsDeclared b = inheritedDeclared b && synthesizedDeclared b
+
 -- opens every definition of this module
 unfoldable pub opens : Unit {0}
 unfolding rightCode goCode startCode placeCode rightDeclared leftDeclared ruleDeclared rulesDeclared grammarDeclared leavesDeclared definitionDeclared
     inheritedLineDeclared inheritedDeclared
-    synthesizedDeclared kernelDeclared kernelsDeclared goesDeclared
+    synthesizedDeclared kernelDeclared kernelsDeclared goesDeclared namesDeclared definitionsDeclared
 opens = tt

@@ -84,7 +84,7 @@ module _ {numbers : Book} {inherited synthesized rules : List ℕ} {b : Lines} (
               low = λ D m. symbol-low P D (omega arith) (omega arith);
             };
         left = λ P l.
-            let left : leftOf (b .rules) P ≤ b .nonterminals = left-declared (h .declared-in .symbols-in .declared) P (omega arith) in
+            let left : leftOf (b .rules) P ≤ b .nonterminals = left-declared (h .declared) P (omega arith) in
             record {
               long = omega (arith, r .long, r .fits);
               low = omega (arith, r .left-is P (omega arith), h .declared-in .symbols-in .within .nonterminals-limit .high);
@@ -118,4 +118,4 @@ module _ {numbers : Book} {inherited synthesized rules : List ℕ} {b : Lines} (
       → eqb m (numbers .«inherited_definitions») && eqb n (numbers .«synthesized_definitions») ≡ defined b
   defined-answer d u e f =
       rw (h .counted .inherited-definitions-are, h .counted .synthesized-definitions-are)
-      (defined-counted (h .ordered) (h .declared-in .symbols-in .declared) (h .owned) (e ∙ inherited-due d) (f ∙ synthesized-due u))
+      (defined-counted (h .ordered) (h .declared) (h .owned) (e ∙ inherited-due d) (f ∙ synthesized-due u))

@@ -11,9 +11,9 @@ pub mod LimitLaws
 pub mod LimitTests
 pub mod Often
 pub mod OwnedLaws
-pub mod OwnedLines
-pub mod OwnedTests
 pub mod Runs
+pub mod SoundLines
+pub mod SoundTests
 pub mod SpellingHeld
 pub mod Sums
 pub mod SymbolWords

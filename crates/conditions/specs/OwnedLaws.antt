@@ -1,4 +1,4 @@
--- Condition 5: what the words of symbols and nodes say where all is declared, and that the parts make the whole.
+-- Condition 5: what the words of symbols and nodes say where names and the node are declared.
 -- Assumes nothing.
 use Prim.Native.Nat.{ℕ, _+_, _*_, _-_, _≤_, _<_}
 use mathlib.Core.Path.{_≡_, refl, sym, ap, ap₂, _∙_}
@@ -10,13 +10,13 @@ use lib.ListN.{length, getD}
 use borrow.Author.Tests.{ltb-true, lt-ltb, le-ltb, ne-eqb}
 use Rattle.grammar.specs.Limits.{MAX-RIGHT}
 use Rattle.grammar.specs.Conditions.Decides.{decides-same, equivalent, eq-decides, oneTo-decides}
-use Rattle.grammar.specs.Data.Symbol.{Symbol, terminal, nonterminal, rightOf, symbolAt}
+use Rattle.grammar.specs.Data.Symbol.{Symbol, terminal, nonterminal, ruleAt, rightOf, symbolAt}
 use Rattle.grammar.specs.Data.Postfix.{Step, push, load, operate, select}
 use Rattle.grammar.specs.Data.Term.{add, sub, min, max}
 use Rattle.grammar.specs.Data.Book.{Place, own, at, val, Book as Lines, inheritedOwner, synthesizedOwner}
 use Rattle.grammar.specs.Conditions.Meaning.{IsPosition, RightSymbol, IsNonterminal}
 use Rattle.grammar.specs.Conditions.Tests.{isNonterminal, isTerminal, before, isPosition, declaredPlace, nonterminalAt, ownedPlace}
-use Rattle.grammar.specs.Conditions.MeaningLaws.{symbols-declared, right-length}
+use Rattle.grammar.specs.Conditions.MeaningLaws.{right-length}
 use Rattle.grammar.specs.Data.ListLaws.{at-member}
 use Rattle.conditions.specs.Answers.{and-true, and-first, and-second}
 use Rattle.book.specs.Layout.{symbolCode}
@@ -24,7 +24,7 @@ use Rattle.book.specs.Held.{nodeKind, nodeFirst, nodeSecond}
 use Rattle.conditions.specs.Asked.{SymbolsIn, DeclaredIn, NodeThere}
 use Rattle.conditions.specs.Leaves.{ofLeaf}
 use Rattle.conditions.specs.SymbolWords.{terminal-code, nonterminal-code}
-use Rattle.conditions.specs.OwnedTests.{ownedCode}
+use Rattle.conditions.specs.SoundTests.{ownedCode}
 
 -- by the kind of the node
 module _ (inherited synthesized rules : List ℕ) (p limit kind first second : ℕ) where
@@ -49,17 +49,18 @@ module _ (inherited synthesized rules : List ℕ) (p limit kind first second : �
 module _ {rules : List ℕ} {b : Lines} (h : SymbolsIn rules b) where
   -- owners are small
   pub inherited-owner : (K : ℕ) → K < length (b .inheritedOwners) → IsNonterminal b (inheritedOwner b K)
-  inherited-owner K l = h .declared .inherited-owners _ (at-member (b .inheritedOwners) K 32 l)
+  inherited-owner K l = h .inherited-owners _ (at-member (b .inheritedOwners) K 32 l)
 
   pub synthesized-owner : (K : ℕ) → K < length (b .synthesizedOwners) → IsNonterminal b (synthesizedOwner b K)
-  synthesized-owner K l = h .declared .synthesized-owners _ (at-member (b .synthesizedOwners) K 32 l)
+  synthesized-owner K l = h .synthesized-owners _ (at-member (b .synthesizedOwners) K 32 l)
 
   -- Right symbol J of rule P
 
   module _ (P J : ℕ) (there : P < length (b .rules)) (position : IsPosition b P J) where
     right-there : RightSymbol b (symbolAt (b .rules) P J)
-    unfolding symbolAt
-    right-there = symbols-declared (h .declared) P _ (at-member (rightOf (b .rules) P) (J - 1) (terminal 0) (omega arith))
+    unfolding symbolAt ruleAt
+    right-there = h .right-symbols (ruleAt (b .rules) P) (at-member (b .rules) P _ there) _
+        (at-member (rightOf (b .rules) P) (J - 1) (terminal 0) (omega arith))
 
     right-word : getD rules (10 * P + 1 + J) 0 ≡ symbolCode (symbolAt (b .rules) P J)
     unfolding symbolAt

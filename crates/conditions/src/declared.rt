@@ -2,13 +2,13 @@
 ghost use mathlib.Core.Path.{_≡_};
 ghost use Prim.Native.Nat.{_<_};
 ghost use Rattle.grammar.specs.Conditions.Decides.{oneTo, all};
-ghost use Rattle.grammar.specs.Conditions.Tests.{declared};
 ghost use Rattle.conditions.specs.Answers.{Some, Answers};
 ghost use Rattle.conditions.specs.Asked.{RulesOf, RuleOf, LeavesOf, EntryOf, DefinitionsOf, KernelsOf, KernelOf, GoesOf, GrammarOf, Within};
 ghost use Rattle.conditions.specs.DeclaredTests.{rightCode, goCode, startCode, placeCode, rightDeclared, ruleDeclared, rulesDeclared};
 ghost use Rattle.conditions.specs.DeclaredTests.{leavesDeclared, definitionDeclared};
 ghost use Rattle.conditions.specs.DeclaredTests.{inheritedLineDeclared, inheritedDeclared, synthesizedDeclared, kernelDeclared};
 ghost use Rattle.conditions.specs.DeclaredTests.{kernelsDeclared, goesDeclared, grammarDeclared};
+ghost use Rattle.conditions.specs.DeclaredTests.{namesDeclared, definitionsDeclared};
 use super::limits::one_to;
 use book::Book;
 
@@ -97,7 +97,7 @@ fn start_declared(book: Book, rules: &[u32]) -> bool
 }
 
 // Whether a node of an expression in a rule with so many right symbols reads what is declared.
-fn place_declared(book: Book, size: u32, kind: u32, first: u32, second: u32) -> bool
+pub fn place_declared(book: Book, size: u32, kind: u32, first: u32, second: u32) -> bool
     ensures { λ r. ⌜ r ≡ placeCode book size kind first second ⌝ }
 {
     if kind == 1 {
@@ -255,8 +255,8 @@ fn grammar_declared(book: Book, inherited: &[u32], synthesized: &[u32], rules: &
     owners & (start_declared(book, rules) & rules_declared(book, rules))
 }
 
-// Whether every name, rule, position and state that the book mentions is declared.
-pub fn declared(
+// Whether every name, rule and state that the book mentions is declared, but for its definitions.
+pub fn names_declared(
     book: Book,
     inherited: &[u32],
     synthesized: &[u32],
@@ -269,11 +269,17 @@ pub fn declared(
     ensures { λ r. ⌜ Answers
         (Within book (now (inherited .entry)) (now (synthesized .entry)) (now (rules .entry)) (now (definitions .entry)) (now (kernels .entry))
         (now (goes .entry)))
-        declared r ⌝ }
+        namesDeclared r ⌝ }
 {
     let grammar = grammar_declared(book, inherited, synthesized, rules);
-    let attributes = inherited_declared(book, rules, definitions)
-        & synthesized_declared(book, rules, definitions);
     let states = kernels_declared(book, rules, kernels) & goes_declared(book, goes);
-    grammar & attributes & states
+    grammar & states
+}
+
+// Whether every rule, position and attribute that a definition mentions is declared.
+pub fn definitions_declared(book: Book, rules: &[u32], definitions: &[u32]) -> bool
+    requires { ⌜ Some (DefinitionsOf book (now rules) (now definitions)) ⌝ }
+    ensures { λ r. ⌜ Answers (DefinitionsOf book (now (rules .entry)) (now (definitions .entry))) definitionsDeclared r ⌝ }
+{
+    inherited_declared(book, rules, definitions) & synthesized_declared(book, rules, definitions)
 }

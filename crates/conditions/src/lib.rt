@@ -2,4 +2,4 @@
 pub mod declared;
 pub mod defined;
 pub mod limits;
-pub mod owned;
+pub mod sound;

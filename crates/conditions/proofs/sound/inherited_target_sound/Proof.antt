@@ -1,10 +1,10 @@
--- `inherited_line_owned` meets its contract: the target, then the leaves left of it.
+-- `inherited_target_sound` meets its contract: the target, then the leaves left of it.
 -- Assumes nothing.
 use native.Mathlib.Omega.{arith}
-use Rattle.conditions.specs.OwnedLines.{inherited-line-asked, owner-word}
+use Rattle.conditions.specs.SoundLines.{inherited-line-asked, owner-word}
 use borrow.Author.Needs.{needs}
-use Rattle.conditions.proofs.owned.inherited_line_owned.Statement.{statement}
-use Rattle.conditions.proofs.owned.inherited_line_owned.Tie as tie
+use Rattle.conditions.proofs.sound.inherited_target_sound.Statement.{statement}
+use Rattle.conditions.proofs.sound.inherited_target_sound.Tie as tie
 
 mul-p : tie.Need-mul-p
 mul-p c = search needs
@@ -72,14 +72,14 @@ shared-slice-read-owns-2 c = search needs
 add-owns-3 : tie.Need-add-owns-3
 add-owns-3 c = omega (arith, owner-word (c .before .before .before .before .before .before .before .before .before .pre .1))
 
-leaves-owned-requires : tie.Need-leaves-owned-requires
-leaves-owned-requires c κs = search needs
+leaves-sound-requires : tie.Need-leaves-sound-requires
+leaves-sound-requires c κs = search needs
 
 returns : tie.Need-returns
-returns c = record { for-all = λ x h. inherited-line-asked h (c .leaves-owned .ensures .for-all x (h .leaves-of)) }
+returns c = record { for-all = λ x h. inherited-line-asked h (c .leaves-sound .ensures .for-all x (h .leaves-there)) }
 
-pub inherited-line-owned-spec : {M : Type 1} → statement M
-inherited-line-owned-spec =
+pub inherited-target-sound-spec : {M : Type 1} → statement M
+inherited-target-sound-spec =
     tie.close
     (tie.spec
     mul-p
@@ -104,5 +104,5 @@ inherited-line-owned-spec =
     mul-owns-3
     shared-slice-read-owns-2
     add-owns-3
-    leaves-owned-requires
+    leaves-sound-requires
     returns)

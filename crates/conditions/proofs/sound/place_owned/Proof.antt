@@ -3,8 +3,8 @@
 use native.Mathlib.Omega.{arith}
 use Rattle.conditions.specs.OwnedLaws.{owned-own, owned-at, owned-val, owned-none}
 use borrow.Author.Needs.{needs}
-use Rattle.conditions.proofs.owned.place_owned.Statement.{statement}
-use Rattle.conditions.proofs.owned.place_owned.Tie as tie
+use Rattle.conditions.proofs.sound.place_owned.Statement.{statement}
+use Rattle.conditions.proofs.sound.place_owned.Tie as tie
 
 mul-result : tie.Need-mul-result
 mul-result c = search needs

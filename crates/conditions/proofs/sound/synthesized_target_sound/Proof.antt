@@ -1,9 +1,9 @@
--- `synthesized_line_owned` meets its contract: the left side, then all leaves.
+-- `synthesized_target_sound` meets its contract: the left side, then all leaves.
 -- Assumes nothing.
-use Rattle.conditions.specs.OwnedLines.{synthesized-line-asked}
+use Rattle.conditions.specs.SoundLines.{synthesized-line-asked}
 use borrow.Author.Needs.{needs}
-use Rattle.conditions.proofs.owned.synthesized_line_owned.Statement.{statement}
-use Rattle.conditions.proofs.owned.synthesized_line_owned.Tie as tie
+use Rattle.conditions.proofs.sound.synthesized_target_sound.Statement.{statement}
+use Rattle.conditions.proofs.sound.synthesized_target_sound.Tie as tie
 
 mul-p : tie.Need-mul-p
 mul-p c = search needs
@@ -47,14 +47,14 @@ mul-result-3 c = search needs
 shared-slice-read-result-2 : tie.Need-shared-slice-read-result-2
 shared-slice-read-result-2 c = search needs
 
-leaves-owned-requires : tie.Need-leaves-owned-requires
-leaves-owned-requires c κs = search needs
+leaves-sound-requires : tie.Need-leaves-sound-requires
+leaves-sound-requires c κs = search needs
 
 returns : tie.Need-returns
-returns c = record { for-all = λ x h. synthesized-line-asked h (c .leaves-owned .ensures .for-all x (h .leaves-of)) }
+returns c = record { for-all = λ x h. synthesized-line-asked h (c .leaves-sound .ensures .for-all x (h .leaves-there)) }
 
-pub synthesized-line-owned-spec : {M : Type 1} → statement M
-synthesized-line-owned-spec =
+pub synthesized-target-sound-spec : {M : Type 1} → statement M
+synthesized-target-sound-spec =
     tie.close
     (tie.spec
     mul-p
@@ -71,5 +71,5 @@ synthesized-line-owned-spec =
     mul-result-2
     mul-result-3
     shared-slice-read-result-2
-    leaves-owned-requires
+    leaves-sound-requires
     returns)

@@ -1,8 +1,8 @@
 -- The first of conditions 3 to 6 that applies to a book, and what is known of a book to which none does.
 -- Assumes nothing.
 use Prim.Native.Nat.{ℕ}
-use mathlib.Core.Path.{_≡_, refl, sym, _∙_}
-use mathlib.Core.Bool.{Bool, true, false}
+use mathlib.Core.Path.{_≡_, refl, sym, ap, _∙_}
+use mathlib.Core.Bool.{Bool, true, false, _&&_}
 use mathlib.Core.List.{List}
 use native.Mathlib.Omega.{arith}
 use Rattle.grammar.specs.Data.Book.{Book as Lines}
@@ -13,14 +13,35 @@ use Rattle.grammar.specs.Conditions.TestsLaws.{withinLimits-decides, declared-d
 use Rattle.book.specs.declared.Book.{Book}
 use Rattle.book.specs.Counts.{countsOf}
 use Rattle.book.specs.Held.{Held, kept}
-use Rattle.conditions.specs.Asked.{Kept, Within, DeclaredBook, OwnedBook}
-use Rattle.conditions.specs.AskedLaws.{kept-book, within-book, declared-book, owned-book}
+use Rattle.conditions.specs.Asked.{Kept, Within, DefinitionsOf, NamedBook, OwnedBook}
+use Rattle.conditions.specs.AskedLaws.{kept-book, within-book, definitions-of, named-book, owned-book}
+use Rattle.conditions.specs.Answers.{and-first, and-second}
+use Rattle.conditions.specs.DeclaredTests.{namesDeclared, definitionsDeclared}
+use Rattle.conditions.specs.DeclaredLaws.{declared-parts}
+use Rattle.conditions.specs.SoundTests.{definitionsSound}
 
 -- the numbers of a book that is spelled right, and its lines in arrays, as far as there is room
 pub record BookKept (numbers : Book) (inherited synthesized rules definitions kernels goes : List ℕ) (b : Lines) : Type 0 where
   pub numbers-are : numbers ≡ countsOf b
   pub ordered : Ordered b
   pub arrays-in : Held (kept b) inherited synthesized rules definitions kernels goes
+
+-- ---- names, then definitions, make 4 and 5
+
+module _ (b : Lines) where
+  pub names-missing : namesDeclared b ≡ false → declared b ≡ false
+  names-missing n = sym (declared-parts b) ∙ ap (λ (t : Bool). t && definitionsDeclared b) n
+
+  names-there : namesDeclared b ≡ true → declared b ≡ definitionsDeclared b
+  names-there n = sym (declared-parts b) ∙ ap (λ (t : Bool). t && definitionsDeclared b) n
+
+  pub sound-declared : namesDeclared b ≡ true → definitionsSound b ≡ true → declared b ≡ true
+  unfolding definitionsSound
+  sound-declared n s = names-there n ∙ and-first (definitionsDeclared b) (owned b) s
+
+  pub sound-owned : definitionsSound b ≡ true → owned b ≡ true
+  unfolding definitionsSound
+  sound-owned s = and-second (definitionsDeclared b) (owned b) s
 
 -- ---- what the conditions ask
 
@@ -33,11 +54,15 @@ module _ {numbers : Book} {inherited synthesized rules definitions kernels goes 
     pub asked-names : Within numbers inherited synthesized rules definitions kernels goes b
     asked-names = within-book (h .numbers-are) (h .ordered) (h .arrays-in) w
 
-    pub asked-attributes : declared b ≡ true → DeclaredBook numbers inherited synthesized rules definitions b
-    asked-attributes d = declared-book asked-names d
+    pub asked-lines : DefinitionsOf numbers rules definitions b
+    asked-lines = definitions-of asked-names
 
-    pub asked-definitions : declared b ≡ true → owned b ≡ true → OwnedBook numbers inherited synthesized rules b
-    asked-definitions d o = owned-book asked-names d o
+    module _ (n : namesDeclared b ≡ true) where
+      pub asked-sound : NamedBook numbers inherited synthesized rules definitions b
+      asked-sound = named-book asked-names n
+
+      pub asked-definitions : definitionsSound b ≡ true → OwnedBook numbers inherited synthesized rules b
+      asked-definitions s = owned-book asked-names n (sound-declared b n s) (sound-owned b s)
 
 -- ---- the first that applies, or 0
 
@@ -72,6 +97,27 @@ module _ (b : Lines) where
         unfolding conditionsRefusal
         conditions-met e = rw (w, d, o, e, conditionsRefusal)
 
+-- which of 4 and 5 applies to definitions to which one does
+unfoldable pub definitionsRefusal : Lines → ℕ
+definitionsRefusal b = elim (definitionsDeclared b) [ false ↦ 4 | true ↦ 5 ]
+
+module _ (b : Lines) where
+  pub refused-undeclared : definitionsDeclared b ≡ false → definitionsRefusal b ≡ 4
+  unfolding definitionsRefusal
+  refused-undeclared e = rw (e, definitionsRefusal)
+
+  pub refused-declared : definitionsDeclared b ≡ true → definitionsRefusal b ≡ 5
+  unfolding definitionsRefusal
+  refused-declared e = rw (e, definitionsRefusal)
+
+pub sound-refused : (b : Lines) → withinLimits b ≡ true → namesDeclared b ≡ true → definitionsSound b ≡ false → conditionsRefusal b ≡ definitionsRefusal b
+unfolding definitionsSound
+sound-refused b w n s = go (definitionsDeclared b) refl
+  where
+    go : (t : Bool) → definitionsDeclared b ≡ t → conditionsRefusal b ≡ definitionsRefusal b
+    go false e = names-refused b w (names-there b n ∙ e) ∙ sym (refused-undeclared b e)
+    go true e = attributes-refused b w (names-there b n ∙ e) (sym (ap (λ (t : Bool). t && owned b) e) ∙ s) ∙ sym (refused-declared b e)
+
 -- ---- a book that meets them all
 
 pub record Met (b : Lines) : Type 0 where
@@ -97,5 +143,5 @@ met b z = go (withinLimits b) refl (declared b) refl (owned b) refl (defined b) 
 
 -- opens every definition of this module
 unfoldable pub opens : Unit {0}
-unfolding conditionsRefusal
+unfolding conditionsRefusal definitionsRefusal
 opens = tt

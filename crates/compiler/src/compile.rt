@@ -11,9 +11,10 @@ ghost use Rattle.definitions.specs.Expressions.{WaitsRoom};
 ghost use Rattle.book.specs.Held.{OwnersIn};
 ghost use Rattle.book.specs.Spelling.{arrays, Roomy};
 ghost use Rattle.conditions.specs.Answers.{Some};
+ghost use Rattle.conditions.specs.Asked.{DefinitionsOf};
 ghost use Rattle.agreement.specs.OneFormula.{FrontsHeld, formulasRight};
 ghost use Rattle.compiler.specs.States.{TablesRoom, TablesLent};
-ghost use Rattle.compiler.specs.Conditions.{BookKept, conditionsRefusal};
+ghost use Rattle.compiler.specs.Conditions.{BookKept, definitionsRefusal, conditionsRefusal};
 ghost use Rattle.compiler.specs.Prepared.{Prepared};
 ghost use Rattle.compiler.specs.Compiling.{Checked, Compiles};
 use super::states::tables;
@@ -22,13 +23,25 @@ use agreement::single::all_single;
 use book::Book;
 use book::Room;
 use book::rooms::complete;
-use conditions::declared::declared;
+use conditions::declared::definitions_declared;
+use conditions::declared::names_declared;
 use conditions::defined::defined;
 use conditions::limits::within_limits;
-use conditions::owned::owned;
+use conditions::sound::sound;
 use parsing::spelling;
 
-// The first of 3, 4, 5 and 6 that applies, or 0.
+// Which of 4 and 5 applies to definitions to which one of them does.
+fn definitions_refused(book: Book, rules: &[u32], definitions: &[u32]) -> u32
+    requires { ⌜ Some (DefinitionsOf book (now rules) (now definitions)) ⌝ }
+    ensures { λ r. ⌜ ((b : Lines) → DefinitionsOf book (now (rules .entry)) (now (definitions .entry)) b → r ≡ definitionsRefusal b) ⌝ }
+{
+    if definitions_declared(book, rules, definitions) {
+        return 5;
+    }
+    4
+}
+
+// The first of 3, 4, 5 and 6 that applies, or 0. Nearly all books meet 4 and 5, which are asked of the definitions at once.
 fn conditions(
     book: Book,
     inherited: &[u32],
@@ -45,7 +58,7 @@ fn conditions(
     if !within_limits(book, inherited, synthesized, rules, definitions, kernels) {
         return 3;
     }
-    if !declared(
+    if !names_declared(
         book,
         inherited,
         synthesized,
@@ -56,8 +69,8 @@ fn conditions(
     ) {
         return 4;
     }
-    if !owned(book, inherited, synthesized, rules, definitions) {
-        return 5;
+    if !sound(book, inherited, synthesized, rules, definitions) {
+        return definitions_refused(book, rules, definitions);
     }
     if !defined(book, inherited, synthesized, rules) {
         return 6;

@@ -39,7 +39,7 @@ fn place_owned(
     true
 }
 
-// Whether a node of an expression of rule p, with so many right symbols, reads what is declared, and that.
+// Whether a node of an expression of rule p, which has so many right symbols, reads what is declared and belongs to its symbol, left of a position.
 fn place_sound(
     book: Book,
     inherited: &[u32],
@@ -62,7 +62,7 @@ fn place_sound(
     false
 }
 
-// Whether every leaf of the definition in line i does.
+// Whether every leaf of the definition in line i does. What is not declared is not looked up.
 fn leaves_sound(
     book: Book,
     inherited: &[u32],
@@ -124,7 +124,7 @@ fn inherited_target_sound(
     owns & leaves_sound(book, inherited, synthesized, rules, definitions, i, size, j)
 }
 
-// Whether line i, an inherited attribute's definition, is declared and does.
+// Whether line i names a rule, a position and an inherited attribute that are declared, and defines that attribute so.
 fn inherited_line_sound(
     book: Book,
     inherited: &[u32],
@@ -169,7 +169,7 @@ fn synthesized_target_sound(
         & leaves_sound(book, inherited, synthesized, rules, definitions, i, size, 9)
 }
 
-// Whether line i, a synthesized attribute's definition, is declared and does.
+// Whether line i names a rule and a synthesized attribute that are declared, and defines that attribute so.
 fn synthesized_line_sound(
     book: Book,
     inherited: &[u32],

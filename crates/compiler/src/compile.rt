@@ -30,6 +30,14 @@ use conditions::limits::within_limits;
 use conditions::sound::sound;
 use parsing::spelling;
 
+// Definitions that are few.
+const FEW: u32 = 40;
+
+// The nodes of formulas of so many definitions, and of as many as a book has.
+const FEW_NODES: usize = (Book::MAX_NODES * FEW) as usize;
+
+const MOST_NODES: usize = (Book::MAX_NODES * Book::MAX_DEFINITIONS) as usize;
+
 // Which of 4 and 5 applies to definitions to which one of them does.
 fn definitions_refused(book: Book, rules: &[u32], definitions: &[u32]) -> u32
     requires { ⌜ Some (DefinitionsOf book (now rules) (now definitions)) ⌝ }
@@ -169,9 +177,9 @@ fn formulas_right(
     ) {
         return true;
     }
-    if book.inherited_definitions <= 40 {
-        let mut nodes = [0u32; 2400];
-        let mut nexts = [0u32; 600];
+    if book.inherited_definitions <= FEW {
+        let mut nodes = [0u32; 4 * FEW_NODES];
+        let mut nexts = [0u32; FEW_NODES];
         return one_formula(
             inherited,
             book.inherited,
@@ -191,8 +199,8 @@ fn formulas_right(
             &mut nexts,
         );
     }
-    let mut nodes = [0u32; 7680];
-    let mut nexts = [0u32; 1920];
+    let mut nodes = [0u32; 4 * MOST_NODES];
+    let mut nexts = [0u32; MOST_NODES];
     one_formula(
         inherited,
         book.inherited,

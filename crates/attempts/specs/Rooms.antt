@@ -6,7 +6,7 @@ use mathlib.Core.Bool.{Bool, true, false}
 use mathlib.Core.List.{List}
 use native.Mathlib.Omega.{arith}
 use lib.ListN.{length, replicate, take, length-replicate, length-take}
-use Rattle.grammar.specs.Limits.{BOOK-WORDS, MAX-DEFINITIONS, MAX-KERNELS, MAX-GOES, MAX-STATES}
+use Rattle.grammar.specs.Limits.{BOOK-WORDS, MAX-DEFINITIONS, MAX-KERNELS, MAX-GOES, MAX-STATES, MAX-RULES}
 use Rattle.book.specs.declared.Book.{Book}
 use Rattle.book.specs.declared.Room.{Room}
 use Rattle.book.specs.Rooms.{fullRoom}
@@ -15,50 +15,54 @@ use Rattle.compiler.specs.States.{TablesLent}
 use Rattle.compiler.specs.Compiling.{Compiles}
 
 abbrev pub tinyRoom : Room
-tinyRoom = record { definitions = 16; kernels = 16; goes = 16; states = 8 }
+tinyRoom = record { definitions = 16; kernels = 16; goes = 16; states = 8; rules = 16 }
 
 abbrev pub shortRoom : Room
-shortRoom = record { definitions = 48; kernels = 64; goes = 64; states = 32 }
+shortRoom = record { definitions = 48; kernels = 64; goes = 64; states = 32; rules = 32 }
 
 pub zeros : (n : ℕ) → length {A = ℕ} (replicate n 0) ≡ n
 zeros n = length-replicate n 0
 
 -- the arrays that are as long as a room says, which is no more than the limits allow
-pub record ArraysLent (room : Room) (definitions kernels goes closures table : List ℕ) : Type 0 where
+pub record ArraysLent (room : Room) (rules definitions kernels goes closures table : List ℕ) : Type 0 where
+  pub rules-long : length rules ≡ 10 * room .rules
   pub definitions-long : length definitions ≡ 49 * room .definitions
   pub kernels-long : length kernels ≡ 5 * room .kernels
   pub goes-long : length goes ≡ 3 * room .goes
   pub closures-none : closures ≡ replicate (32 * room .states) 0
   pub table-long : length table ≡ 64 * room .states
+  pub rules-few : room .rules ≤ MAX-RULES
   pub definitions-few : room .definitions ≤ MAX-DEFINITIONS
   pub kernels-few : room .kernels ≤ MAX-KERNELS
   pub goes-few : room .goes ≤ MAX-GOES
   pub states-few : room .states ≤ MAX-STATES
 
 -- arrays of zeros
-arrays-lent : (room : Room) → room .definitions ≤ MAX-DEFINITIONS → room .kernels ≤ MAX-KERNELS → room .goes ≤ MAX-GOES → room .states ≤ MAX-STATES
-    → ArraysLent room (replicate (49 * room .definitions) 0) (replicate (5 * room .kernels) 0) (replicate (3 * room .goes) 0)
+arrays-lent : (room : Room) → room .rules ≤ MAX-RULES → room .definitions ≤ MAX-DEFINITIONS → room .kernels ≤ MAX-KERNELS → room .goes ≤ MAX-GOES
+    → room .states ≤ MAX-STATES → ArraysLent room (replicate (10 * room .rules) 0) (replicate (49 * room .definitions) 0) (replicate (5 * room .kernels) 0) (replicate (3 * room .goes) 0)
     (replicate (32 * room .states) 0) (replicate (64 * room .states) 0)
-arrays-lent room definitions kernels goes states = record {
+arrays-lent room rules definitions kernels goes states = record {
+  rules-long = zeros (10 * room .rules);
   definitions-long = zeros (49 * room .definitions);
   kernels-long = zeros (5 * room .kernels);
   goes-long = zeros (3 * room .goes);
   closures-none = refl;
   table-long = zeros (64 * room .states);
+  rules-few = rules;
   definitions-few = definitions;
   kernels-few = kernels;
   goes-few = goes;
   states-few = states;
 }
 
-pub tiny-arrays : ArraysLent tinyRoom (replicate 784 0) (replicate 80 0) (replicate 48 0) (replicate 256 0) (replicate 512 0)
-tiny-arrays = arrays-lent tinyRoom (omega arith) (omega arith) (omega arith) (omega arith)
+pub tiny-arrays : ArraysLent tinyRoom (replicate 160 0) (replicate 784 0) (replicate 80 0) (replicate 48 0) (replicate 256 0) (replicate 512 0)
+tiny-arrays = arrays-lent tinyRoom (omega arith) (omega arith) (omega arith) (omega arith) (omega arith)
 
-pub short-arrays : ArraysLent shortRoom (replicate 2352 0) (replicate 320 0) (replicate 192 0) (replicate 1024 0) (replicate 2048 0)
-short-arrays = arrays-lent shortRoom (omega arith) (omega arith) (omega arith) (omega arith)
+pub short-arrays : ArraysLent shortRoom (replicate 320 0) (replicate 2352 0) (replicate 320 0) (replicate 192 0) (replicate 1024 0) (replicate 2048 0)
+short-arrays = arrays-lent shortRoom (omega arith) (omega arith) (omega arith) (omega arith) (omega arith)
 
-pub full-arrays : ArraysLent fullRoom (replicate 6272 0) (replicate 2560 0) (replicate 3072 0) (replicate 4096 0) (replicate 8192 0)
-full-arrays = arrays-lent fullRoom (omega arith) (omega arith) (omega arith) (omega arith)
+pub full-arrays : ArraysLent fullRoom (replicate 640 0) (replicate 6272 0) (replicate 2560 0) (replicate 3072 0) (replicate 4096 0) (replicate 8192 0)
+full-arrays = arrays-lent fullRoom (omega arith) (omega arith) (omega arith) (omega arith) (omega arith)
 
 -- where there is room for all that the limits allow, nothing is left out
 full-complete : (numbers : Book) → Complete fullRoom numbers
@@ -67,6 +71,7 @@ full-complete numbers = record {
   kernels-fit = λ less. absurd (omega arith);
   goes-fit = λ less. absurd (omega arith);
   states-fit = λ less. absurd (omega arith);
+  rules-fit = λ less. absurd (omega arith);
 }
 
 pub compiled-whole : {room : Room} {text : List ℕ} {complete : Bool} {r : ℕ} {numbers : Book} {inherited synthesized rules definitions kernels goes : List ℕ}
@@ -81,29 +86,33 @@ compiled-whole {complete = complete} {numbers = numbers} all c = go complete ref
     go false e = absurd (c .left-out e (rw all (full-complete numbers)))
 
 -- the first of the words that are lent serve as the array of definitions
-pub words-lent : {room : Room} {definitions kernels goes closures table : List ℕ} (words : List ℕ) → length words ≡ BOOK-WORDS
-    → ArraysLent room definitions kernels goes closures table → ArraysLent room (take (49 * room .definitions) words) kernels goes closures table
+pub words-lent : {room : Room} {rules definitions kernels goes closures table : List ℕ} (words : List ℕ) → length words ≡ BOOK-WORDS
+    → ArraysLent room rules definitions kernels goes closures table
+    → ArraysLent room rules (take (49 * room .definitions) words) kernels goes closures table
 words-lent {room} words e lent = record {
+  rules-long = lent .rules-long;
   definitions-long = length-take (49 * room .definitions) words ∙ omega (arith, e, lent .definitions-few);
   kernels-long = lent .kernels-long;
   goes-long = lent .goes-long;
   closures-none = lent .closures-none;
   table-long = lent .table-long;
+  rules-few = lent .rules-few;
   definitions-few = lent .definitions-few;
   kernels-few = lent .kernels-few;
   goes-few = lent .goes-few;
   states-few = lent .states-few;
 }
 
-module _ {room : Room} {definitions kernels goes closures table : List ℕ} (lent : ArraysLent room definitions kernels goes closures table) where
-  pub lines-room : Roomy room (arrays (replicate 16 0) (replicate 32 0) (replicate 640 0) definitions kernels goes)
+module _ {room : Room} {rules definitions kernels goes closures table : List ℕ} (lent : ArraysLent room rules definitions kernels goes closures table) where
+  pub lines-room : Roomy room (arrays (replicate 16 0) (replicate 32 0) rules definitions kernels goes)
   lines-room = record {
     inherited-long = zeros 16;
     synthesized-long = zeros 32;
-    rules-long = zeros 640;
+    rules-long = lent .rules-long;
     definitions-long = lent .definitions-long;
     kernels-long = lent .kernels-long;
     goes-long = lent .goes-long;
+    rules-few = lent .rules-few;
     definitions-few = lent .definitions-few;
     kernels-few = lent .kernels-few;
     goes-few = lent .goes-few;

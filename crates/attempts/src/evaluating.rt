@@ -128,6 +128,7 @@ pub fn attempt(
     text: &[u8],
     n: usize,
     room: Room,
+    rules: &mut [u32],
     definitions: &mut [u32],
     kernels: &mut [u32],
     goes: &mut [u32],
@@ -139,14 +140,13 @@ pub fn attempt(
     count: &mut u32,
 ) -> Answer
     requires { ⌜ ((words : List ℕ) × Found words (now text) true n) × (n ≤ 5 * length (now actions) + 3) × (32 * room .states ≤ length (now actions))
-        × ArraysLent room (now definitions) (now kernels) (now goes) (now lookaheads) (now table) ⌝ }
+        × ArraysLent room (now rules) (now definitions) (now kernels) (now goes) (now lookaheads) (now table) ⌝ }
     ensures { λ r. ⌜ Attempts room (now (text .entry)) n (now (tokens .entry)) (length (now (rows .entry))) (r .complete) (r .number) (now (rows .exit))
         (now (count .exit)) ⌝ }
 {
     let t = classes();
     let mut inherited = [0u32; 16];
     let mut synthesized = [0u32; 32];
-    let mut rules = [0u32; 640];
     let mut vanishes = [0u32; 576];
     let mut begins = [0u32; 576];
     let mut reached = [0u32; 576];
@@ -157,7 +157,7 @@ pub fn attempt(
         room,
         &mut inherited,
         &mut synthesized,
-        &mut rules,
+        rules,
         definitions,
         kernels,
         goes,
@@ -173,7 +173,7 @@ pub fn attempt(
         compiled,
         &inherited,
         &synthesized,
-        &rules,
+        rules,
         definitions,
         kernels,
         goes,

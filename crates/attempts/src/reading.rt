@@ -20,6 +20,7 @@ pub struct Answer {
 pub fn attempt(
     text: &[u8],
     room: Room,
+    rules: &mut [u32],
     kernels: &mut [u32],
     goes: &mut [u32],
     lookaheads: &mut [u32],
@@ -29,14 +30,13 @@ pub fn attempt(
 ) -> Answer
     requires { ⌜ (length (now text) ≤ MAX-TEXT) × (length (now words) ≡ BOOK-WORDS)
         × WaitsRoom (now text) (now actions) × (32 * room .states ≤ length (now actions))
-        × ArraysLent room (take (49 * room .definitions) (now words)) (now kernels) (now goes) (now lookaheads) (now table) ⌝ }
+        × ArraysLent room (now rules) (take (49 * room .definitions) (now words)) (now kernels) (now goes) (now lookaheads) (now table) ⌝ }
     ensures { λ r. ⌜ Attempted room (now (text .entry)) (r .complete) (r .refusal) ⌝ }
 {
     let t = classes();
     let size = 49 * room.definitions;
     let mut inherited = [0u32; 16];
     let mut synthesized = [0u32; 32];
-    let mut rules = [0u32; 640];
     let mut vanishes = [0u32; 576];
     let mut begins = [0u32; 576];
     let mut reached = [0u32; 576];
@@ -47,7 +47,7 @@ pub fn attempt(
         room,
         &mut inherited,
         &mut synthesized,
-        &mut rules,
+        rules,
         &mut words[..size],
         kernels,
         goes,

@@ -12,6 +12,7 @@ pub fn tiny_room() -> Room
         kernels: 16,
         goes: 16,
         states: 8,
+        rules: 16,
     }
 }
 
@@ -24,5 +25,6 @@ pub fn short_room() -> Room
         kernels: 64,
         goes: 64,
         states: 32,
+        rules: 32,
     }
 }

@@ -70,6 +70,9 @@ module _ {b : Book} {definitions rules owned masks : List ℕ} (H : CheckHeld b 
   pub rule-low : getD definitions (49 * d) 0 < 64
   rule-low = omega (arith, rule-word, H .line-in d l .rule-there, H .rules-in .fits)
 
+  pub rule-place : 10 * getD definitions (49 * d) 0 + 10 ≤ length rules
+  rule-place = omega (arith, rule-word, H .line-in d l .rule-there, H .rules-in .long)
+
   pub position-low : 1 ≤ getD definitions (49 * d + 1) 0
   position-low = omega (arith, position-word, H .line-in d l .position-low)
 

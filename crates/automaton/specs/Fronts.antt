@@ -41,7 +41,7 @@ pub fronts-asked : {b : Book} {F : Sets} {rules closures : List ℕ} → Grammar
     → (10 * count ≤ length rules) × (count ≤ 64) × ((P : ℕ) → P < count → getD rules (10 * P) 0 < 32) × (32 * states ≤ length closures)
     × (states ≤ length fronts)
 fronts-asked g k c s fronts e = (
-  omega (arith, g .rules-in .long, g .rules-in .fits),
+  omega (arith, g .rules-in .long),
   omega (arith, g .rules-in .fits),
   λ P l. rule-low g P (omega arith) .left-low,
   omega (arith, k .long),

@@ -126,7 +126,7 @@ module _ {b : Book} {rules kernels : List ℕ} (H : NamedIn b rules kernels) (i 
     few = omega (arith, H .dot-there i h, dot-is, H .short (line .rule) (H .rule-there i h))
 
     pub before-place : 10 * P + 1 + D < length rules
-    before-place = omega (arith, few, rule-is, H .rule-there i h, H .rules-in .long, H .rules-in .fits)
+    before-place = omega (arith, few, rule-is, H .rule-there i h, H .rules-in .long)
 
     pub word-before : getD rules (10 * P + 1 + D) 0 ≡ wordBefore (b .rules) line
     unfolding symbolAt

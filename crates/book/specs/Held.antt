@@ -95,7 +95,7 @@ pub record OwnersIn (room : ℕ) (owners array : List ℕ) : Type 0 where
   pub owner-is : (K : ℕ) → K < length owners → getD array K 0 ≡ ownerAt owners K
 
 pub record RulesIn (G : List Rule) (rules : List ℕ) : Type 0 where
-  pub long : length rules ≡ 10 * MAX-RULES
+  pub long : 10 * length G ≤ length rules
   pub fits : length G ≤ MAX-RULES
   pub left-is : (P : ℕ) → P < length G → getD rules (10 * P) 0 ≡ leftOf G P
   pub size-is : (P : ℕ) → P < length G → getD rules (10 * P + 1) 0 ≡ length (rightOf G P)

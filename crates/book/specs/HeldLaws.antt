@@ -166,17 +166,18 @@ right-word r (suc (suc (suc (suc (suc (suc zero)))))) h = refl
 right-word r (suc (suc (suc (suc (suc (suc (suc zero))))))) h = refl
 right-word r (suc (suc (suc (suc (suc (suc (suc (suc D)))))))) h = absurd (omega arith)
 
-pub rules-in : (G : List Rule) (out : List ℕ) → length out ≡ 10 * MAX-RULES → RulesIn (take MAX-RULES G) (storeLines ruleWords MAX-RULES 0 G out)
+pub rules-in : (room : ℕ) (G : List Rule) (out : List ℕ) → room ≤ MAX-RULES → length out ≡ 10 * room
+    → RulesIn (take room G) (storeLines ruleWords room 0 G out)
 unfolding ruleWords ruleAt
-rules-in G out h =
-    let word = store-line ruleWords 10 MAX-RULES (λ r. refl) (record { left = 0; right = [] }) G out h in
+rules-in room G out most h =
+    let word = store-line ruleWords 10 room (λ r. refl) (record { left = 0; right = [] }) G out h in
     record {
-      long = length-store ruleWords MAX-RULES 0 G out ∙ h;
-      fits = few MAX-RULES G;
+      long = omega (arith, few room G, length-store ruleWords room 0 G out, h);
+      fits = omega (arith, few room G, most);
       left-is = λ P l. word P 0 (10 * P) l (omega arith) (omega arith);
       size-is = λ P l. word P 1 (10 * P + 1) l (omega arith) (omega arith);
       symbol-is = λ P D l m n. word P (2 + D) (10 * P + 2 + D) l (omega arith) (omega arith)
-          ∙ (right-word (ruleAt (take MAX-RULES G) P) D n ∙ code-at (rightOf (take MAX-RULES G) P) D m);
+          ∙ (right-word (ruleAt (take room G) P) D n ∙ code-at (rightOf (take room G) P) D m);
     }
 
 pub kernels-in : (room : ℕ) (ks : List Kernel) (out : List ℕ) → room ≤ MAX-KERNELS → length out ≡ 5 * room
@@ -342,7 +343,9 @@ module _ (room : Room) (b : Book) (complete : Complete room (countsOf b)) where
       record {
         inherited-in = owners-in MAX-INHERITED (b .inheritedOwners) (a .inherited) (r .inherited-long);
         synthesized-in = owners-in MAX-SYNTHESIZED (b .synthesizedOwners) (a .synthesized) (r .synthesized-long);
-        rules-in = rules-in (b .rules) (a .rules) (r .rules-long);
+        rules-in =
+            rw (kept-same (room .rules) MAX-RULES (b .rules) (r .rules-few) (complete .rules-fit))
+            at (rules-in (room .rules) (b .rules) (a .rules) (r .rules-few) (r .rules-long));
         definitions-in =
             rw (definitions-same (r .definitions-few) .0, definitions-same (r .definitions-few) .1)
             at (definitions-in (room .definitions) (r .definitions-few) (b .inheritedDefinitions) (b .synthesizedDefinitions) (a .definitions)

@@ -11,7 +11,7 @@ use Rattle.text.specs.Class.{space}
 use Rattle.text.specs.Rest.{rest, mark}
 use Rattle.text.specs.RestLaws.{found-mark}
 use Rattle.text.specs.Numeral.{keyword}
-use Rattle.grammar.specs.Limits.{MAX-RULES, MAX-RIGHT}
+use Rattle.grammar.specs.Limits.{MAX-RIGHT}
 use Rattle.grammar.specs.Data.Symbol.{Symbol, Rule}
 use Rattle.grammar.specs.Format.Reader.{result, remaining, opening, closing}
 use Rattle.grammar.specs.Format.ReaderLaws.{shrinking, opening-less}
@@ -101,10 +101,10 @@ unfolding ruleWords
 rule-line r e f g = rw (e, f, g ∙ right-codes (r .right))
 
 -- the steps: its number and the left side, the right side, the end, the store
-module _ {text right out out′ : List ℕ} {A p₁ m p₂ p₃ : ℕ} (at k : ℕ) where
+module _ {text right out out′ : List ℕ} {room A p₁ m p₂ p₃ : ℕ} (at k : ℕ) where
   pub rule-steps : Gives (numbered k (rest text at)) text A p₁ → Fills symbolWords MAX-RIGHT (symbols (rest text p₁)) text zeros m p₂ right
-      → rest text p₃ ≡ closing (rest text p₂) → out′ ≡ putLine MAX-RULES k (A ∷ m ∷ firstEight right) out
-      → Puts ruleWords MAX-RULES k (ruleLine k (rest text at)) text out p₃ out′
+      → rest text p₃ ≡ closing (rest text p₂) → out′ ≡ putLine room k (A ∷ m ∷ firstEight right) out
+      → Puts ruleWords room k (ruleLine k (rest text at)) text out p₃ out′
   unfolding numbered ruleLine result remaining
   rule-steps left right-side end stored =
       let words : A ∷ m ∷ firstEight right ≡ ruleWords (result (ruleLine k (rest text at))) =

@@ -32,10 +32,11 @@ arrays inherited synthesized rules definitions kernels goes =
 pub record Roomy (room : Room) (a : Arrays) : Type 0 where
   pub inherited-long : length (a .inherited) ≡ MAX-INHERITED
   pub synthesized-long : length (a .synthesized) ≡ MAX-SYNTHESIZED
-  pub rules-long : length (a .rules) ≡ 10 * MAX-RULES
+  pub rules-long : length (a .rules) ≡ 10 * room .rules
   pub definitions-long : length (a .definitions) ≡ 49 * room .definitions
   pub kernels-long : length (a .kernels) ≡ 5 * room .kernels
   pub goes-long : length (a .goes) ≡ 3 * room .goes
+  pub rules-few : room .rules ≤ MAX-RULES
   pub definitions-few : room .definitions ≤ MAX-DEFINITIONS
   pub kernels-few : room .kernels ≤ MAX-KERNELS
   pub goes-few : room .goes ≤ MAX-GOES
@@ -45,7 +46,7 @@ unfoldable pub storedIn : Room → Arrays → Lines → Arrays
 storedIn room a b = record {
   inherited = storeLines ownerWords MAX-INHERITED 0 (b .inheritedOwners) (a .inherited);
   synthesized = storeLines ownerWords MAX-SYNTHESIZED 0 (b .synthesizedOwners) (a .synthesized);
-  rules = storeLines ruleWords MAX-RULES 0 (b .rules) (a .rules);
+  rules = storeLines ruleWords (room .rules) 0 (b .rules) (a .rules);
   definitions = storeLines synthesizedWords (room .definitions) (length (b .inheritedDefinitions)) (b .synthesizedDefinitions)
       (storeLines inheritedWords (room .definitions) 0 (b .inheritedDefinitions) (a .definitions));
   kernels = storeLines kernelWords (room .kernels) 0 (b .kernels) (a .kernels);
@@ -68,6 +69,7 @@ pub record Complete (room : Room) (numbers : Book) : Type 0 where
   pub kernels-fit : room .kernels < MAX-KERNELS → numbers .kernels ≤ room .kernels
   pub goes-fit : room .goes < MAX-GOES → numbers .goes ≤ room .goes
   pub states-fit : room .states < MAX-STATES → numbers .states ≤ room .states
+  pub rules-fit : room .rules < MAX-RULES → numbers .rules ≤ room .rules
 
 -- opens every definition of this module
 unfoldable pub opens : Unit {0}

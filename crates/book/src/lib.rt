@@ -26,6 +26,7 @@ pub struct Room {
     pub kernels: usize,
     pub goes: usize,
     pub states: usize,
+    pub rules: usize,
 }
 
 impl Room {
@@ -38,6 +39,7 @@ impl Room {
             kernels: Book::MAX_KERNELS as usize,
             goes: Book::MAX_GOES as usize,
             states: Book::MAX_STATES as usize,
+            rules: Book::MAX_RULES as usize,
         }
     }
 }

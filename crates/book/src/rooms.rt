@@ -29,5 +29,8 @@ pub fn complete(room: Room, book: Book) -> bool
     if !fits(room.goes, book.goes as usize, Book::MAX_GOES) {
         return false;
     }
-    fits(room.states, book.states as usize, Book::MAX_STATES)
+    if !fits(room.states, book.states as usize, Book::MAX_STATES) {
+        return false;
+    }
+    fits(room.rules, book.rules as usize, Book::MAX_RULES)
 }

@@ -3,7 +3,7 @@ ghost use Prim.Native.Nat.{_≤_, _<_, _*_};
 ghost use lib.ListN.{length};
 ghost use Rattle.text.specs.Rest.{rest};
 ghost use Rattle.text.specs.Reading.{Lent};
-ghost use Rattle.grammar.specs.Limits.{MAX-RULES, MAX-RIGHT};
+ghost use Rattle.grammar.specs.Limits.{MAX-RIGHT};
 ghost use Rattle.grammar.specs.Format.Parse.{symbols, ruleLine, ruleLines};
 ghost use Rattle.book.specs.Layout.{ruleWords};
 ghost use Rattle.book.specs.Lines.{symbolWords, RULE-WORDS};
@@ -82,9 +82,9 @@ fn left_side(t: &[u8; 256], text: &[u8], at: usize, k: u32) -> Cursor
 }
 
 // After the head, `K nA X1 .. Xm)` with K given; the rule goes to its place.
-fn rule_line(t: &[u8; 256], text: &[u8], at: usize, k: u32, out: &mut [u32]) -> usize
-    requires { ⌜ Lent (now t) (now text) × (MAX-RULES * RULE-WORDS ≤ length (now out)) ⌝ }
-    ensures { λ r. ⌜ Puts ruleWords MAX-RULES k (ruleLine k (rest (now (text .entry)) at)) (now (text .entry)) (now (out .entry)) r (now (out .exit)) ⌝ }
+fn rule_line(t: &[u8; 256], text: &[u8], at: usize, k: u32, room: usize, out: &mut [u32]) -> usize
+    requires { ⌜ Lent (now t) (now text) × (room * RULE-WORDS ≤ length (now out)) ⌝ }
+    ensures { λ r. ⌜ Puts ruleWords room k (ruleLine k (rest (now (text .entry)) at)) (now (text .entry)) (now (out .entry)) r (now (out .exit)) ⌝ }
 {
     let left = left_side(t, text, at, k);
     let mut right = [0u32; Book::MAX_RIGHT as usize];
@@ -101,13 +101,14 @@ fn rule_line(t: &[u8; 256], text: &[u8], at: usize, k: u32, out: &mut [u32]) -> 
         right[6],
         right[7],
     ];
-    put_line(out, Book::MAX_RULES as usize, k, &line);
+    put_line(out, room, k, &line);
     closing(t, text, symbols.at)
 }
 
-pub fn rule_lines(t: &[u8; 256], text: &[u8], at: usize, out: &mut [u32]) -> Section
-    requires { ⌜ Lent (now t) (now text) × (MAX-RULES * RULE-WORDS ≤ length (now out)) ⌝ }
-    ensures { λ r. ⌜ Fills ruleWords MAX-RULES (ruleLines (rest (now (text .entry)) at))
+// The lines, as far as there is room for them.
+pub fn rule_lines(t: &[u8; 256], text: &[u8], at: usize, room: usize, out: &mut [u32]) -> Section
+    requires { ⌜ Lent (now t) (now text) × (room * RULE-WORDS ≤ length (now out)) ⌝ }
+    ensures { λ r. ⌜ Fills ruleWords room (ruleLines (rest (now (text .entry)) at))
         (now (text .entry)) (now (out .entry)) (r .count) (r .at) (now (out .exit)) ⌝ }
 {
     let n = text.len();
@@ -119,7 +120,7 @@ pub fn rule_lines(t: &[u8; 256], text: &[u8], at: usize, out: &mut [u32]) -> Sec
         if n < a {
             return Section { count: k, at: p };
         }
-        p = rule_line(t, text, a, k, out);
+        p = rule_line(t, text, a, k, room, out);
         k += 1;
     }
 }

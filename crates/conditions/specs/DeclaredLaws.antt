@@ -222,6 +222,9 @@ module _ {numbers : Book} {rules definitions : List ℕ} {i : ℕ} {x : Entry} (
   pub declared-word : (attributes : ℕ) → definitionDeclared attributes x ≡ true → getD definitions (49 * i) 0 < MAX-RULES
   declared-word attributes e = omega (arith, declared-rule attributes e, h .line-is .line-in .rule-is, h .rules-of .rules-in .fits)
 
+  pub declared-place : (attributes : ℕ) → definitionDeclared attributes x ≡ true → 10 * getD definitions (49 * i) 0 + 10 ≤ length rules
+  declared-place attributes e = omega (arith, declared-rule attributes e, h .line-is .line-in .rule-is, h .rules-of .rules-in .long)
+
   -- the position last
   inherited-parts : inheritedLineDeclared x
       ≡ definitionDeclared (numbers .inherited) x && isPosition (x .book) (x .line .rule) (x .line .position)

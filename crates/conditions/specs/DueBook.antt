@@ -79,14 +79,14 @@ module _ {numbers : Book} {inherited synthesized rules : List ℕ} {b : Lines} (
         right = λ P l.
             let size : getD rules (10 * P + 1) 0 ≡ length (rightOf (b .rules) P) = r .size-is P (omega arith) in
             record {
-              long = omega (arith, r .long, r .fits);
+              long = omega (arith, r .long);
               few = omega (arith, right-length (h .declared-in .symbols-in .within) P);
               low = λ D m. symbol-low P D (omega arith) (omega arith);
             };
         left = λ P l.
             let left : leftOf (b .rules) P ≤ b .nonterminals = left-declared (h .declared) P (omega arith) in
             record {
-              long = omega (arith, r .long, r .fits);
+              long = omega (arith, r .long);
               low = omega (arith, r .left-is P (omega arith), h .declared-in .symbols-in .within .nonterminals-limit .high);
             };
       }

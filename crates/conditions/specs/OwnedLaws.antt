@@ -99,7 +99,7 @@ module _ {inherited synthesized rules : List ℕ} {b : Lines} (h : DeclaredIn in
 
   module _ (P : ℕ) (there : P < length (b .rules)) where
     room : 10 * P + 10 ≤ length rules
-    room = omega (arith, h .symbols-in .rules-in .long, h .symbols-in .rules-in .fits)
+    room = omega (arith, h .symbols-in .rules-in .long)
 
     position-is : (J : ℕ) → isPosition b P J ≡ true → IsPosition b P J
     unfolding isPosition

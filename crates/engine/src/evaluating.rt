@@ -37,6 +37,7 @@ fn tiny(words: &[u32], tokens: &[u32], rows: &mut [u32], count: &mut u32) -> Ans
             number: 11,
         };
     }
+    let mut rules = [0u32; 160];
     let mut definitions = [0u32; 784];
     let mut kernels = [0u32; 80];
     let mut goes = [0u32; 48];
@@ -47,6 +48,7 @@ fn tiny(words: &[u32], tokens: &[u32], rows: &mut [u32], count: &mut u32) -> Ans
         &text,
         found.count,
         tiny_room(),
+        &mut rules,
         &mut definitions,
         &mut kernels,
         &mut goes,
@@ -73,6 +75,7 @@ fn short(words: &[u32], tokens: &[u32], rows: &mut [u32], count: &mut u32) -> An
             number: 11,
         };
     }
+    let mut rules = [0u32; 320];
     let mut definitions = [0u32; 2352];
     let mut kernels = [0u32; 320];
     let mut goes = [0u32; 192];
@@ -83,6 +86,7 @@ fn short(words: &[u32], tokens: &[u32], rows: &mut [u32], count: &mut u32) -> An
         &text,
         found.count,
         short_room(),
+        &mut rules,
         &mut definitions,
         &mut kernels,
         &mut goes,
@@ -115,6 +119,7 @@ fn any_book(
     if !found.filled {
         return 11;
     }
+    let mut rules = [0u32; 640];
     let mut definitions = [0u32; 6272];
     let mut kernels = [0u32; 2560];
     let mut goes = [0u32; 3072];
@@ -124,6 +129,7 @@ fn any_book(
         text,
         found.count,
         Room::full(),
+        &mut rules,
         &mut definitions,
         &mut kernels,
         &mut goes,

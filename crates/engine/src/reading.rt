@@ -26,6 +26,7 @@ fn tiny(text: &[u8], words: &mut [u32]) -> Answer
     requires { ⌜ (length (now text) ≤ 1024) × (length (now words) ≡ BOOK-WORDS) ⌝ }
     ensures { λ r. ⌜ (r .complete ≡ true → r .refusal ≡ refusal (now (text .entry))) ⌝ }
 {
+    let mut rules = [0u32; 160];
     let mut kernels = [0u32; 80];
     let mut goes = [0u32; 48];
     let mut lookaheads = [0u32; 256];
@@ -34,6 +35,7 @@ fn tiny(text: &[u8], words: &mut [u32]) -> Answer
     attempt(
         text,
         tiny_room(),
+        &mut rules,
         &mut kernels,
         &mut goes,
         &mut lookaheads,
@@ -48,6 +50,7 @@ fn short(text: &[u8], words: &mut [u32]) -> Answer
     requires { ⌜ (length (now text) ≤ 4096) × (length (now words) ≡ BOOK-WORDS) ⌝ }
     ensures { λ r. ⌜ (r .complete ≡ true → r .refusal ≡ refusal (now (text .entry))) ⌝ }
 {
+    let mut rules = [0u32; 320];
     let mut kernels = [0u32; 320];
     let mut goes = [0u32; 192];
     let mut lookaheads = [0u32; 1024];
@@ -56,6 +59,7 @@ fn short(text: &[u8], words: &mut [u32]) -> Answer
     attempt(
         text,
         short_room(),
+        &mut rules,
         &mut kernels,
         &mut goes,
         &mut lookaheads,
@@ -70,6 +74,7 @@ fn full(text: &[u8], words: &mut [u32]) -> u32
     requires { ⌜ (length (now text) ≤ MAX-TEXT) × (length (now words) ≡ BOOK-WORDS) ⌝ }
     ensures { λ r. ⌜ r ≡ refusal (now (text .entry)) ⌝ }
 {
+    let mut rules = [0u32; 640];
     let mut kernels = [0u32; 2560];
     let mut goes = [0u32; 3072];
     let mut lookaheads = [0u32; 4096];
@@ -78,6 +83,7 @@ fn full(text: &[u8], words: &mut [u32]) -> u32
     attempt(
         text,
         Room::full(),
+        &mut rules,
         &mut kernels,
         &mut goes,
         &mut lookaheads,

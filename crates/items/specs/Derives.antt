@@ -110,7 +110,7 @@ module _ {b : Book} {F : Sets} {rules nulls firsts : List ℕ} (H : GrammarIn b 
     word-low = omega (arith, next-word, code-low next next-low)
 
     pub symbol-place : 10 * P + 2 + D < length rules
-    symbol-place = omega (arith, inside, H .short P p, H .rules-in .long, H .rules-in .fits)
+    symbol-place = omega (arith, inside, H .short P p, H .rules-in .long)
 
     pub rest-place : 9 * P + (D + 1) < 9 * MAX-RULES
     rest-place = omega (arith, inside, H .short P p, H .rules-in .fits)

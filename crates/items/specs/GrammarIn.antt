@@ -69,7 +69,7 @@ module _ {b : Book} {rules : List ℕ} (h : GrammarIn b rules) where
 
   pub rule-low : (P : ℕ) → P < length (b .rules) → RuleLow rules P
   rule-low P p = record {
-    there = omega (arith, h .rules-in .long, h .rules-in .fits);
+    there = omega (arith, h .rules-in .long);
     below = omega (arith, h .rules-in .fits);
     left-low = omega (arith, h .rules-in .left-is P p, left-declared (h .declared) P p, h .limits .nonterminals-limit .high);
     size-low = omega (arith, h .rules-in .size-is P p, right-length (h .limits) P);

@@ -53,7 +53,7 @@ grammarOf words count = listed (ruleIn words) count
 
 -- what is asked of the words of rule P
 pub record RuleFits (words : List ℕ) (P : ℕ) : Type 0 where
-  pub long : length words ≡ 10 * MAX-RULES
+  pub there : 10 * P + 10 ≤ length words
   pub below : P < MAX-RULES
   pub left-low : leftWord words P < 32
   pub size-low : sizeWord words P ≤ MAX-RIGHT
@@ -211,7 +211,7 @@ module _ {G : List Rule} {words : List ℕ} {count : ℕ} (H : GrammarHeld G wor
     where
       fits : (P : ℕ) → P < length G → RuleFits words P
       fits P h = record {
-        long = H .held .long;
+        there = omega (arith, H .held .long);
         below = omega (arith, H .held .fits);
         left-low = rw (H .held .left-is P h) (H .small .left-low P h);
         size-low = rw (H .held .size-is P h) (H .short P h);

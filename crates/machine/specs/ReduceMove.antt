@@ -29,6 +29,7 @@ pub record Reduces (b : Book) (c : Config) (P : ℕ) : Type 0 where
 -- its numbers are small
 pub record ReduceLow (b : Book) (starts : List ℕ) (top : Top) (P : ℕ) : Type 0 where
   pub rule-low : P < 64
+  pub rule-there : P < length (b .rules)
   pub deep : length (rightOf (b .rules) P) ≤ top .depth
   pub depth-low : top .depth ≤ length starts
 
@@ -39,6 +40,7 @@ reduce-low-of {b} {P = P} B (stands {S = S} C) e =
     let x = reduced (B .spelled) (B .sound) S _ P e in
     record {
       rule-low = omega (arith, x .there, B .sound .limits .rules-limit .high);
+      rule-there = x .there;
       deep = omega (arith, deep b (tablesOf b) (premises (B .spelled) (B .sound)) (C .path) (length (rightOf (b .rules) P)) (x .complete), C .depth-is);
       depth-low = omega (arith, C .depth-is, C .depth-low);
     }

@@ -14,7 +14,7 @@ use borrow.Author.Tests.{eqb-true, eqb-false, ltb-true, ltb-false}
 use Rattle.text.specs.Rest.{Rest, lost, left, rest, size}
 use Rattle.text.specs.RestLaws.{rest-in, rest-at, rest-out}
 use Rattle.text.specs.Numeral.{wordOf}
-use Rattle.grammar.specs.Limits.{MAX-INHERITED, MAX-SYNTHESIZED, MAX-RULES}
+use Rattle.grammar.specs.Limits.{MAX-INHERITED, MAX-SYNTHESIZED}
 use Rattle.grammar.specs.Data.Book.{Book as Lines}
 use Rattle.grammar.specs.Format.Reader.{parsed, result, remaining}
 use Rattle.grammar.specs.Format.ReaderLaws.{shrinking}
@@ -101,7 +101,7 @@ module _ {text inherited₀ inherited synthesized₀ synthesized rules₀ rules 
     (head-read : Gives (header (rest text 0)) text numbers p₁)
     (inherited-read : Fills ownerWords MAX-INHERITED (ownerLines (wordOf "inh") (wordOf "i") (rest text p₁)) text inherited₀ i p₂ inherited)
     (synthesized-read : Fills ownerWords MAX-SYNTHESIZED (ownerLines (wordOf "syn") (wordOf "s") (rest text p₂)) text synthesized₀ s p₃ synthesized)
-    (rules-read : Fills ruleWords MAX-RULES (ruleLines (rest text p₃)) text rules₀ r p₄ rules)
+    (rules-read : Fills ruleWords (room .rules) (ruleLines (rest text p₃)) text rules₀ r p₄ rules)
     (inherited-defined : Defines (definitions true (rest text p₄)) (room .definitions) 0 text definitions₀ d p₅ definitions₁)
     (synthesized-defined : Defines (definitions false (rest text p₅)) (room .definitions) d text definitions₁ e p₆ definitions₂)
     (kernels-read : Fills kernelWords (room .kernels) (kernelLines (rest text p₆)) text kernels₀ k p₇ kernels)
@@ -200,7 +200,7 @@ module _ {text inherited₀ inherited synthesized₀ synthesized rules₀ rules 
 
 -- the parts of a book, one after another
 pub spelling-steps : {text inherited₀ inherited synthesized₀ synthesized rules₀ rules definitions₀ definitions₂ kernels₀ kernels goes₀ goes : List ℕ}
-    {numbers : Numbers} {i s r d e k g p₄ p₆ p₇ p₈ : ℕ} (room : Room) (p₉ : ℕ) → Declares text inherited₀ synthesized₀ rules₀ numbers i s r p₄ inherited synthesized rules
+    {numbers : Numbers} {i s r d e k g p₄ p₆ p₇ p₈ : ℕ} (room : Room) (p₉ : ℕ) → Declares (room .rules) text inherited₀ synthesized₀ rules₀ numbers i s r p₄ inherited synthesized rules
     → DefinesBoth text (room .definitions) definitions₀ p₄ d e p₆ definitions₂ → Fills kernelWords (room .kernels) (kernelLines (rest text p₆)) text kernels₀ k p₇ kernels
     → Fills goWords (room .goes) (goLines (rest text p₇)) text goes₀ g p₈ goes → rest text p₉ ≡ endLine (rest text p₈)
     → Spelling room text (arrays inherited₀ synthesized₀ rules₀ definitions₀ kernels₀ goes₀) (eqb p₉ (length text)) (numbersWith numbers i s r d e k g)

@@ -2,7 +2,7 @@
 ghost use Prim.Native.Nat.{_*_, _≤_};
 ghost use lib.ListN.{length};
 ghost use Rattle.text.specs.Reading.{Lent};
-ghost use Rattle.grammar.specs.Limits.{MAX-INHERITED, MAX-SYNTHESIZED, MAX-RULES};
+ghost use Rattle.grammar.specs.Limits.{MAX-INHERITED, MAX-SYNTHESIZED};
 ghost use Rattle.book.specs.Lines.{RULE-WORDS};
 ghost use Rattle.definitions.specs.Expressions.{WaitsRoom};
 ghost use Rattle.parsing.specs.Declarations.{Declares};
@@ -29,24 +29,25 @@ struct DeclarationsRead {
     at: usize,
 }
 
-// The first line and the sections inh, syn and rule.
+// The first line and the sections inh, syn and rule. `room` is that for rules.
 fn declarations(
     t: &[u8; 256],
     text: &[u8],
+    room: usize,
     inherited: &mut [u32],
     synthesized: &mut [u32],
     rules: &mut [u32],
 ) -> DeclarationsRead
     requires { ⌜ Lent (now t) (now text) × (MAX-INHERITED ≤ length (now inherited)) × (MAX-SYNTHESIZED ≤ length (now synthesized))
-        × (MAX-RULES * RULE-WORDS ≤ length (now rules)) ⌝ }
-    ensures { λ r. ⌜ Declares (now (text .entry)) (now (inherited .entry)) (now (synthesized .entry)) (now (rules .entry))
+        × (room * RULE-WORDS ≤ length (now rules)) ⌝ }
+    ensures { λ r. ⌜ Declares room (now (text .entry)) (now (inherited .entry)) (now (synthesized .entry)) (now (rules .entry))
         (record { terminals = r .terminals; nonterminals = r .nonterminals; states = r .states }) (r .inherited) (r .synthesized) (r .rules) (r .at)
         (now (inherited .exit)) (now (synthesized .exit)) (now (rules .exit)) ⌝ }
 {
     let head = header(t, text, 0);
     let a = inherited_lines(t, text, head.at, inherited);
     let b = synthesized_lines(t, text, a.at, synthesized);
-    let c = rule_lines(t, text, b.at, rules);
+    let c = rule_lines(t, text, b.at, room, rules);
     DeclarationsRead {
         terminals: head.terminals,
         nonterminals: head.nonterminals,
@@ -85,7 +86,7 @@ pub fn spelling(
         (r .spelled) (r .book)
         (arrays (now (inherited .exit)) (now (synthesized .exit)) (now (rules .exit)) (now (definitions .exit)) (now (kernels .exit)) (now (goes .exit))) ⌝ }
 {
-    let declared = declarations(t, text, inherited, synthesized, rules);
+    let declared = declarations(t, text, room.rules, inherited, synthesized, rules);
     let defined = definition_sections(t, text, declared.at, waits, room.definitions, definitions);
     let items = kernel_lines(t, text, defined.at, room.kernels, kernels);
     let moves = go_lines(t, text, items.at, room.goes, goes);

@@ -211,6 +211,7 @@ module _ {b : Book} {rules definitions table firsts down up : List ℕ} (B : Boo
   -- the words of the rule, and the state that its right side leaves on top
   pub record RuleReady (ks : List Token) (states starts : List ℕ) (top : Top) : Type 0 where
     pub rule-low : P < MAX-RULES
+    pub rule-place : 10 * P + 10 ≤ length rules
     pub size-is : getD rules (10 * P + 1) 0 ≡ size
     pub owner-is : getD rules (10 * P) 0 ≡ leftOf (b .rules) P
     pub owner-low : getD rules (10 * P) 0 < 32
@@ -233,6 +234,7 @@ module _ {b : Book} {rules definitions table firsts down up : List ℕ} (B : Boo
         let at : getD states (top .depth - size) 0 ≡ off .state = ap (λ n. getD states (n - size) 0) (C .depth-is) ∙ off .state-is in
         record {
           rule-low = omega (arith, x .there, B .sound .limits .rules-limit .high);
+          rule-place = omega (arith, x .there, B .rules-in .long);
           size-is = size-is;
           owner-is = owner-is;
           owner-low = omega (arith, left-low C e s);

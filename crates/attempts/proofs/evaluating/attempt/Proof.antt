@@ -12,25 +12,25 @@ use Rattle.attempts.proofs.evaluating.attempt.Tie as tie
 abbrev start : tie.After-compile → tie.Start
 start c =
     c .before .before .before .before .before .before .before .before .before .before .before .before .before .before .before
-    .before .before .before .before .before .before .before .before .before .before .before
+    .before .before .before .before .before .before .before .before .before .before .before .before
 
-abbrev compiled-at : tie.After-respond-arg8 → tie.After-compile
+abbrev compiled-at : tie.After-respond-arg9 → tie.After-compile
 compiled-at c =
     c .before .before .before .before .before .before .before .before .before .before .before .before .before .before .before
     .before .before .before .before .before .before .before .before .before .before .before .before .before .before .before
-    .before .before .before .before
+    .before .before .before .before .before
 
-abbrev responded-at : tie.After-slice-known14 → tie.After-respond
+abbrev responded-at : tie.After-slice-known16 → tie.After-respond
 responded-at c = c .before .before
 
-abbrev compile-at : tie.After-slice-known14 → tie.After-compile
+abbrev compile-at : tie.After-slice-known16 → tie.After-compile
 compile-at c = compiled-at (responded-at c .before)
 
 classes-requires : tie.Need-classes-requires
 classes-requires c κs = search needs
 
 slice-aggregate-compile : tie.Need-slice-aggregate-compile
-slice-aggregate-compile c = let s = c .before .before .before .before .before .before .before .before .before .before .before .before in
+slice-aggregate-compile c = let s = c .before .before .before .before .before .before .before .before .before .before .before .before .before in
     sym (length-take (s .args .n) (s .args .text .now) ∙ omega (arith, s .pre .0 .1 .inside))
 
 slice-aggregate-compile-2 : tie.Need-slice-aggregate-compile-2
@@ -51,12 +51,9 @@ slice-aggregate-compile-6 c = search needs
 slice-aggregate-compile-7 : tie.Need-slice-aggregate-compile-7
 slice-aggregate-compile-7 c = search needs
 
-slice-aggregate-compile-8 : tie.Need-slice-aggregate-compile-8
-slice-aggregate-compile-8 c = search needs
-
 compile-requires : tie.Need-compile-requires
 compile-requires c κs = let s = c .before .before .before .before .before .before .before .before .before .before .before .before .before .before .before
-    .before .before .before .before .before .before .before .before .before .before in
+    .before .before .before .before .before .before .before .before .before .before .before in
     let cut = length-take (s .args .n) (s .args .text .now) in (
       (
         record {
@@ -88,9 +85,6 @@ slice-aggregate-respond-5 c = search needs
 slice-aggregate-respond-6 : tie.Need-slice-aggregate-respond-6
 slice-aggregate-respond-6 c = search needs
 
-slice-aggregate-respond-7 : tie.Need-slice-aggregate-respond-7
-slice-aggregate-respond-7 c = search needs
-
 respond-requires : tie.Need-respond-requires
 respond-requires c κs = let k = compiled-at c in
     let s = start k in (
@@ -105,25 +99,28 @@ respond-requires c κs = let k = compiled-at c in
     )
 
 same-length : tie.Need-same-length
-same-length c = compile-at c .compile .kept .1 .1 .1 .1 .1 .1 .0
+same-length c = compile-at c .compile .kept .1 .1 .1 .1 .1 .0
 
 same-length-2 : tie.Need-same-length-2
-same-length-2 c = compile-at c .compile .kept .1 .1 .1 .1 .1 .1 .1 .0
+same-length-2 c = compile-at c .compile .kept .1 .1 .1 .1 .1 .1 .0
 
 same-length-3 : tie.Need-same-length-3
-same-length-3 c = compile-at c .compile .kept .1 .1 .1 .1 .1 .1 .1 .1 .0
+same-length-3 c = compile-at c .compile .kept .1 .1 .1 .1 .1 .1 .1 .0
 
 same-length-4 : tie.Need-same-length-4
-same-length-4 c = compile-at c .compile .kept .1 .1 .1 .1 .1 .1 .1 .1 .1 .1 .1 .1 .1 .0
+same-length-4 c = compile-at c .compile .kept .1 .1 .1 .1 .1 .1 .1 .1 .0
 
 same-length-5 : tie.Need-same-length-5
-same-length-5 c = compile-at c .compile .kept .1 .1 .1 .1 .1 .1 .1 .1 .1 .1 .1 .1 .1 .1 .0
+same-length-5 c = compile-at c .compile .kept .1 .1 .1 .1 .1 .1 .1 .1 .1 .1 .1 .1 .1 .0
 
 same-length-6 : tie.Need-same-length-6
-same-length-6 c = compile-at c .compile .kept .1 .1 .1 .1 .1 .1 .1 .1 .1 .1 .1 .1 .1 .1 .1 .0
+same-length-6 c = compile-at c .compile .kept .1 .1 .1 .1 .1 .1 .1 .1 .1 .1 .1 .1 .1 .1 .0
 
 same-length-7 : tie.Need-same-length-7
-same-length-7 c = responded-at c .respond .kept .1 .1 .1 .1 .1 .1 .1 .1 .1 .1 .1 .1 .1 .1 .1 .0
+same-length-7 c = compile-at c .compile .kept .1 .1 .1 .1 .1 .1 .1 .1 .1 .1 .1 .1 .1 .1 .1 .0
+
+same-length-8 : tie.Need-same-length-8
+same-length-8 c = responded-at c .respond .kept .1 .1 .1 .1 .1 .1 .1 .1 .1 .1 .1 .1 .1 .1 .1 .0
 
 returns : tie.Need-returns
 returns c = let k = compile-at c in
@@ -146,7 +143,6 @@ attempt-spec =
     slice-aggregate-compile-5
     slice-aggregate-compile-6
     slice-aggregate-compile-7
-    slice-aggregate-compile-8
     compile-requires
     slice-aggregate-respond
     slice-aggregate-respond-2
@@ -154,7 +150,6 @@ attempt-spec =
     slice-aggregate-respond-4
     slice-aggregate-respond-5
     slice-aggregate-respond-6
-    slice-aggregate-respond-7
     respond-requires
     same-length
     same-length-2
@@ -163,4 +158,5 @@ attempt-spec =
     same-length-5
     same-length-6
     same-length-7
+    same-length-8
     returns)

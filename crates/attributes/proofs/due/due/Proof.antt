@@ -4,7 +4,7 @@ use Prim.Native.Nat.{_≤_, _<_}
 use mathlib.Core.Path.{_∙_}
 use native.Mathlib.Omega.{arith}
 use borrow.Author.Needs.{needs}
-use Rattle.attributes.specs.CheckingLaws.{rule-low, position-low, position-high, left-below, due-absent, due-behind, due-front}
+use Rattle.attributes.specs.CheckingLaws.{rule-low, rule-place, position-low, position-high, left-below, due-absent, due-behind, due-front}
 use Rattle.attributes.proofs.due.due.Statement.{statement}
 use Rattle.attributes.proofs.due.due.Tie as tie
 
@@ -80,7 +80,8 @@ mul-word-3 : tie.Need-mul-word-3
 mul-word-3 c = omega (arith, rule (c .before .before .before .before))
 
 word-requires-3 : tie.Need-word-requires-3
-word-requires-3 c κs = let w = c .before .before .before .before in omega (arith, rule w, entry w .pre .2 .rules-in .long)
+word-requires-3 c κs =
+    let w = c .before .before .before .before in omega (arith, w .before .word .ensures, rule-place (entry w .pre .2) (entry w .pre .3))
 
 mul-subset : tie.Need-mul-subset
 mul-subset c = omega (arith, left c)

@@ -50,8 +50,18 @@ fits-requires-4 : tie.Need-fits-requires-4
 fits-requires-4 c κs = search needs
 
 returns-4 : tie.Need-returns-4
-returns-4 c =
-    let goes = c .before .before in
+returns-4 c = false-decides λ fit. refuted (c .before .fits5 .ensures) (c .if4 .taken) (fit .states-fit)
+
+cast-fits-4 : tie.Need-cast-fits-4
+cast-fits-4 c = search needs
+
+fits-requires-5 : tie.Need-fits-requires-5
+fits-requires-5 c κs = search needs
+
+returns-5 : tie.Need-returns-5
+returns-5 c =
+    let states = c .before .before in
+    let goes = states .before .before .before in
     let kernels = goes .before .before .before in
     let definitions = kernels .before .before .before in
     equivalent
@@ -59,9 +69,10 @@ returns-4 c =
       definitions-fit = definitions .before .fits2 .ensures .sound (not-false _ (definitions .if1 .left));
       kernels-fit = kernels .before .fits3 .ensures .sound (not-false _ (kernels .if2 .left));
       goes-fit = goes .before .fits4 .ensures .sound (not-false _ (goes .if3 .left));
-      states-fit = fit;
+      states-fit = states .before .fits5 .ensures .sound (not-false _ (states .if4 .left));
+      rules-fit = fit;
     })
-    (λ all. all .states-fit) (c .fits5 .ensures)
+    (λ all. all .rules-fit) (c .fits6 .ensures)
 
 pub complete-spec : {M : Type 1} → statement M
 complete-spec =
@@ -80,4 +91,7 @@ complete-spec =
     returns-3
     cast-fits-3
     fits-requires-4
-    returns-4)
+    returns-4
+    cast-fits-4
+    fits-requires-5
+    returns-5)

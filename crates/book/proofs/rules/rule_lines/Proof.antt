@@ -2,7 +2,6 @@ use Prim.Native.Nat.{suc}
 use native.Mathlib.Numerals.{add-one}
 use Rattle.text.specs.Rest.{rest, size}
 use Rattle.text.specs.Numeral.{wordOf, spelled}
-use Rattle.grammar.specs.Limits.{MAX-RULES}
 use Rattle.grammar.specs.Format.Reader.{opening}
 use Rattle.grammar.specs.Format.Parse.{ruleLine, ruleLines}
 use Rattle.lines.specs.Heads.{rule-head}
@@ -14,12 +13,12 @@ use Rattle.book.proofs.rules.rule_lines.Statement.{statement}
 use Rattle.book.proofs.rules.rule_lines.Tie as tie
 
 abbrev Inv-loop : tie.InvT-loop
-Inv-loop t text at out₀ n head p₀ k₀ out p k =
-    Filling (opening (wordOf "rule")) ruleLine (λ K r. suc K) ruleWords MAX-RULES
+Inv-loop t text at room out₀ n head p₀ k₀ out p k =
+    Filling (opening (wordOf "rule")) ruleLine (λ K r. suc K) ruleWords room
     text (ruleLines (rest text at)) out₀ k k p out
 
 abbrev μ-loop : tie.MeasureT-loop
-μ-loop t text at out₀ n head p₀ k₀ out p k = size (rest text p)
+μ-loop t text at room out₀ n head p₀ k₀ out p k = size (rest text p)
 
 slice-aggregate-head : tie.Need-slice-aggregate-head Inv-loop μ-loop
 slice-aggregate-head c = search needs

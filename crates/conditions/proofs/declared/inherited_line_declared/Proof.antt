@@ -1,19 +1,28 @@
 -- `inherited_line_declared` meets its contract: the position last, since it is asked of a rule that is there.
 -- Assumes nothing.
-use Prim.Native.Nat.{_*_, _<_}
-use mathlib.Core.Path.{sym, _∙_}
+use Prim.Native.Nat.{_+_, _*_, _<_, _≤_}
+use mathlib.Core.Path.{_≡_, sym, _∙_}
+use mathlib.Core.Bool.{true}
 use native.Mathlib.Omega.{arith}
-use lib.ListN.{getD}
-use Rattle.conditions.specs.DeclaredLaws.{declared-word, inherited-asked, inherited-refused}
+use lib.ListN.{length, getD}
+use Rattle.conditions.specs.DeclaredTests.{definitionDeclared}
+use Rattle.conditions.specs.DeclaredLaws.{declared-word, declared-place, inherited-asked, inherited-refused}
 use borrow.Author.Needs.{needs}
 use Rattle.conditions.proofs.declared.inherited_line_declared.Statement.{statement}
 use Rattle.conditions.proofs.declared.inherited_line_declared.Tie as tie
 
+abbrev start : tie.Then1 → tie.Start
+start t = t .before .before .before .before
+
 -- a declared line's rule has a line
-low : (t : tie.Then1) → getD (t .before .before .before .before .args .definitions .now) (49 * t .before .before .before .before .args .i) 0 < 64
-low t = let h = t .before .before .before .before .pre in
-    declared-word (h .1) (t .before .before .before .before .args .book .inherited)
-    (sym (t .before .definition-declared .ensures .for-all (h .0) (h .1)) ∙ t .if1 .taken)
+is-declared : (t : tie.Then1) → definitionDeclared (start t .args .book .inherited) (start t .pre .0) ≡ true
+is-declared t = sym (t .before .definition-declared .ensures .for-all (start t .pre .0) (start t .pre .1)) ∙ t .if1 .taken
+
+low : (t : tie.Then1) → getD (start t .args .definitions .now) (49 * start t .args .i) 0 < 64
+low t = declared-word (start t .pre .1) (start t .args .book .inherited) (is-declared t)
+
+place : (t : tie.Then1) → 10 * getD (start t .args .definitions .now) (49 * start t .args .i) 0 + 10 ≤ length (start t .args .rules .now)
+place t = declared-place (start t .pre .1) (start t .args .book .inherited) (is-declared t)
 
 definition-declared-requires : tie.Need-definition-declared-requires
 definition-declared-requires c κs = search needs
@@ -40,7 +49,7 @@ mul-one-to-2 : tie.Need-mul-one-to-2
 mul-one-to-2 c = omega (arith, low (c .before))
 
 shared-slice-read-one-to : tie.Need-shared-slice-read-one-to
-shared-slice-read-one-to c = omega (arith, low (c .before .before), c .before .before .before .before .before .before .pre .1 .rules-of .rules-in .long)
+shared-slice-read-one-to c = omega (arith, place (c .before .before))
 
 mul-one-to-3 : tie.Need-mul-one-to-3
 mul-one-to-3 c = search needs

@@ -11,7 +11,7 @@ use Rattle.engine.proofs.evaluating.any_book.Tie as tie
 -- from the call of `attempt` back to the room, to the test of the filling, to the text, and to the entry
 
 abbrev room-at : tie.After-attempt-arg4 → tie.After-full
-room-at c = c .before .before .before .before .before .before .before .before
+room-at c = c .before .before .before .before .before .before .before .before .before
 
 abbrev filled-at : tie.After-attempt-arg4 → tie.Else1
 filled-at c = room-at c .before .before
@@ -49,6 +49,9 @@ slice-aggregate-attempt-4 c = search needs
 slice-aggregate-attempt-5 : tie.Need-slice-aggregate-attempt-5
 slice-aggregate-attempt-5 c = search needs
 
+slice-aggregate-attempt-6 : tie.Need-slice-aggregate-attempt-6
+slice-aggregate-attempt-6 c = search needs
+
 attempt-requires : tie.Need-attempt-requires
 attempt-requires c κs =
     let found = found-at c .text-in in (
@@ -69,7 +72,7 @@ same-length-4 c = search needs
 
 returns-2 : tie.Need-returns-2
 returns-2 c =
-    let a = c .before .before .before .before .before .before .before .before .before in
+    let a = c .before .before .before .before .before .before .before .before .before .before in
     let told = a .attempt .ensures in
     let at = a .before in
     told .answers (told .all (room-at at .full .ensures)) _ (filled-found (found-at at .text-in .ensures) (filled-at at .if1 .left))
@@ -87,6 +90,7 @@ any-book-spec =
     slice-aggregate-attempt-3
     slice-aggregate-attempt-4
     slice-aggregate-attempt-5
+    slice-aggregate-attempt-6
     attempt-requires
     same-length-2
     same-length-3

@@ -35,7 +35,7 @@ add-word : tie.Need-add-word
 add-word c = omega (arith, low (start c) .rule-low)
 
 word-requires : tie.Need-word-requires
-word-requires c κs = omega (arith, low (start c) .rule-low, start c .pre .1 .3 .rules-in .long)
+word-requires c κs = omega (arith, low (start c) .rule-there, start c .pre .1 .3 .rules-in .long)
 
 sub-below : tie.Need-sub-below
 sub-below c = let p = start (c .before .before) .pre .1 in reduce-deep (p .3) (p .5) (p .6) (c .before .word .ensures)

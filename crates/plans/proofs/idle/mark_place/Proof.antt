@@ -4,7 +4,7 @@ use Prim.Native.Nat.{_-_, _≤_, _<_}
 use native.Mathlib.Omega.{arith}
 use lib.ListN.{length-set}
 use borrow.Author.Needs.{needs}
-use Rattle.attributes.specs.CheckingLaws.{rule-low, position-low, position-high, left-below}
+use Rattle.attributes.specs.CheckingLaws.{rule-low, rule-place, position-low, position-high, left-below}
 use Rattle.plans.specs.Idle.{places-behind, places-front}
 use Rattle.plans.proofs.idle.mark_place.Statement.{statement}
 use Rattle.plans.proofs.idle.mark_place.Tie as tie
@@ -67,7 +67,8 @@ mul-word-3 : tie.Need-mul-word-3
 mul-word-3 c = omega (arith, rule (c .before))
 
 word-requires-3 : tie.Need-word-requires-3
-word-requires-3 c κs = omega (arith, rule (c .before), entry (c .before) .pre .0 .3 .rules-in .long)
+word-requires-3 c κs =
+    let w = c .before in omega (arith, w .before .word .ensures, rule-place (entry w .pre .0 .3) (entry w .pre .0 .4))
 
 left : (c : tie.After-word3) → c .word3 .result < 32
 left c =

@@ -26,12 +26,12 @@ start-at c = c .before .before
 abbrev state-at : tie.After-push-node → tie.After-word3
 state-at c = c .before .before .before .before .before .before .before
 
--- the rule is one of at most 64
+-- the rule is one of at most 64, and its words are in the array
 rule-low : (c : tie.Start) → c .args .rule < 64
 rule-low c = left-ready (c .pre .1 .3) .rule-low
 
-rules-long : (c : tie.Start) → length (c .args .rules .now) ≡ 640
-rules-long c = c .pre .1 .3 .book-in .rules-in .long
+rule-place : (c : tie.Start) → 10 * c .args .rule + 10 ≤ length (c .args .rules .now)
+rule-place c = left-ready (c .pre .1 .3) .rule-place
 
 -- what the words of the rule say
 module _ (c : tie.After-word2) where
@@ -56,7 +56,7 @@ mul-place c = omega (arith, rule-low (c .before .before .before .before .before 
 word-requires : tie.Need-word-requires
 word-requires c κs =
     let s = c .before .before .before .before .before .before .before .before .before .before .before in
-    omega (arith, rule-low s, rules-long s)
+    omega (arith, rule-place s)
 
 add-word : tie.Need-add-word
 add-word c = omega (arith, rule-low (c .before .before .before .before .before .before .before .before .before .before .before .before))
@@ -64,7 +64,7 @@ add-word c = omega (arith, rule-low (c .before .before .before .before .before .
 word-requires-2 : tie.Need-word-requires-2
 word-requires-2 c κs =
     let s = c .before .before .before .before .before .before .before .before .before .before .before .before in
-    omega (arith, rule-low s, rules-long s)
+    omega (arith, rule-place s)
 
 sub-below : tie.Need-sub-below
 sub-below c = omega (arith, deep (c .before))

@@ -1,5 +1,6 @@
 """Books and messages whose size is about one at which an engine may go another way: 32 states, 64 kernel or go lines, 48 definitions, 4,096 bytes; 8
-states, 16 lines of each kind, 1,024 bytes; stacks of 32 and of 128 symbols under 24 tokens or a few more; and 253 partial states with definitions."""
+states, 16 lines of each kind, 1,024 bytes; 16 or 32 rules; stacks of 32 and of 128 symbols under 24 tokens or a few more; and 253 partial states with
+definitions."""
 
 import grammar as grammars
 import lr
@@ -41,6 +42,17 @@ def counts_of_definitions(rng, group, growing, middle, longest):
         count = text.count("(inhdef") + text.count("(syndef")
         if count in wanted and len(text) <= longest and compiled(text.encode())[0] == 0:
             wanted.remove(count)
+            add_book(rng, group, grammar, automaton)
+
+
+def counts_of_rules(rng, group, middle, longest):
+    """Rules of a list, with some between them of a nonterminal that nothing uses."""
+    wanted = list(around(middle))
+    while wanted:
+        more = (f"n3 t{rng.randint(1, 2)} n3" for _ in range(wanted[0] - 4))
+        grammar, automaton, text = random_book(rng, shapes.of_rules(2, 3, "n0 n1", "n1 n2", *more, "n2", "n2 n2 t1"), 1, True)
+        if len(text) <= longest and compiled(text.encode())[0] == 0:
+            del wanted[0]
             add_book(rng, group, grammar, automaton)
 
 
@@ -128,3 +140,5 @@ def fill(rng, group):
     lengths(rng, group, lambda: grown(rng, 31, 3, 5, 30, True), 600, 900, 1024)
     depths(group)
     many_partial_states(group)
+    counts_of_rules(rng, group, 16, 800)
+    counts_of_rules(rng, group, 32, 2000)

@@ -4,7 +4,7 @@ use mathlib.Core.Path.{_≡_, ap, _∙_}
 use mathlib.Core.List.{List}
 use mathlib.Core.Option.{some}
 use native.Mathlib.Omega.{arith}
-use lib.ListN.{length, replicate}
+use lib.ListN.{length, replicate, getD-replicate}
 use Rattle.grammar.specs.Limits.{PAGE-WORDS, MAX-STACK}
 use Rattle.grammar.specs.Data.Book.{Book as Lines}
 use Rattle.grammar.specs.Formulas.FormulaCheck as grammar
@@ -16,7 +16,7 @@ use Rattle.attributes.specs.Checking.{CheckHeld}
 use Rattle.agreement.specs.OneFormula.{held-check}
 use Rattle.plans.specs.Idle.{PlacesIn}
 use Rattle.plans.specs.Plans.{PlansIn}
-use Rattle.plans.specs.PlansLaws.{plans-none}
+use Rattle.plans.specs.PlansLaws.{plans-none, none-listed}
 use Rattle.machine.specs.Moving.{Rooms, Driven}
 use Rattle.machine.specs.Running.{RunIn}
 use Rattle.stack.specs.Standing.{Message as Tokens}
@@ -66,7 +66,10 @@ module _ {numbers : Book} {inherited synthesized rules definitions kernels goes 
 
   -- no plan is worked out yet
   pub plans-of : PlansIn b (replicate 4096 0) (replicate 4336 0)
-  plans-of = plans-none b (h .ready .conditions-met .limits .states-limit .high)
+  plans-of =
+      let few = h .ready .conditions-met .limits .states-limit .high in
+      plans-none b (record { long = omega (arith, zeros 4096); none = λ i l. getD-replicate 4096 i 0 0 (omega arith) })
+      (none-listed 255 (omega arith) (omega arith))
 
 -- the stacks as they are before the first move, with room for n symbols
 pub run-room : (n : ℕ) → n ≤ MAX-STACK → {rows : List ℕ} → rows ≡ replicate PAGE-WORDS 0

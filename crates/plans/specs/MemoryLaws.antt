@@ -6,7 +6,7 @@ use native.Mathlib.Omega.{arith}
 use mathlib.Core.Path.{_≡_, refl, _∙_}
 use mathlib.Core.Bool.{Bool, true, false}
 use mathlib.Core.List.{List}
-use lib.ListN.{length, getD, set}
+use lib.ListN.{length, getD, set, length-set}
 use lib.Seq.{getD-set-same, getD-set-other}
 use Rattle.grammar.specs.Limits.{MAX-INHERITED}
 use Rattle.grammar.specs.Data.Book.{Book}
@@ -24,7 +24,7 @@ use Rattle.plans.specs.PlanningLaws.{plan-short}
 use Rattle.plans.specs.PlanRows.{PlanRow, Elsewhere}
 use Rattle.plans.specs.PlanRowsLaws.{elsewhere-then, elsewhere-wider, elsewhere-set}
 use Rattle.plans.specs.Plans.{planOf, PlanIn, lastSlot, PlansIn, PlanTold, IdleTold, PlansHeld, NoLines}
-use Rattle.plans.specs.PlansLaws.{plan-marked, plan-idle, plans-beside, noted-here, plans-noted, plans-nothing}
+use Rattle.plans.specs.PlansLaws.{plan-marked, plan-idle, plans-beside, last-stays, noted-here, plans-noted, plans-nothing}
 
 -- a plan has few lines
 pub row-short : (b : Book) (member : ℕ → ℕ → Bool) {row : List ℕ} {from n : ℕ} → PlanRow (plan b member) row from n → n ≤ MAX-INHERITED
@@ -61,24 +61,25 @@ module _ {b : Book} {rules : List ℕ} {count : ℕ} {definitions : List ℕ} {l
       pub told-known : (getD slots (32 * S + a) 0 ≡ 0 → ⊥) → PlanTold b slots lists S a (getD slots (32 * S + a) 0 - 1)
       told-known k =
           let N = M .noted S a (getD slots (32 * S + a) 0 - 1) s low (omega (arith, k)) in
-          record { plans-in = M; slot-low = omega (arith, N .in-use, M .last-low); plan-in = N .plan-in }
+          record { plans-in = M; slot-low = omega (arith, N .in-use, M .last-low, M .lists-long); plan-in = N .plan-in }
 
       -- it is worked out into the next slot, which is the spare one, or is noted
       module _ {new : List ℕ} {slot : ℕ} (next : slot ≡ lastSlot lists + 1) (P : PlanIn (planOf b S a) new slot)
           (E : Elsewhere (17 * slot) (17 * slot + 17) lists new) where
         pub told-spare : PlanTold b slots new S a slot
         told-spare =
-            let few : slot < 255 = omega (arith, next, M .last-low) in
-            record { plans-in = plans-beside M (omega (arith, next)) few E; slot-low = few; plan-in = P }
+            let few : 17 * slot + 17 < length lists = omega (arith, next, M .last-low, M .lists-long) in
+            record { plans-in = plans-beside M (omega (arith, next)) few E; slot-low = omega (arith, few, E .long); plan-in = P }
 
-        pub told-new : (slot ≡ 254 → ⊥) → PlanTold b (set slots (32 * S + a) (slot + 1)) (set new 4335 slot) S a slot
+        pub told-new : (17 * slot + 17 ≡ length lists - 1 → ⊥) → PlanTold b (set slots (32 * S + a) (slot + 1)) (set new (length lists - 1) slot) S a slot
         told-new n =
             let T = told-spare in
-            let few : slot < 254 = omega (arith, n, T .slot-low) in
-            let unused : lastSlot new < slot = omega (arith, next, E .behind 4335 (omega arith)) in
+            let few : 17 * slot + 18 < length new = omega (arith, n, E .long, T .slot-low) in
+            let unused : lastSlot new < slot = omega (arith, next, last-stays M (omega (arith, next)) (omega (arith, few, E .long)) E) in
+            rw (← E .long)
             record {
               plans-in = plans-noted (T .plans-in) s low unused few P;
-              slot-low = T .slot-low;
+              slot-low = omega (arith, T .slot-low, length-set new (length new - 1) slot);
               plan-in = noted-here (T .plans-in) s low unused few P .plan-in;
             }
 
@@ -96,5 +97,5 @@ told-idle ordered I {S} s idle N M =
     let M′ = plans-nothing M S (λ a l. plan-idle ordered (G .limits) (G .declared) S a idle) N in
     record {
       plans-in = M′;
-      told = λ _ a l. record { plans-in = M′; slot-low = omega arith; plan-in = M′ .noted S a 0 s l (N .none a l) .plan-in };
+      told = λ _ a l. record { plans-in = M′; slot-low = omega (arith, M′ .last-low, M′ .lists-long); plan-in = M′ .noted S a 0 s l (N .none a l) .plan-in };
     }

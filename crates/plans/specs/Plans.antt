@@ -1,12 +1,12 @@
--- The plans of all partial states of a book, and the memory of those that are worked out. Its lists are 255 slots of seventeen bytes, the number of a plan's
--- lines and the lines, and one byte behind them, the number of the last slot in use. For the partial state (S, a) byte 32 * S + a of the slots is 0, or one
--- more than the number of the slot that has its plan. Slot 0 has the plan without lines. Slot 254 is never in use: a plan that finds no other is worked out
--- there, and not noted. Assumes nothing.
-use Prim.Native.Nat.{ℕ, _+_, _*_, _<_, _≤_}
+-- The plans of all partial states of a book, and the memory of those that are worked out. Its lists are 2 to 255 slots of seventeen bytes, the number of a
+-- plan's lines and the lines, and one byte behind them, the number of the last slot in use. For the partial state (S, a) byte 32 * S + a of the slots is 0, or
+-- one more than the number of the slot that has its plan. Slot 0 has the plan without lines. The last slot is never in use: a plan that finds no other is
+-- worked out there, and not noted. Assumes nothing.
+use Prim.Native.Nat.{ℕ, _+_, _*_, _-_, _<_, _≤_}
 use mathlib.Core.Path.{_≡_}
 use mathlib.Core.Bool.{Bool, true}
 use mathlib.Core.List.{List}
-use lib.ListN.{length, getD}
+use lib.ListN.{length, getD, replicate}
 use Rattle.grammar.specs.Data.Book.{Book}
 use Rattle.grammar.specs.Automaton.FirstSets.{setsOf}
 use Rattle.grammar.specs.Automaton.ReachSets.{reachSets}
@@ -30,25 +30,39 @@ PlanIn lines lists slot = PlanRow lines lists (17 * slot + 1) (getD lists (17 * 
 
 -- the last slot in use
 abbrev pub lastSlot : List ℕ → ℕ
-lastSlot lists = getD lists 4335 0
+lastSlot lists = getD lists (length lists - 1) 0
 
 -- a plan in a slot in use
 pub record PlanNoted (lines lists : List ℕ) (slot : ℕ) : Type 0 where
   pub in-use : slot ≤ lastSlot lists
   pub plan-in : PlanIn lines lists slot
 
--- the memory
+-- the memory, of `room` slots
 pub record PlansIn (b : Book) (slots lists : List ℕ) : Type 0 where
+  pub room : ℕ
+  pub room-low : room ≤ 255
   pub slots-long : 32 * b .states ≤ length slots
-  pub lists-long : length lists ≡ 4336
-  pub last-low : lastSlot lists < 254
+  pub lists-long : length lists ≡ 17 * room + 1
+  pub last-low : lastSlot lists + 1 < room
   pub first-none : getD lists 0 0 ≡ 0
   pub noted : (S a slot : ℕ) → S < b .states → a < 32 → getD slots (32 * S + a) 0 ≡ slot + 1 → PlanNoted (planOf b S a) lists slot
+
+-- of the partial states of n states nothing is noted
+pub record NoneNoted (n : ℕ) (slots : List ℕ) : Type 0 where
+  pub long : 32 * n ≤ length slots
+  pub none : (i : ℕ) → i < 32 * n → getD slots i 0 ≡ 0
+
+-- lists that are all 0
+pub record NoneListed (lists : List ℕ) : Type 0 where
+  pub room : ℕ
+  pub some : 2 ≤ room
+  pub few : room ≤ 255
+  pub lists-are : lists ≡ replicate (17 * room + 1) 0
 
 -- the slot of a plan, in use or not
 pub record PlanTold (b : Book) (slots lists : List ℕ) (S a slot : ℕ) : Type 0 where
   pub plans-in : PlansIn b slots lists
-  pub slot-low : slot < 255
+  pub slot-low : 17 * slot + 17 < length lists
   pub plan-in : PlanIn (planOf b S a) lists slot
 
 -- the plans of the first n partial states of state S are known to have no lines, and the other slots are as they were

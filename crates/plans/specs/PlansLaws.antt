@@ -1,10 +1,10 @@
 -- Laws of the plans of a book: that sets of terminals give them, that they set the cells, and how the memory of them grows. Assumes nothing.
-use Prim.Native.Nat.{ℕ, _+_, _*_, _<_, _≤_}
+use Prim.Native.Nat.{ℕ, _+_, _*_, _-_, _<_, _≤_}
 use native.Mathlib.Omega.{arith}
 use native.Mathlib.Decide.{ℕ-discrete, decLt}
-use mathlib.Core.Path.{_≡_, refl, sym, _∙_}
-use mathlib.Core.List.{List, []}
-use lib.ListN.{length, getD, set, replicate, length-set, length-replicate, getD-replicate}
+use mathlib.Core.Path.{_≡_, refl, sym, ap, _∙_}
+use mathlib.Core.List.{List, [], _++_}
+use lib.ListN.{length, getD, drop, set, replicate, length-set, length-append, length-replicate, length-drop, getD-replicate, List·getD-append}
 use lib.Seq.{getD-set-same, getD-set-other}
 use Rattle.grammar.specs.Limits.{MAX-INHERITED}
 use Rattle.grammar.specs.Data.Book.{Book}
@@ -30,7 +30,7 @@ use Rattle.plans.specs.Planning.{applied, plan}
 use Rattle.plans.specs.PlanningLaws.{plan-short, plan-none, plan-same}
 use Rattle.plans.specs.PlanCell.{planned-cell}
 use Rattle.plans.specs.PlanRows.{Elsewhere}
-use Rattle.plans.specs.Plans.{planOf, PlanIn, lastSlot, PlanNoted, PlansIn, NoLines}
+use Rattle.plans.specs.Plans.{planOf, PlanIn, lastSlot, PlanNoted, PlansIn, NoneNoted, NoneListed, NoLines}
 
 -- The plan of a partial state
 
@@ -55,14 +55,32 @@ plan-sets-cell {b} spelled s S a =
 -- The memory
 
 -- nothing is worked out
-pub plans-none : (b : Book) → b .states ≤ 128 → PlansIn b (replicate 4096 0) (replicate 4336 0)
-plans-none b few = record {
-  slots-long = omega (arith, length-replicate {A = ℕ} 4096 0);
-  lists-long = length-replicate {A = ℕ} 4336 0;
-  last-low = omega (arith, getD-replicate {A = ℕ} 4336 4335 0 0 (omega arith));
-  first-none = getD-replicate {A = ℕ} 4336 0 0 0 (omega arith);
-  noted = λ S a slot s low e. absurd (omega (arith, e, getD-replicate {A = ℕ} 4096 (32 * S + a) 0 0 (omega arith)));
-}
+pub plans-none : (b : Book) {slots lists : List ℕ} → NoneNoted (b .states) slots → NoneListed lists → PlansIn b slots lists
+plans-none b {lists = lists} N L =
+    let size = L .room in
+    let long : length lists ≡ 17 * size + 1 = ap length (L .lists-are) ∙ length-replicate (17 * size + 1) 0 in
+    let zero : (i : ℕ) → i < 17 * size + 1 → getD lists i 0 ≡ 0 = λ i h. rw (L .lists-are) (getD-replicate (17 * size + 1) i 0 0 h) in
+    record {
+      room = size;
+      room-low = L .few;
+      slots-long = N .long;
+      lists-long = long;
+      last-low = omega (arith, L .some, zero (length lists - 1) (omega arith));
+      first-none = zero 0 (omega arith);
+      noted = λ S a slot s low e. absurd (omega (arith, e, N .none (32 * S + a) (omega arith)));
+    }
+
+pub none-listed : (room : ℕ) → 2 ≤ room → room ≤ 255 → NoneListed (replicate (17 * room + 1) 0)
+none-listed room some few = record { room = room; some = some; few = few; lists-are = refl }
+
+-- bytes that were cleared in front
+pub none-noted : (n : ℕ) (old : List ℕ) {new : List ℕ} → 32 * n ≤ length old → new ≡ replicate (32 * n) 0 ++ drop (32 * n) old → NoneNoted n new
+none-noted n old long e =
+    let cleared : length {A = ℕ} (replicate (32 * n) 0) ≡ 32 * n = length-replicate (32 * n) 0 in
+    rw e (record {
+      long = simp (length-append, length-replicate, length-drop) (omega arith);
+      none = λ i h. List·getD-append (replicate (32 * n) 0) (drop (32 * n) old) 0 i (omega arith) ∙ getD-replicate (32 * n) i 0 0 h;
+    })
 
 -- a plan stays in its slot if the slot's bytes do
 plan-stays : {lines old new : List ℕ} (slot : ℕ) → length lines ≤ MAX-INHERITED
@@ -73,13 +91,15 @@ plan-stays slot few same P = record {
 }
 
 -- a slot that is not in use is written
-module _ {b : Book} {slots lists new : List ℕ} (M : PlansIn b slots lists) {slot : ℕ} (unused : lastSlot lists < slot) (low : slot < 255)
-    (E : Elsewhere (17 * slot) (17 * slot + 17) lists new) where
-  last-stays : lastSlot new ≡ lastSlot lists
-  last-stays = E .behind 4335 (omega arith)
+module _ {b : Book} {slots lists new : List ℕ} (M : PlansIn b slots lists) {slot : ℕ} (unused : lastSlot lists < slot)
+    (low : 17 * slot + 17 < length lists) (E : Elsewhere (17 * slot) (17 * slot + 17) lists new) where
+  pub last-stays : lastSlot new ≡ lastSlot lists
+  last-stays = ap (λ n. getD new (n - 1) 0) (E .long) ∙ E .behind (length lists - 1) (omega arith)
 
   pub plans-beside : PlansIn b slots new
   plans-beside = record {
+    room = M .room;
+    room-low = M .room-low;
     slots-long = M .slots-long;
     lists-long = E .long ∙ M .lists-long;
     last-low = omega (arith, last-stays, M .last-low);
@@ -94,18 +114,22 @@ module _ {b : Book} {slots lists new : List ℕ} (M : PlansIn b slots lists) {sl
 
 -- and comes into use
 module _ {b : Book} {slots lists : List ℕ} (M : PlansIn b slots lists) {S a slot : ℕ} (s : S < b .states) (l : a < 32) (unused : lastSlot lists < slot)
-    (low : slot < 254) (P : PlanIn (planOf b S a) lists slot) where
+    (low : 17 * slot + 18 < length lists) (P : PlanIn (planOf b S a) lists slot) where
   abbrev place : ℕ
   place = 32 * S + a
 
+  abbrev last : ℕ
+  last = length lists - 1
+
   abbrev used : List ℕ
-  used = set lists 4335 slot
+  used = set lists last slot
 
   last-is : lastSlot used ≡ slot
-  last-is = getD-set-same lists 4335 slot 0 (omega (arith, M .lists-long))
+  last-is =
+      ap (λ n. getD used (n - 1) 0) (length-set lists last slot) ∙ getD-set-same lists last slot 0 (omega arith)
 
-  stays : (i : ℕ) → i < 4335 → getD used i 0 ≡ getD lists i 0
-  stays i h = getD-set-other lists 4335 i slot 0 (λ e. absurd (omega arith))
+  stays : (i : ℕ) → i < last → getD used i 0 ≡ getD lists i 0
+  stays i h = getD-set-other lists last i slot 0 (λ e. absurd (omega arith))
 
   note-stays : {lines : List ℕ} {k : ℕ} → length lines ≤ MAX-INHERITED → k ≤ slot → PlanIn lines lists k → PlanNoted lines used k
   note-stays {k = k} few h Q = record { in-use = omega (arith, last-is); plan-in = plan-stays k few (λ i j. stays i (omega arith)) Q }
@@ -115,9 +139,11 @@ module _ {b : Book} {slots lists : List ℕ} (M : PlansIn b slots lists) {S a sl
 
   pub plans-noted : PlansIn b (set slots place (slot + 1)) used
   plans-noted = record {
+    room = M .room;
+    room-low = M .room-low;
     slots-long = omega (arith, length-set slots place (slot + 1), M .slots-long);
-    lists-long = length-set lists 4335 slot ∙ M .lists-long;
-    last-low = omega (arith, last-is);
+    lists-long = length-set lists last slot ∙ M .lists-long;
+    last-low = omega (arith, last-is, M .lists-long);
     first-none = stays 0 (omega arith) ∙ M .first-none;
     noted = λ S′ a′ k s′ l′ e. by S′ a′ k s′ l′ e (ℕ-discrete (32 * S′ + a′) place);
   }
@@ -154,6 +180,8 @@ none-more S {a} {old} {new} there N = record {
 pub plans-nothing : {b : Book} {slots new lists : List ℕ} → PlansIn b slots lists → (S : ℕ) → ((a : ℕ) → a < 32 → planOf b S a ≡ [])
     → NoLines S 32 slots new → PlansIn b new lists
 plans-nothing {b} {slots} {new} {lists} M S empty N = record {
+  room = M .room;
+  room-low = M .room-low;
   slots-long = omega (arith, N .long, M .slots-long);
   lists-long = M .lists-long;
   last-low = M .last-low;

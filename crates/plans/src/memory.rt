@@ -17,12 +17,6 @@ use super::planning::plan;
 use attributes::masks::masks;
 use attributes::skips::skip;
 
-// The slot that is never in use, for a plan that finds no other.
-const SPARE: usize = 254;
-
-// The byte behind the slots: the number of the last one in use.
-const LAST: usize = 4335;
-
 // The plans of all partial states of a state are known, and have no lines.
 fn plan_nothing(slots: &mut [u8], state: usize)
     requires { ⌜ (state < 128) × (32 * state + 32 ≤ length (now slots)) ⌝ }
@@ -78,7 +72,7 @@ fn plan_into(
 )
     requires { ⌜ ((b : Book) × (places : List ℕ) × PlansHeld b (now rules) count (now definitions) lines (now owned) (now kernels) (now starts)
         (now closures) (now nulls) (now reaches) places × (state < b .states)) × (terminal < 32) × (slot < 255)
-        × (length (now sets) ≡ 576) × (length (now lists) ≡ 4336) ⌝ }
+        × (length (now sets) ≡ 576) × (17 * slot + 17 ≤ length (now lists)) ⌝ }
     ensures { λ _. ⌜ ((b : Book) (places : List ℕ) → PlansHeld b (now (rules .entry)) count (now (definitions .entry)) lines (now (owned .entry))
         (now (kernels .entry)) (now (starts .entry)) (now (closures .entry)) (now (nulls .entry)) (now (reaches .entry)) places → state < b .states
         → PlanIn (planOf b state terminal) (now (lists .exit)) slot)
@@ -139,7 +133,8 @@ fn plan_next(
         → PlansIn b (now (slots .entry)) (now (lists .entry)) → PlanTold b (now (slots .exit)) (now (lists .exit)) state terminal r) ⌝ }
 {
     let place = 32 * state + terminal as usize;
-    let slot = lists[LAST] as usize + 1;
+    let last = lists.len() - 1;
+    let slot = lists[last] as usize + 1;
     plan_into(
         rules,
         count,
@@ -157,11 +152,11 @@ fn plan_next(
         sets,
         lists,
     );
-    if slot == SPARE {
+    if 17 * slot + 17 == last {
         return slot;
     }
     slots[place] = slot as u8 + 1;
-    lists[LAST] = slot as u8;
+    lists[last] = slot as u8;
     slot
 }
 

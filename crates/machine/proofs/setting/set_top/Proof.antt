@@ -14,9 +14,12 @@ start c = c .before .before .before .before .before .before .before .before .bef
 abbrev planned-at : tie.After-slice-known7 → tie.After-planned
 planned-at c = c .before .before .before .before .before .before
 
--- there are 255 slots
+-- there are at most 255 slots
 slot-low : (q : tie.After-planned) → q .planned .result < 255
-slot-low q = let (b, states, starts, st, A, l, H, M) = start (q .before) .pre .1 in q .planned .ensures b H l M .slot-low
+slot-low q =
+    let (b, states, starts, st, A, l, H, M) = start (q .before) .pre .1 in
+    let T = q .planned .ensures b H l M in
+    omega (arith, T .slot-low, T .plans-in .lists-long, T .plans-in .room-low)
 
 planned-requires : tie.Need-planned-requires
 planned-requires c κs = let p = start c .pre in ((p .1 .0, p .1 .6, p .1 .5, p .1 .7), p .0 .1, p .0 .2)
@@ -29,7 +32,7 @@ slice-read-n c =
     let q = planned-at (c .before) in
     let (b, states, starts, st, A, l, H, M) = start (q .before) .pre .1 in
     let T = q .planned .ensures b H l M in
-    omega (arith, T .slot-low, T .plans-in .lists-long)
+    omega (arith, T .slot-low)
 
 cast-n : tie.Need-cast-n
 cast-n c = omega (arith, c .slice-known8 .given (17 * planned-at (c .before) .planned .result) .fits)
@@ -47,7 +50,7 @@ set-cell-requires c κs =
     let (room, kind, sets) = s .pre .0 in
     let (b, states, starts, st, A, l, H, M) = s .pre .1 in
     let T = q .planned .ensures b H l M in (
-      (room, omega (arith, T .slot-low, T .plans-in .lists-long, top-short A (s .args .kind) (T .plan-in))),
+      (room, omega (arith, T .slot-low, top-short A (s .args .kind) (T .plan-in))),
       (b, _, top-asked A (s .args .kind) (T .plan-in)),
     )
 

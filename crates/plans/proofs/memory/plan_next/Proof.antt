@@ -1,7 +1,9 @@
 -- `memory::plan_next` meets its contract: the plan is worked out into a slot that is not in use.
 -- Assumes nothing.
+use Prim.Native.Nat.{_≤_}
 use native.Mathlib.Omega.{arith}
 use mathlib.Core.Path.{refl}
+use lib.ListN.{length}
 use borrow.Author.Needs.{needs}
 use Rattle.plans.specs.MemoryLaws.{told-spare, told-new}
 use Rattle.plans.proofs.memory.plan_next.Statement.{statement}
@@ -24,8 +26,15 @@ mul-place c = search needs
 add-place : tie.Need-add-place
 add-place c = search needs
 
+-- there are lists
+some-lists : (s : tie.Start) → 1 ≤ length (s .args .lists .now)
+some-lists s = omega (arith, s .pre .0 .4 .lists-long)
+
+sub-last : tie.Need-sub-last
+sub-last c = omega (arith, some-lists (c .before .before .before .before .before .before .before .before .before .before .before))
+
 slice-read-slot : tie.Need-slice-read-slot
-slice-read-slot c = search needs
+slice-read-slot c = omega (arith, some-lists (entry c))
 
 cast-slot : tie.Need-cast-slot
 cast-slot c = search needs
@@ -37,7 +46,13 @@ plan-into-requires : tie.Need-plan-into-requires
 plan-into-requires c κs =
     let s = entry (c .before .before) in
     let (b, places, H, l, M) = s .pre .0 in
-    ((b, places, H, l), s .pre .1, omega (arith, M .last-low), s .pre .2, M .lists-long)
+    ((b, places, H, l), s .pre .1, omega (arith, M .room-low, M .last-low), s .pre .2, omega (arith, M .last-low, M .lists-long))
+
+mul-if1 : tie.Need-mul-if1
+mul-if1 c = search needs
+
+add-if1 : tie.Need-add-if1
+add-if1 c = search needs
 
 same-length : tie.Need-same-length
 same-length c = search needs
@@ -85,10 +100,13 @@ plan-next-spec =
     (tie.spec
     mul-place
     add-place
+    sub-last
     slice-read-slot
     cast-slot
     add-slot
     plan-into-requires
+    mul-if1
+    add-if1
     same-length
     same-length-2
     returns

@@ -1,10 +1,13 @@
 -- A message under a book whose text is read into arrays that may have no room for it (01, "Turned-back input"): what was read, and what is answered.
 -- Assumes nothing.
-use Prim.Native.Nat.{ℕ}
+use Prim.Native.Nat.{ℕ, _<_, _≤_}
+use native.Mathlib.Omega.{arith}
+use native.Mathlib.Decide.{decLt}
 use mathlib.Core.Path.{_≡_, refl, sym, _∙_}
 use mathlib.Core.Bool.{Bool, true, false, false≢true}
 use mathlib.Core.List.{List}
 use lib.ListN.{take}
+use Rattle.grammar.specs.Limits.{MAX-STATES}
 use Rattle.grammar.specs.Data.Book.{Book as Lines}
 use Rattle.grammar.specs.Evaluator.Machine.{evaluate}
 use Rattle.grammar.specs.Engine.{tablesOf, evaluateWords}
@@ -40,6 +43,19 @@ module _ {room : Room} {n : ℕ} {text : List ℕ} {complete : Bool} {r : ℕ} {
   pub book-taken : (b : Lines)
       × TakenBook numbers inherited synthesized rules definitions kernels goes vanishes begins reached starts closures table actions b
   book-taken = let (b, q, t) = found-book (R .found) refl whole (R .compiles) taken in (b, t)
+
+  -- and has no more states than the room
+  pub states-within : numbers .states ≤ room .states
+  states-within =
+      let (b, t) = book-taken in
+      let few = t .ready .conditions-met .limits .states-limit .high in
+      let same = counted b (t .ready .numbers-are) .states-are in
+      go (decLt (room .states) MAX-STATES) (R .compiles .fits whole taken .states-fit) (omega (arith, few, same))
+    where
+      go : Dec (room .states < MAX-STATES) → (room .states < MAX-STATES → numbers .states ≤ room .states) → numbers .states ≤ MAX-STATES
+          → numbers .states ≤ room .states
+      go (yes less) fits few = fits less
+      go (no more) fits few = omega arith
 
 module _ {room : Room} {n : ℕ} {text : List ℕ} {complete : Bool} {r : ℕ} {numbers : Book} {inherited synthesized rules definitions kernels goes : List ℕ}
     {vanishes begins reached starts closures table actions : List ℕ}

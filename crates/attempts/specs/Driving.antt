@@ -1,10 +1,10 @@
 -- A stored book that is taken, and a message, as the machine asks for them. Assumes nothing.
 use Prim.Native.Nat.{ℕ, _+_, _*_, _≤_}
 use mathlib.Core.Path.{_≡_, ap, _∙_}
-use mathlib.Core.List.{List}
+use mathlib.Core.List.{List, _++_}
 use mathlib.Core.Option.{some}
 use native.Mathlib.Omega.{arith}
-use lib.ListN.{length, replicate, getD-replicate}
+use lib.ListN.{length, drop, replicate}
 use Rattle.grammar.specs.Limits.{PAGE-WORDS, MAX-STACK}
 use Rattle.grammar.specs.Data.Book.{Book as Lines}
 use Rattle.grammar.specs.Formulas.FormulaCheck as grammar
@@ -15,8 +15,8 @@ use Rattle.conditions.specs.AskedLaws.{counted}
 use Rattle.attributes.specs.Checking.{CheckHeld}
 use Rattle.agreement.specs.OneFormula.{held-check}
 use Rattle.plans.specs.Idle.{PlacesIn}
-use Rattle.plans.specs.Plans.{PlansIn}
-use Rattle.plans.specs.PlansLaws.{plans-none, none-listed}
+use Rattle.plans.specs.Plans.{PlansIn, NoneNoted, NoneListed}
+use Rattle.plans.specs.PlansLaws.{plans-none, none-noted}
 use Rattle.machine.specs.Moving.{Rooms, Driven}
 use Rattle.machine.specs.Running.{RunIn}
 use Rattle.stack.specs.Standing.{Message as Tokens}
@@ -64,17 +64,21 @@ module _ {numbers : Book} {inherited synthesized rules definitions kernels goes 
   pub tokens-of : {tokens : List ℕ} (m : Message (numbers .terminals) tokens) → Tokens b (m .list)
   tokens-of m = record { tokens = message-tokens b m (counted b (h .ready .numbers-are) .terminals-are); few = m .few }
 
-  -- no plan is worked out yet
-  pub plans-of : PlansIn b (replicate 4096 0) (replicate 4336 0)
-  plans-of =
-      let few = h .ready .conditions-met .limits .states-limit .high in
-      plans-none b (record { long = omega (arith, zeros 4096); none = λ i l. getD-replicate 4096 i 0 0 (omega arith) })
-      (none-listed 255 (omega arith) (omega arith))
+  -- no plan is worked out where the slots are cleared
+  pub plans-of : (old : List ℕ) {slots lists : List ℕ} → 32 * numbers .states ≤ length old
+      → slots ≡ replicate (32 * numbers .states) 0 ++ drop (32 * numbers .states) old → NoneListed lists → PlansIn b slots lists
+  plans-of old long e =
+      let noted : NoneNoted (b .states) _ = rw (counted b (h .ready .numbers-are) .states-are) at (none-noted (numbers .states) old long e) in
+      plans-none b noted
+
+  -- FIRST of the rests of rules has room for the sets of a state's items
+  pub sets-room : length begins ≡ 576
+  sets-room = h .ready .tables-in .items-filled .rests-in .suffixes-in .firsts-long
 
 -- the stacks as they are before the first move, with room for n symbols
-pub run-room : (n : ℕ) → n ≤ MAX-STACK → {rows : List ℕ} → rows ≡ replicate PAGE-WORDS 0
-    → Rooms (replicate (n + 1) 0) (replicate (16 * n + 16) 0) (replicate (33 * n) 0) (replicate n 0) rows (replicate 576 0)
-run-room n low e = record {
+pub run-room : (n : ℕ) → n ≤ MAX-STACK → {rows sets : List ℕ} → rows ≡ replicate PAGE-WORDS 0 → length sets ≡ 576
+    → Rooms (replicate (n + 1) 0) (replicate (16 * n + 16) 0) (replicate (33 * n) 0) (replicate n 0) rows sets
+run-room n low e long = record {
   stacks = record {
     starts-low = omega (arith, zeros n);
     states-long = omega (arith, zeros n, zeros (n + 1));
@@ -82,5 +86,5 @@ run-room n low e = record {
     rows-long = ap length e ∙ zeros PAGE-WORDS;
   };
   cells-long = omega (arith, zeros n, zeros (16 * n + 16));
-  sets-long = zeros 576;
+  sets-long = long;
 }

@@ -48,7 +48,7 @@ pub struct Answer {
 }
 
 // What is answered of a text that was read into arrays: `complete` where they have room for it, and then the number; where that is 0, the rows and their
-// count are in place.
+// count are in place. `slots` may hold anything.
 fn respond(
     compiled: Compiled,
     inherited: &[u32],
@@ -58,19 +58,20 @@ fn respond(
     kernels: &[u32],
     goes: &[u32],
     vanishes: &[u32],
-    begins: &[u32],
+    begins: &mut [u32],
     reached: &[u32],
     starts: &[u32],
     lookaheads: &[u32],
     table: &[u8],
     actions: &[u8],
     tokens: &[u32],
+    slots: &mut [u8],
     rows: &mut [u32],
     count: &mut u32,
 ) -> Answer
     requires { ⌜ ((room : Room) × (n : ℕ) × (text : List ℕ) × Read room n text (compiled .complete) (compiled .refusal) (compiled .book) (now inherited)
         (now synthesized) (now rules) (now definitions) (now kernels) (now goes) (now vanishes) (now begins) (now reached) (now starts) (now lookaheads)
-        (now table) (now actions)) ⌝ }
+        (now table) (now actions) × (32 * room .states ≤ length (now slots))) ⌝ }
     ensures { λ r. ⌜ ((room : Room) (n : ℕ) (text : List ℕ) → Read room n text (compiled .complete) (compiled .refusal) (compiled .book)
         (now (inherited .entry)) (now (synthesized .entry)) (now (rules .entry)) (now (definitions .entry)) (now (kernels .entry)) (now (goes .entry))
         (now (vanishes .entry)) (now (begins .entry)) (now (reached .entry)) (now (starts .entry)) (now (lookaheads .entry)) (now (table .entry))
@@ -107,13 +108,14 @@ fn respond(
         kernels,
         goes,
         vanishes,
-        begins,
         reached,
         starts,
         lookaheads,
         table,
         actions,
         tokens,
+        begins,
+        slots,
         rows,
     );
     *count = outcome.count;
@@ -123,9 +125,10 @@ fn respond(
     }
 }
 
-// The answer to a message under a book whose text is the first `n` bytes of `text`, by arrays of the caller.
+// The answer to a message under a book whose text is the first `n` bytes of `text`, by arrays of the caller. Neither the text nor
+// `begins` is read once the book is compiled: the bytes of the one then serve as slots, the words of the other as sets.
 pub fn attempt(
-    text: &[u8],
+    text: &mut [u8],
     n: usize,
     room: Room,
     rules: &mut [u32],
@@ -140,6 +143,7 @@ pub fn attempt(
     count: &mut u32,
 ) -> Answer
     requires { ⌜ ((words : List ℕ) × Found words (now text) true n) × (n ≤ 5 * length (now actions) + 3) × (32 * room .states ≤ length (now actions))
+        × (32 * room .states ≤ length (now text))
         × ArraysLent room (now rules) (now definitions) (now kernels) (now goes) (now lookaheads) (now table) ⌝ }
     ensures { λ r. ⌜ Attempts room (now (text .entry)) n (now (tokens .entry)) (length (now (rows .entry))) (r .complete) (r .number) (now (rows .exit))
         (now (count .exit)) ⌝ }
@@ -178,13 +182,14 @@ pub fn attempt(
         kernels,
         goes,
         &vanishes,
-        &begins,
+        &mut begins,
         &reached,
         &starts,
         lookaheads,
         table,
         actions,
         tokens,
+        text,
         rows,
         count,
     )

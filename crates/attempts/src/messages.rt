@@ -1,18 +1,22 @@
 // The machine's run over a message under a book that is taken, by stacks of two sizes: short messages need few symbols, and long arrays cost time to clear.
 ghost use mathlib.Core.Path.{_≡_};
 ghost use mathlib.Core.Logic.{_≢_};
+ghost use mathlib.Core.List.{List};
+ghost use Prim.Native.Nat.{ℕ, _*_, _≤_};
 ghost use lib.ListN.{length, replicate};
 ghost use Rattle.grammar.specs.Limits.{PAGE-WORDS};
 ghost use Rattle.grammar.specs.Data.Book.{Book as Lines};
 ghost use Rattle.grammar.specs.Evaluator.Machine.{evaluate};
 ghost use Rattle.grammar.specs.Engine.{tablesOf};
 ghost use Rattle.conditions.specs.Answers.{Some};
+ghost use Rattle.plans.specs.Plans.{NoneListed};
 ghost use Rattle.machine.specs.Moving.{Rooms, Final};
 ghost use Rattle.machine.specs.RunningLaws.{Answered};
 ghost use Rattle.attempts.specs.Stored.{TakenBook};
 ghost use Rattle.attempts.specs.Evaluations.{Message};
 use super::sides::fill_sides;
 use book::Book;
+use items::words::fill;
 use machine::run::Outcome;
 use machine::run::run;
 use packing::packing::clear;
@@ -24,13 +28,19 @@ const SHORT_STACK: usize = 32;
 
 const FULL_STACK: usize = 128;
 
+// Slots for plans of a short message and of any other. Each has 17 bytes; behind them stands the number of the last one in use.
+const SHORT_PLANS: usize = 64;
+
+const FULL_PLANS: usize = 255;
+
 // Numbers of the most tokens of a short message.
 const SHORT_WORDS: usize = 48;
 
 // The answer where the symbols have no room.
 const NO_ROOM: u32 = 17;
 
-// The run by stacks of the caller, whose symbols are as many as their bounds. Nothing is said of a 17 for want of room in stacks that are not full.
+// The run by stacks of the caller, whose symbols are as many as their bounds, and by its lists of plans. `sets` and `slots` may hold anything. Nothing is said
+// of a 17 for want of room in stacks that are not full.
 fn message_on(
     book: Book,
     inherited: &[u32],
@@ -40,25 +50,27 @@ fn message_on(
     kernels: &[u32],
     goes: &[u32],
     vanishes: &[u32],
-    begins: &[u32],
     reached: &[u32],
     starts: &[u32],
     lookaheads: &[u32],
     table: &[u8],
     actions: &[u8],
     tokens: &[u32],
+    sets: &mut [u32],
+    slots: &mut [u8],
     rows: &mut [u32],
+    lists: &mut [u8],
     states: &mut [u32],
     cells: &mut [u32],
     records: &mut [u32],
     bounds: &mut [u32],
 ) -> Outcome
-    requires { ⌜ Some (TakenBook book (now inherited) (now synthesized) (now rules) (now definitions) (now kernels) (now goes) (now vanishes) (now begins)
-        (now reached) (now starts) (now lookaheads) (now table) (now actions)) ⌝ }
+    requires { ⌜ ((begins : List ℕ) × Some (TakenBook book (now inherited) (now synthesized) (now rules) (now definitions) (now kernels) (now goes)
+        (now vanishes) begins (now reached) (now starts) (now lookaheads) (now table) (now actions))) ⌝ }
     requires { ⌜ Message (book .terminals) (now tokens) × (now rows ≡ replicate PAGE-WORDS 0)
-        × Rooms (now states) (now cells) (now records) (now bounds) (now rows) (replicate 576 0) ⌝ }
-    ensures { λ r. ⌜ ((b : Lines) → TakenBook book (now (inherited .entry)) (now (synthesized .entry)) (now (rules .entry)) (now (definitions .entry))
-        (now (kernels .entry)) (now (goes .entry)) (now (vanishes .entry)) (now (begins .entry)) (now (reached .entry)) (now (starts .entry))
+        × Rooms (now states) (now cells) (now records) (now bounds) (now rows) (now sets) × (32 * book .states ≤ length (now slots)) × NoneListed (now lists) ⌝ }
+    ensures { λ r. ⌜ ((begins : List ℕ) (b : Lines) → TakenBook book (now (inherited .entry)) (now (synthesized .entry)) (now (rules .entry))
+        (now (definitions .entry)) (now (kernels .entry)) (now (goes .entry)) (now (vanishes .entry)) begins (now (reached .entry)) (now (starts .entry))
         (now (lookaheads .entry)) (now (table .entry)) (now (actions .entry)) b
         → (m : Message (book .terminals) (now (tokens .entry)))
         → Final (length (now (bounds .entry))) (r .number) → Answered (evaluate b (tablesOf b) (m .list)) r (now (rows .exit))) ⌝ }
@@ -84,9 +96,7 @@ fn message_on(
         rules,
         &mut places,
     );
-    let mut sets = [0u32; 576];
-    let mut slots = [0u8; 4096];
-    let mut lists = [0u8; 4336];
+    fill(slots, 32 * book.states as usize, 0);
     run(
         rules,
         book.rules,
@@ -105,9 +115,9 @@ fn message_on(
         table,
         actions,
         tokens,
-        &mut sets,
-        &mut slots,
-        &mut lists,
+        sets,
+        slots,
+        lists,
         states,
         cells,
         records,
@@ -126,24 +136,27 @@ fn message_short(
     kernels: &[u32],
     goes: &[u32],
     vanishes: &[u32],
-    begins: &[u32],
     reached: &[u32],
     starts: &[u32],
     lookaheads: &[u32],
     table: &[u8],
     actions: &[u8],
     tokens: &[u32],
+    sets: &mut [u32],
+    slots: &mut [u8],
     rows: &mut [u32],
 ) -> Outcome
-    requires { ⌜ Some (TakenBook book (now inherited) (now synthesized) (now rules) (now definitions) (now kernels) (now goes) (now vanishes) (now begins)
-        (now reached) (now starts) (now lookaheads) (now table) (now actions)) ⌝ }
-    requires { ⌜ Message (book .terminals) (now tokens) × (now rows ≡ replicate PAGE-WORDS 0) ⌝ }
-    ensures { λ r. ⌜ ((b : Lines) → TakenBook book (now (inherited .entry)) (now (synthesized .entry)) (now (rules .entry)) (now (definitions .entry))
-        (now (kernels .entry)) (now (goes .entry)) (now (vanishes .entry)) (now (begins .entry)) (now (reached .entry)) (now (starts .entry))
+    requires { ⌜ ((begins : List ℕ) × Some (TakenBook book (now inherited) (now synthesized) (now rules) (now definitions) (now kernels) (now goes)
+        (now vanishes) begins (now reached) (now starts) (now lookaheads) (now table) (now actions))) ⌝ }
+    requires { ⌜ Message (book .terminals) (now tokens) × (now rows ≡ replicate PAGE-WORDS 0) × (length (now sets) ≡ 576)
+        × (32 * book .states ≤ length (now slots)) ⌝ }
+    ensures { λ r. ⌜ ((begins : List ℕ) (b : Lines) → TakenBook book (now (inherited .entry)) (now (synthesized .entry)) (now (rules .entry))
+        (now (definitions .entry)) (now (kernels .entry)) (now (goes .entry)) (now (vanishes .entry)) begins (now (reached .entry)) (now (starts .entry))
         (now (lookaheads .entry)) (now (table .entry)) (now (actions .entry)) b
         → (m : Message (book .terminals) (now (tokens .entry)))
         → r .number ≢ 17 → Answered (evaluate b (tablesOf b) (m .list)) r (now (rows .exit))) ⌝ }
 {
+    let mut lists = [0u8; 17 * SHORT_PLANS + 1];
     let mut states = [0u32; SHORT_STACK + 1];
     let mut cells = [0u32; 16 * SHORT_STACK + 16];
     let mut records = [0u32; 33 * SHORT_STACK];
@@ -157,14 +170,16 @@ fn message_short(
         kernels,
         goes,
         vanishes,
-        begins,
         reached,
         starts,
         lookaheads,
         table,
         actions,
         tokens,
+        sets,
+        slots,
         rows,
+        &mut lists,
         &mut states,
         &mut cells,
         &mut records,
@@ -182,24 +197,27 @@ fn message_full(
     kernels: &[u32],
     goes: &[u32],
     vanishes: &[u32],
-    begins: &[u32],
     reached: &[u32],
     starts: &[u32],
     lookaheads: &[u32],
     table: &[u8],
     actions: &[u8],
     tokens: &[u32],
+    sets: &mut [u32],
+    slots: &mut [u8],
     rows: &mut [u32],
 ) -> Outcome
-    requires { ⌜ Some (TakenBook book (now inherited) (now synthesized) (now rules) (now definitions) (now kernels) (now goes) (now vanishes) (now begins)
-        (now reached) (now starts) (now lookaheads) (now table) (now actions)) ⌝ }
-    requires { ⌜ Message (book .terminals) (now tokens) × (now rows ≡ replicate PAGE-WORDS 0) ⌝ }
-    ensures { λ r. ⌜ ((b : Lines) → TakenBook book (now (inherited .entry)) (now (synthesized .entry)) (now (rules .entry)) (now (definitions .entry))
-        (now (kernels .entry)) (now (goes .entry)) (now (vanishes .entry)) (now (begins .entry)) (now (reached .entry)) (now (starts .entry))
+    requires { ⌜ ((begins : List ℕ) × Some (TakenBook book (now inherited) (now synthesized) (now rules) (now definitions) (now kernels) (now goes)
+        (now vanishes) begins (now reached) (now starts) (now lookaheads) (now table) (now actions))) ⌝ }
+    requires { ⌜ Message (book .terminals) (now tokens) × (now rows ≡ replicate PAGE-WORDS 0) × (length (now sets) ≡ 576)
+        × (32 * book .states ≤ length (now slots)) ⌝ }
+    ensures { λ r. ⌜ ((begins : List ℕ) (b : Lines) → TakenBook book (now (inherited .entry)) (now (synthesized .entry)) (now (rules .entry))
+        (now (definitions .entry)) (now (kernels .entry)) (now (goes .entry)) (now (vanishes .entry)) begins (now (reached .entry)) (now (starts .entry))
         (now (lookaheads .entry)) (now (table .entry)) (now (actions .entry)) b
         → (m : Message (book .terminals) (now (tokens .entry)))
         → Answered (evaluate b (tablesOf b) (m .list)) r (now (rows .exit))) ⌝ }
 {
+    let mut lists = [0u8; 17 * FULL_PLANS + 1];
     let mut states = [0u32; FULL_STACK + 1];
     let mut cells = [0u32; 16 * FULL_STACK + 16];
     let mut records = [0u32; 33 * FULL_STACK];
@@ -213,14 +231,16 @@ fn message_full(
         kernels,
         goes,
         vanishes,
-        begins,
         reached,
         starts,
         lookaheads,
         table,
         actions,
         tokens,
+        sets,
+        slots,
         rows,
+        &mut lists,
         &mut states,
         &mut cells,
         &mut records,
@@ -238,20 +258,22 @@ pub fn message(
     kernels: &[u32],
     goes: &[u32],
     vanishes: &[u32],
-    begins: &[u32],
     reached: &[u32],
     starts: &[u32],
     lookaheads: &[u32],
     table: &[u8],
     actions: &[u8],
     tokens: &[u32],
+    sets: &mut [u32],
+    slots: &mut [u8],
     rows: &mut [u32],
 ) -> Outcome
-    requires { ⌜ Some (TakenBook book (now inherited) (now synthesized) (now rules) (now definitions) (now kernels) (now goes) (now vanishes) (now begins)
-        (now reached) (now starts) (now lookaheads) (now table) (now actions)) ⌝ }
-    requires { ⌜ Message (book .terminals) (now tokens) × (now rows ≡ replicate PAGE-WORDS 0) ⌝ }
-    ensures { λ r. ⌜ ((b : Lines) → TakenBook book (now (inherited .entry)) (now (synthesized .entry)) (now (rules .entry)) (now (definitions .entry))
-        (now (kernels .entry)) (now (goes .entry)) (now (vanishes .entry)) (now (begins .entry)) (now (reached .entry)) (now (starts .entry))
+    requires { ⌜ ((begins : List ℕ) × Some (TakenBook book (now inherited) (now synthesized) (now rules) (now definitions) (now kernels) (now goes)
+        (now vanishes) begins (now reached) (now starts) (now lookaheads) (now table) (now actions))) ⌝ }
+    requires { ⌜ Message (book .terminals) (now tokens) × (now rows ≡ replicate PAGE-WORDS 0) × (length (now sets) ≡ 576)
+        × (32 * book .states ≤ length (now slots)) ⌝ }
+    ensures { λ r. ⌜ ((begins : List ℕ) (b : Lines) → TakenBook book (now (inherited .entry)) (now (synthesized .entry)) (now (rules .entry))
+        (now (definitions .entry)) (now (kernels .entry)) (now (goes .entry)) (now (vanishes .entry)) begins (now (reached .entry)) (now (starts .entry))
         (now (lookaheads .entry)) (now (table .entry)) (now (actions .entry)) b
         → (m : Message (book .terminals) (now (tokens .entry)))
         → Answered (evaluate b (tablesOf b) (m .list)) r (now (rows .exit))) ⌝ }
@@ -266,13 +288,14 @@ pub fn message(
             kernels,
             goes,
             vanishes,
-            begins,
             reached,
             starts,
             lookaheads,
             table,
             actions,
             tokens,
+            sets,
+            slots,
             rows,
         );
     }
@@ -285,13 +308,14 @@ pub fn message(
         kernels,
         goes,
         vanishes,
-        begins,
         reached,
         starts,
         lookaheads,
         table,
         actions,
         tokens,
+        sets,
+        slots,
         rows,
     );
     if outcome.number != NO_ROOM {
@@ -307,13 +331,14 @@ pub fn message(
         kernels,
         goes,
         vanishes,
-        begins,
         reached,
         starts,
         lookaheads,
         table,
         actions,
         tokens,
+        sets,
+        slots,
         rows,
     )
 }

@@ -45,7 +45,7 @@ fn tiny(words: &[u32], tokens: &[u32], rows: &mut [u32], count: &mut u32) -> Ans
     let mut table = [0u8; 512];
     let mut actions = [0u8; 256];
     attempt(
-        &text,
+        &mut text,
         found.count,
         tiny_room(),
         &mut rules,
@@ -83,7 +83,7 @@ fn short(words: &[u32], tokens: &[u32], rows: &mut [u32], count: &mut u32) -> An
     let mut table = [0u8; 2048];
     let mut actions = [0u8; 1024];
     attempt(
-        &text,
+        &mut text,
         found.count,
         short_room(),
         &mut rules,
@@ -111,7 +111,7 @@ fn any_book(
 ) -> u32
     requires { ⌜ (length (now words) ≡ BOOK-WORDS) × (front ≤ BOOK-WORDS) × (unpack (take front (now words)) ≡ unpack (now words))
         × (4 * front ≤ length (now text)) × (length (now text) ≤ MAX-TEXT) × (length (now text) ≤ 5 * length (now actions) + 3)
-        × (4096 ≤ length (now actions)) ⌝ }
+        × (4096 ≤ length (now actions)) × (4096 ≤ length (now text)) ⌝ }
     ensures { λ r. ⌜ Answers (evaluateWords (now (words .entry)) (now (tokens .entry)) (length (now (rows .entry)))) (length (now (rows .entry))) r
         (now (rows .exit)) (now (count .exit)) ⌝ }
 {

@@ -14,20 +14,23 @@ start c =
     c .before .before .before .before .before .before .before .before .before .before .before .before .before .before .before
     .before .before .before .before .before .before .before .before .before .before .before .before
 
-abbrev compiled-at : tie.After-respond-arg9 → tie.After-compile
+abbrev compiled-at : tie.After-respond-arg10 → tie.After-compile
 compiled-at c =
-    c .before .before .before .before .before .before .before .before .before .before .before .before .before .before .before
-    .before .before .before .before .before .before .before .before .before .before .before .before .before .before .before
-    .before .before .before .before .before
+    c .before .before .before .before .before .before .before .before .before .before .before .before
+    .before .before .before .before .before .before .before .before .before .before .before .before
+    .before .before .before .before .before .before .before .before .before .before .before .before
 
-abbrev responded-at : tie.After-slice-known16 → tie.After-respond
-responded-at c = c .before .before
+abbrev responded-at : tie.After-slice-known18 → tie.After-respond
+responded-at c = c .before .before .before .before .before
 
-abbrev compile-at : tie.After-slice-known16 → tie.After-compile
+abbrev compile-at : tie.After-slice-known18 → tie.After-compile
 compile-at c = compiled-at (responded-at c .before)
 
 classes-requires : tie.Need-classes-requires
 classes-requires c κs = search needs
+
+slice-reshare-prefix-compile : tie.Need-slice-reshare-prefix-compile
+slice-reshare-prefix-compile c = search needs
 
 slice-aggregate-compile : tie.Need-slice-aggregate-compile
 slice-aggregate-compile c = let s = c .before .before .before .before .before .before .before .before .before .before .before .before .before in
@@ -62,9 +65,9 @@ compile-requires c κs = let s = c .before .before .before .before .before .befo
           short = omega (arith, cut, s .pre .0 .1 .within);
         },
         omega (arith, cut, s .pre .1),
-        lines-room (s .pre .3),
+        lines-room (s .pre .4),
       ),
-      tables-lent (s .pre .3) (s .pre .2),
+      tables-lent (s .pre .4) (s .pre .2),
     )
 
 slice-aggregate-respond : tie.Need-slice-aggregate-respond
@@ -96,31 +99,35 @@ respond-requires c κs = let k = compiled-at c in
         found = s .pre .0 .1;
         compiles = k .compile .ensures;
       },
+      s .pre .3,
     )
 
 same-length : tie.Need-same-length
-same-length c = compile-at c .compile .kept .1 .1 .1 .1 .1 .0
+same-length c = responded-at c .respond .kept .1 .1 .1 .1 .1 .1 .1 .1 .1 .1 .1 .1 .1 .1 .1 .0
 
 same-length-2 : tie.Need-same-length-2
-same-length-2 c = compile-at c .compile .kept .1 .1 .1 .1 .1 .1 .0
+same-length-2 c = compile-at c .compile .kept .1 .1 .1 .1 .1 .0
 
 same-length-3 : tie.Need-same-length-3
-same-length-3 c = compile-at c .compile .kept .1 .1 .1 .1 .1 .1 .1 .0
+same-length-3 c = compile-at c .compile .kept .1 .1 .1 .1 .1 .1 .0
 
 same-length-4 : tie.Need-same-length-4
-same-length-4 c = compile-at c .compile .kept .1 .1 .1 .1 .1 .1 .1 .1 .0
+same-length-4 c = compile-at c .compile .kept .1 .1 .1 .1 .1 .1 .1 .0
 
 same-length-5 : tie.Need-same-length-5
-same-length-5 c = compile-at c .compile .kept .1 .1 .1 .1 .1 .1 .1 .1 .1 .1 .1 .1 .1 .0
+same-length-5 c = compile-at c .compile .kept .1 .1 .1 .1 .1 .1 .1 .1 .0
 
 same-length-6 : tie.Need-same-length-6
-same-length-6 c = compile-at c .compile .kept .1 .1 .1 .1 .1 .1 .1 .1 .1 .1 .1 .1 .1 .1 .0
+same-length-6 c = compile-at c .compile .kept .1 .1 .1 .1 .1 .1 .1 .1 .1 .1 .1 .1 .1 .0
 
 same-length-7 : tie.Need-same-length-7
-same-length-7 c = compile-at c .compile .kept .1 .1 .1 .1 .1 .1 .1 .1 .1 .1 .1 .1 .1 .1 .1 .0
+same-length-7 c = compile-at c .compile .kept .1 .1 .1 .1 .1 .1 .1 .1 .1 .1 .1 .1 .1 .1 .0
 
 same-length-8 : tie.Need-same-length-8
-same-length-8 c = responded-at c .respond .kept .1 .1 .1 .1 .1 .1 .1 .1 .1 .1 .1 .1 .1 .1 .1 .0
+same-length-8 c = compile-at c .compile .kept .1 .1 .1 .1 .1 .1 .1 .1 .1 .1 .1 .1 .1 .1 .1 .0
+
+same-length-9 : tie.Need-same-length-9
+same-length-9 c = responded-at c .respond .kept .1 .1 .1 .1 .1 .1 .1 .1 .1 .1 .1 .1 .1 .1 .1 .1 .0
 
 returns : tie.Need-returns
 returns c = let k = compile-at c in
@@ -136,6 +143,7 @@ attempt-spec =
     tie.close
     (tie.spec
     classes-requires
+    slice-reshare-prefix-compile
     slice-aggregate-compile
     slice-aggregate-compile-2
     slice-aggregate-compile-3
@@ -159,4 +167,5 @@ attempt-spec =
     same-length-6
     same-length-7
     same-length-8
+    same-length-9
     returns)

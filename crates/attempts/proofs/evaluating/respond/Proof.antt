@@ -1,8 +1,10 @@
 -- `evaluating::respond` meets its contract: the book is asked first, then the message; then the machine runs. Assumes nothing.
 use mathlib.Core.Path.{ap, _∙_}
+use native.Mathlib.Omega.{arith}
 use lib.ListN.{replicate}
 use borrow.Author.Tests.{not-true, not-false}
-use Rattle.attempts.specs.Attempts.{book-taken, attempts-part, attempts-none, attempts-asked, attempts-run}
+use Rattle.attempts.specs.Driving.{sets-room}
+use Rattle.attempts.specs.Attempts.{book-taken, states-within, attempts-part, attempts-none, attempts-asked, attempts-run}
 use borrow.Author.Needs.{needs}
 use Rattle.attempts.proofs.evaluating.respond.Statement.{statement}
 use Rattle.attempts.proofs.evaluating.respond.Tie as tie
@@ -11,8 +13,8 @@ use Rattle.attempts.proofs.evaluating.respond.Tie as tie
 
 abbrev start : tie.Else1 → tie.Start
 start c =
-    c .before .before .before .before .before .before .before .before .before .before
-    .before .before .before .before .before .before .before
+    c .before .before .before .before .before .before .before .before .before .before .before .before
+    .before .before .before .before .before .before
 
 abbrev whole-at : tie.Else2 → tie.Else1
 whole-at c = c .before .before
@@ -23,8 +25,8 @@ taken-at c = c .before .before
 abbrev passed-at : tie.After-clear → tie.Else3
 passed-at c = c .before .before
 
-abbrev clear-at : tie.After-message-arg → tie.After-clear
-clear-at c = c .before .before .before
+abbrev clear-at : tie.After-message-arg3 → tie.After-clear
+clear-at c = c .before .before .before .before .before
 
 returns : tie.Need-returns
 returns c = λ room n text R. attempts-part R (not-true _ (c .if1 .taken))
@@ -51,25 +53,34 @@ message-requires c κs =
     let a = p .before in
     let e = taken-at a in
     let w = whole-at e in
-    let (room, n, text, R) = start w .pre in
-    let whole = not-false _ (w .if1 .left) in (
-      book-taken R whole (e .if2 .left),
+    let (room, n, text, R, long) = start w .pre in
+    let whole = not-false _ (w .if1 .left) in
+    let taken = book-taken R whole (e .if2 .left) in (
+      (_, taken),
       (
         a .asked .ensures .passed (p .if3 .left),
         k .clear .ensures ∙ ap (λ n. replicate n 0) (a .asked .ensures .all-rows (p .if3 .left)),
+        sets-room (taken .1),
+        omega (arith, long, states-within R whole (e .if2 .left)),
       ),
     )
 
 same-length : tie.Need-same-length
 same-length c = search needs
 
+same-length-2 : tie.Need-same-length-2
+same-length-2 c = search needs
+
+same-length-3 : tie.Need-same-length-3
+same-length-3 c = search needs
+
 returns-4 : tie.Need-returns-4
 returns-4 c = λ room n text R.
-    let m = c .before .before in
+    let m = c .before .before .before .before .before .before in
     let p = passed-at (clear-at (m .before)) in
     let a = p .before in
     let e = taken-at a in
-    attempts-run R (not-false _ (whole-at e .if1 .left)) (e .if2 .left) (a .asked .ensures) (p .if3 .left) (m .message .ensures)
+    attempts-run R (not-false _ (whole-at e .if1 .left)) (e .if2 .left) (a .asked .ensures) (p .if3 .left) (m .message .ensures _)
 
 pub respond-spec : {M : Type 1} → statement M
 respond-spec =
@@ -82,4 +93,6 @@ respond-spec =
     clear-requires
     message-requires
     same-length
+    same-length-2
+    same-length-3
     returns-4)

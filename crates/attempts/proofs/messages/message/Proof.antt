@@ -1,5 +1,6 @@
 -- `messages::message` meets its contract: after a short run that has no room the rows are cleared, so that the full one may follow. Assumes nothing.
 use mathlib.Core.Path.{ap, _∙_}
+use native.Mathlib.Omega.{arith}
 use lib.ListN.{length, replicate}
 use borrow.Author.Needs.{needs}
 use Rattle.grammar.specs.Limits.{PAGE-WORDS}
@@ -11,11 +12,11 @@ use Rattle.attempts.proofs.messages.message.Tie as tie
 
 abbrev start : tie.After-message-short → tie.Start
 start c =
-    c .before .before .before .before .before .before .before .before .before
+    c .before .before .before .before .before .before .before .before .before .before .before .before
     .before .before .before .before .before .before .before .before .before
 
 abbrev short-at : tie.After-clear → tie.After-message-short
-short-at c = c .before .before .before .before .before .before
+short-at c = c .before .before .before .before .before .before .before .before .before .before
 
 message-full-requires : tie.Need-message-full-requires
 message-full-requires c κs = search needs
@@ -23,33 +24,59 @@ message-full-requires c κs = search needs
 same-length : tie.Need-same-length
 same-length c = search needs
 
+same-length-2 : tie.Need-same-length-2
+same-length-2 c = search needs
+
+same-length-3 : tie.Need-same-length-3
+same-length-3 c = search needs
+
 returns : tie.Need-returns
 returns c = search needs
 
 message-short-requires : tie.Need-message-short-requires
 message-short-requires c κs = search needs
 
-same-length-2 : tie.Need-same-length-2
-same-length-2 c = search needs
+same-length-4 : tie.Need-same-length-4
+same-length-4 c = search needs
+
+same-length-5 : tie.Need-same-length-5
+same-length-5 c = search needs
+
+same-length-6 : tie.Need-same-length-6
+same-length-6 c = search needs
 
 returns-2 : tie.Need-returns-2
-returns-2 c = λ b t m.
-    let k = c .before .before .before .before in
-    k .message-short .ensures b t m (c .if2 .taken)
+returns-2 c = λ begins b t m.
+    let k = c .before .before .before .before .before .before .before .before in
+    k .message-short .ensures begins b t m (c .if2 .taken)
 
 clear-requires : tie.Need-clear-requires
 clear-requires c κs = search needs
 
 message-full-requires-2 : tie.Need-message-full-requires-2
 message-full-requires-2 c κs =
-    let e = c .before .before .before in
+    let e = c .before .before .before .before .before in
     let k = short-at e in
     let s = start k in
-    let long = k .message-short .kept .1 .1 .1 .1 .1 .1 .1 .1 .1 .1 .1 .1 .1 .1 .1 .0 in
-    (s .pre .0, (s .pre .1 .0, e .clear .ensures ∙ ap (λ n. replicate n 0) (long ∙ ap length (s .pre .1 .1) ∙ zeros PAGE-WORDS)))
+    let (message, rows, sets, slots) = s .pre .1 in
+    let kept = k .message-short .kept .1 .1 .1 .1 .1 .1 .1 .1 .1 .1 .1 .1 .1 .1 in (
+      s .pre .0,
+      (
+        message,
+        e .clear .ensures ∙ ap (λ n. replicate n 0) (kept .1 .1 .0 ∙ ap length rows ∙ zeros PAGE-WORDS),
+        kept .0 ∙ sets,
+        omega (arith, kept .1 .0, slots),
+      ),
+    )
 
-same-length-3 : tie.Need-same-length-3
-same-length-3 c = search needs
+same-length-7 : tie.Need-same-length-7
+same-length-7 c = search needs
+
+same-length-8 : tie.Need-same-length-8
+same-length-8 c = search needs
+
+same-length-9 : tie.Need-same-length-9
+same-length-9 c = search needs
 
 returns-3 : tie.Need-returns-3
 returns-3 c = search needs
@@ -60,11 +87,17 @@ message-spec =
     (tie.spec
     message-full-requires
     same-length
+    same-length-2
+    same-length-3
     returns
     message-short-requires
-    same-length-2
+    same-length-4
+    same-length-5
+    same-length-6
     returns-2
     clear-requires
     message-full-requires-2
-    same-length-3
+    same-length-7
+    same-length-8
+    same-length-9
     returns-3)

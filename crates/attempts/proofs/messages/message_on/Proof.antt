@@ -1,4 +1,4 @@
--- `messages::message_on` meets its contract: the machine is asked with no plans, and the places of the definitions. Assumes nothing.
+-- `messages::message_on` meets its contract: the machine is asked with no plans, in slots that are cleared, and the places of the definitions. Assumes nothing.
 use mathlib.Core.Path.{refl}
 use Rattle.compiler.specs.Compiling.{asked-formulas}
 use Rattle.attempts.specs.Sides.{asked-sides}
@@ -12,13 +12,17 @@ use Rattle.attempts.proofs.messages.message_on.Tie as tie
 abbrev sides-start : tie.After-up → tie.Start
 sides-start c =
     c .before .before .before .before .before .before .before .before .before .before .before .before
-    .before .before .before .before .before .before .before .before .before .before .before
+    .before .before .before .before .before .before .before .before .before .before .before .before
+    .before
 
 abbrev sides-at : tie.After-places → tie.After-fill-sides
 sides-at c = c .before .before .before .before .before .before
 
-abbrev marked-at : tie.After-run-arg5 → tie.After-mark-places
-marked-at c = c .before .before .before .before .before .before .before .before .before .before .before .before .before .before
+abbrev marked-at : tie.After-struct-known2 → tie.After-mark-places
+marked-at c = c .before .before .before
+
+abbrev cleared-at : tie.After-run-arg8 → tie.After-fill
+cleared-at c = c .before .before .before .before .before .before .before .before .before .before .before .before .before .before .before
 
 slice-aggregate-fill-sides : tie.Need-slice-aggregate-fill-sides
 slice-aggregate-fill-sides c = search needs
@@ -34,7 +38,7 @@ slice-aggregate-fill-sides-4 c = search needs
 
 fill-sides-requires : tie.Need-fill-sides-requires
 fill-sides-requires c κs = let s = sides-start c in
-    ((s .pre .0 .0, asked-sides (s .pre .0 .1 .ready)), (refl, refl, refl, refl))
+    ((s .pre .0 .1 .0, asked-sides (s .pre .0 .1 .1 .ready)), (refl, refl, refl, refl))
 
 cast-mark-places : tie.Need-cast-mark-places
 cast-mark-places c = search needs
@@ -44,8 +48,17 @@ slice-aggregate-mark-places c = search needs
 
 mark-places-requires : tie.Need-mark-places-requires
 mark-places-requires c κs = let o = sides-at c in
-    let (b, t) = sides-start (o .before) .pre .0 in
+    let (begins, (b, t)) = sides-start (o .before) .pre .0 in
     ((b, _, _, places-asked t (o .fill-sides .ensures b (asked-sides (t .ready))), asked-formulas (t .ready) .definitions-counted), refl)
+
+cast-fill : tie.Need-cast-fill
+cast-fill c = search needs
+
+mul-fill : tie.Need-mul-fill
+mul-fill c = search needs
+
+fill-requires : tie.Need-fill-requires
+fill-requires c κs = sides-start (sides-at (marked-at c .before) .before) .pre .1 .3
 
 slice-aggregate-run : tie.Need-slice-aggregate-run
 slice-aggregate-run c = search needs
@@ -62,25 +75,17 @@ slice-aggregate-run-4 c = search needs
 slice-aggregate-run-5 : tie.Need-slice-aggregate-run-5
 slice-aggregate-run-5 c = search needs
 
-slice-aggregate-run-6 : tie.Need-slice-aggregate-run-6
-slice-aggregate-run-6 c = search needs
-
-slice-aggregate-run-7 : tie.Need-slice-aggregate-run-7
-slice-aggregate-run-7 c = search needs
-
-slice-aggregate-run-8 : tie.Need-slice-aggregate-run-8
-slice-aggregate-run-8 c = search needs
-
 run-requires : tie.Need-run-requires
-run-requires c κs = let p = marked-at c in
+run-requires c κs = let f = cleared-at c in
+    let p = marked-at (f .before) in
     let o = sides-at (p .before) in
     let s = sides-start (o .before) in
-    let (b, t) = s .pre .0 in
-    let m = s .pre .1 .0 in
+    let (begins, (b, t)) = s .pre .0 in
+    let (m, rows, rooms, long, none) = s .pre .1 in
     let sides = o .fill-sides .ensures b (asked-sides (t .ready)) in
     let places = p .mark-places .ensures b _ _ (places-asked t sides) (asked-formulas (t .ready) .definitions-counted) in (
-      (s .pre .1 .2, s .pre .1 .1),
-      (b, m .list, run-in t sides places (m .tokens-are), tokens-of t m, plans-of t),
+      (rooms, rows),
+      (b, m .list, run-in t sides places (m .tokens-are), tokens-of t m, plans-of t _ long (f .fill .ensures) none),
     )
 
 same-length : tie.Need-same-length
@@ -98,12 +103,24 @@ same-length-4 c = search needs
 same-length-5 : tie.Need-same-length-5
 same-length-5 c = search needs
 
+same-length-6 : tie.Need-same-length-6
+same-length-6 c = search needs
+
+same-length-7 : tie.Need-same-length-7
+same-length-7 c = search needs
+
+same-length-8 : tie.Need-same-length-8
+same-length-8 c = search needs
+
 returns : tie.Need-returns
-returns c = λ b t m. let k = c .before .before .before .before .before .before .before .before .before .before .before .before .before in
-    let p = marked-at (k .before) in
-    let sides = sides-at (p .before) .fill-sides .ensures b (asked-sides (t .ready)) in
+returns c = λ begins b t m. let k = c .before .before .before .before .before .before .before .before .before .before .before .before .before .before .before .before in
+    let f = cleared-at (k .before) in
+    let p = marked-at (f .before) in
+    let o = sides-at (p .before) in
+    let (_, _, _, long, none) = sides-start (o .before) .pre .1 in
+    let sides = o .fill-sides .ensures b (asked-sides (t .ready)) in
     let places = p .mark-places .ensures b _ _ (places-asked t sides) (asked-formulas (t .ready) .definitions-counted) in
-    k .run .ensures b (m .list) (run-in t sides places (m .tokens-are)) (tokens-of t m) (plans-of t)
+    k .run .ensures b (m .list) (run-in t sides places (m .tokens-are)) (tokens-of t m) (plans-of t _ long (f .fill .ensures) none)
 
 pub message-on-spec : {M : Type 1} → statement M
 message-on-spec =
@@ -117,18 +134,21 @@ message-on-spec =
     cast-mark-places
     slice-aggregate-mark-places
     mark-places-requires
+    cast-fill
+    mul-fill
+    fill-requires
     slice-aggregate-run
     slice-aggregate-run-2
     slice-aggregate-run-3
     slice-aggregate-run-4
     slice-aggregate-run-5
-    slice-aggregate-run-6
-    slice-aggregate-run-7
-    slice-aggregate-run-8
     run-requires
     same-length
     same-length-2
     same-length-3
     same-length-4
     same-length-5
+    same-length-6
+    same-length-7
+    same-length-8
     returns)

@@ -1,6 +1,7 @@
 -- `messages::message_short` meets its contract: an answer other than a want of room is the machine's. Assumes nothing.
 use native.Mathlib.Omega.{arith}
 use borrow.Author.Needs.{needs}
+use Rattle.plans.specs.PlansLaws.{none-listed}
 use Rattle.attempts.specs.Driving.{run-room}
 use Rattle.attempts.proofs.messages.message_short.Statement.{statement}
 use Rattle.attempts.proofs.messages.message_short.Tie as tie
@@ -8,8 +9,8 @@ use Rattle.attempts.proofs.messages.message_short.Tie as tie
 -- from the call back to the entry
 abbrev start : tie.After-bounds → tie.Start
 start c =
-    c .before .before .before .before .before .before .before .before .before .before
-    .before .before .before .before .before .before .before .before .before .before
+    c .before .before .before .before .before .before .before .before .before .before .before .before
+    .before .before .before .before .before .before .before .before .before .before .before .before
 
 slice-aggregate-message-on : tie.Need-slice-aggregate-message-on
 slice-aggregate-message-on c = search needs
@@ -23,14 +24,27 @@ slice-aggregate-message-on-3 c = search needs
 slice-aggregate-message-on-4 : tie.Need-slice-aggregate-message-on-4
 slice-aggregate-message-on-4 c = search needs
 
+slice-aggregate-message-on-5 : tie.Need-slice-aggregate-message-on-5
+slice-aggregate-message-on-5 c = search needs
+
 message-on-requires : tie.Need-message-on-requires
-message-on-requires c κs = let s = start c in (s .pre .0, (s .pre .1 .0, s .pre .1 .1, run-room 32 (omega arith) (s .pre .1 .1)))
+message-on-requires c κs =
+    let s = start c in
+    let (message, rows, sets, slots) = s .pre .1 in
+    (s .pre .0, (message, rows, run-room 32 (omega arith) rows sets, slots, none-listed 64 (omega arith) (omega arith)))
 
 same-length : tie.Need-same-length
 same-length c = search needs
 
+same-length-2 : tie.Need-same-length-2
+same-length-2 c = search needs
+
+same-length-3 : tie.Need-same-length-3
+same-length-3 c = search needs
+
 returns : tie.Need-returns
-returns c = λ b t m n. let k = c .before .before .before .before .before .before in k .message-on .ensures b t m (λ e. absurd (n e))
+returns c = λ begins b t m n. let k = c .before .before .before .before .before .before .before .before .before .before .before in
+    k .message-on .ensures begins b t m (λ e. absurd (n e))
 
 pub message-short-spec : {M : Type 1} → statement M
 message-short-spec =
@@ -40,6 +54,9 @@ message-short-spec =
     slice-aggregate-message-on-2
     slice-aggregate-message-on-3
     slice-aggregate-message-on-4
+    slice-aggregate-message-on-5
     message-on-requires
     same-length
+    same-length-2
+    same-length-3
     returns)

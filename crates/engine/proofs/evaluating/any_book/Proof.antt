@@ -58,6 +58,7 @@ attempt-requires c κs =
       (_, filled-found (found .ensures) (filled-at c .if1 .left)),
       omega (arith, found .ensures .inside, found .kept .1 .1 .0, start (found-at c) .pre .5),
       rw (room-at c .full .ensures) (omega (arith, start (found-at c) .pre .6)),
+      rw (room-at c .full .ensures) (omega (arith, start (found-at c) .pre .7, found .kept .1 .1 .0)),
       rw (room-at c .full .ensures) full-arrays,
     )
 
@@ -72,7 +73,7 @@ same-length-4 c = search needs
 
 returns-2 : tie.Need-returns-2
 returns-2 c =
-    let a = c .before .before .before .before .before .before .before .before .before .before in
+    let a = c .before .before .before .before .before .before .before .before .before .before .before .before in
     let told = a .attempt .ensures in
     let at = a .before in
     told .answers (told .all (room-at at .full .ensures)) _ (filled-found (found-at at .text-in .ensures) (filled-at at .if1 .left))

@@ -20,7 +20,7 @@ any-book-requires c κs =
     let s = c .before .before .before .before .before .before .before in
     let words = s .args .words .now in
     let all = ap unpack (take-all (length words) words (omega arith)) in
-    (s .pre, omega (arith, s .pre), all, omega (arith, s .pre, zeros 65536), omega (arith, zeros 65536), omega (arith, zeros 65536, zeros 13107), omega (arith, zeros 13107))
+    (s .pre, omega (arith, s .pre), all, omega (arith, s .pre, zeros 65536), omega (arith, zeros 65536), omega (arith, zeros 65536, zeros 13107), omega (arith, zeros 13107), omega (arith, zeros 65536))
 
 same-length : tie.Need-same-length
 same-length c = search needs

@@ -16,7 +16,7 @@ any-book-requires : tie.Need-any-book-requires
 any-book-requires c κs =
     let s = c .before .before .before .before .before .before .before in
     let front = unpack-front 4095 (s .args .words .now) (omega (arith, s .pre .0)) (s .pre .1) in
-    (s .pre .0, omega arith, front, omega (arith, zeros 16384), omega (arith, zeros 16384), omega (arith, zeros 16384, zeros 4096), omega (arith, zeros 4096))
+    (s .pre .0, omega arith, front, omega (arith, zeros 16384), omega (arith, zeros 16384), omega (arith, zeros 16384, zeros 4096), omega (arith, zeros 4096), omega (arith, zeros 16384))
 
 same-length : tie.Need-same-length
 same-length c = search needs

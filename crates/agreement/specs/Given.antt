@@ -1,4 +1,4 @@
--- The attributes that definitions give, as sets in 576 words, copies left out: word 9 * P + D has those that are given at the item (P, D). The leaders are
+-- The attributes that definitions give, as sets, copies left out: word 9 * P + D has those that are given at the item (P, D). The leaders are
 -- the rules at whose front some are given, as the bits of a number. Assumes nothing.
 use Prim.Native.Nat.{ℕ, _+_, _*_, _-_, _^_, _<_, _≤_}
 use native.Mathlib.Omega.{arith}
@@ -8,7 +8,7 @@ use mathlib.Core.Bool.{Bool, true, false, _&&_}
 use mathlib.Core.List.{List}
 use lib.Dec.{eqb}
 use lib.Bits.{bitOr}
-use lib.ListN.{length, getD, set, replicate, length-set, length-replicate}
+use lib.ListN.{length, getD, set, length-set}
 use lib.Seq.{getD-set-same, getD-set-other}
 use borrow.Author.Tests.{eqb-true, eq-eqb}
 use Rattle.sets.specs.Sets.{bit, single, with}
@@ -22,21 +22,21 @@ use Rattle.grammar.specs.Formulas.FormulaCheck as grammar
 use Rattle.grammar.specs.Formulas.FormulaCheck.{dotOf, lineAt}
 use Rattle.book.specs.Held.{DefinitionsIn, nodeKind, nodeFirst, nodeAt}
 use Rattle.attributes.specs.Checking.{CheckHeld}
-use Rattle.attributes.specs.CheckingLaws.{rule-word, rule-low, position-high, position-word, attribute-word, attribute-low, place-is}
+use Rattle.attributes.specs.CheckingLaws.{rule-word, rule-there, position-high, position-word, attribute-word, attribute-low, place-is}
 use Rattle.agreement.specs.Apart.{or-left, or-right}
 use Rattle.agreement.specs.Givers.{Copies}
 
 -- the attributes that the first n definitions give
 pub record GivenIn (b : Book) (n : ℕ) (given : List ℕ) (leaders : ℕ) : Type 0 where
-  pub long : length given ≡ 576
+  pub long : 9 * length (b .rules) ≤ length given
   pub item-is : (d : ℕ) → d < n → (Copies (lineAt b d) → ⊥)
       → bit (getD given (9 * lineAt b d .rule + dotOf (lineAt b d)) 0) (lineAt b d .attribute) ≡ true
   pub leader-is : (d : ℕ) → d < n → (Copies (lineAt b d) → ⊥) → dotOf (lineAt b d) ≡ 0 → bit leaders (lineAt b d .rule) ≡ true
 
 -- before all definitions
-pub given-none : (b : Book) {given : List ℕ} (leaders : ℕ) → given ≡ replicate 576 0 → GivenIn b 0 given leaders
-given-none b leaders e = record {
-  long = ap (length {A = ℕ}) e ∙ length-replicate {A = ℕ} 576 0;
+pub given-none : (b : Book) {given : List ℕ} (leaders : ℕ) → 9 * length (b .rules) ≤ length given → GivenIn b 0 given leaders
+given-none b leaders long = record {
+  long = long;
   item-is = λ d l. absurd (omega arith);
   leader-is = λ d l. absurd (omega arith);
 }
@@ -96,7 +96,7 @@ module _ {b : Book} {definitions rules owned masks : List ℕ} (H : CheckHeld b 
   low e k = omega (arith, attribute-word H k, attribute-low H k)
 
   -- where nothing is lost, and the next definition's own is there
-  given-more : {more : List ℕ} {next : ℕ} → length more ≡ 576
+  given-more : {more : List ℕ} {next : ℕ} → 9 * length (b .rules) ≤ length more
       → ((j K : ℕ) → K < 32 → bit (getD given j 0) K ≡ true → bit (getD more j 0) K ≡ true) → ((P : ℕ) → bit leaders P ≡ true → bit next P ≡ true)
       → ((Copies (lineAt b d) → ⊥) → bit (getD more (9 * lineAt b d .rule + dotOf (lineAt b d)) 0) (lineAt b d .attribute) ≡ true)
       → ((Copies (lineAt b d) → ⊥) → dotOf (lineAt b d) ≡ 0 → bit next (lineAt b d .rule) ≡ true) → GivenIn b (d + 1) more next
@@ -121,7 +121,7 @@ module _ {b : Book} {definitions rules owned masks : List ℕ} (H : CheckHeld b 
 
     -- the item's word stands in the array
     there : item < length given
-    there = omega (arith, r, p, rule-low H l, position-high H l, G .long)
+    there = omega (arith, r, p, rule-there H l, position-high H l, G .long)
 
     -- what was given stays given
     keeps : (j K : ℕ) → K < 32 → bit (getD given j 0) K ≡ true → bit (getD (set given item word) j 0) K ≡ true
@@ -140,7 +140,7 @@ module _ {b : Book} {definitions rules owned masks : List ℕ} (H : CheckHeld b 
     -- with the leaders that it makes
     given-set : {next : ℕ} → ((P : ℕ) → bit leaders P ≡ true → bit next P ≡ true) → (dotOf (lineAt b d) ≡ 0 → bit next (lineAt b d .rule) ≡ true)
         → GivenIn b (d + 1) (set given item word) next
-    given-set stay leader = given-more (length-set given item word ∙ G .long) keeps stay (λ n. here) (λ n. leader)
+    given-set stay leader = given-more (omega (arith, length-set given item word, G .long)) keeps stay (λ n. here) (λ n. leader)
 
     -- behind the front
     pub given-behind : (position ≡ 1 → ⊥) → GivenIn b (d + 1) (set given item word) leaders

@@ -1,5 +1,5 @@
 -- The one-formula check (10) of all states over a book in arrays, and that it answers what the tables' check answers. Assumes nothing.
-use Prim.Native.Nat.{ℕ, zero, suc, _<_, _≤_}
+use Prim.Native.Nat.{ℕ, zero, suc, _*_, _<_, _≤_}
 use native.Mathlib.Omega.{arith}
 use mathlib.Core.Path.{_≡_, refl, sym, ap, _∙_}
 use mathlib.Core.Bool.{Bool, true, false}
@@ -92,6 +92,9 @@ module _ {b : Book} {rules : List ℕ} {count : ℕ} {definitions : List ℕ} {l
   pub states-low : states ≤ 128
   states-low = omega (arith, H .states-are, limits .states-limit .high)
 
+  pub rules-low : 9 * length (b .rules) ≤ 576
+  rules-low = omega (arith, H .marks-held .items-in .states-in .grammar-in .rules-in .fits)
+
   -- the owners of attributes
   pub owner-low : (K : ℕ) → K < attributes b → ownerAt (b .inheritedOwners) K < 32
   owner-low K l =
@@ -99,7 +102,7 @@ module _ {b : Book} {rules : List ℕ} {count : ℕ} {definitions : List ℕ} {l
       omega (arith, m .high, limits .nonterminals-limit .high)
 
   -- for the check of a state
-  pub held-check : {sets masks : List ℕ} → OwnedIn (b .inheritedOwners) (attributes b) sets → length masks ≡ 576
+  pub held-check : {sets masks : List ℕ} → OwnedIn (b .inheritedOwners) (attributes b) sets → 9 * length (b .rules) ≤ length masks
       → CheckHeld b definitions rules sets masks
   held-check O m =
       check-held (H .ordered) limits declared (H .owned) (H .defined) (H .definitions-in) (H .marks-held .items-in .states-in .grammar-in .rules-in) O m
@@ -115,10 +118,10 @@ module _ {b : Book} {rules : List ℕ} {count : ℕ} {definitions : List ℕ} {l
       check-told limits declared (H .ordered) S M a (omega (arith, limits .terminals-limit .high)) (listed-tell S a)
 
   -- what the lines of the definitions are read by
-  pub held-lines : (sets : List ℕ) × CheckHeld b definitions rules sets (replicate 576 0)
+  pub held-lines : (sets : List ℕ) × CheckHeld b definitions rules sets (replicate (9 * length (b .rules)) 0)
   held-lines =
       let (sets, O) = owned-some (b .inheritedOwners) (attributes b) owner-low in
-      (sets, held-check O (length-replicate {A = ℕ} 576 0))
+      (sets, held-check O (omega (arith, length-replicate {A = ℕ} (9 * length (b .rules)) 0)))
 
   -- of a state where each attribute is given once
   pub state-single : (S : ℕ) → Single b S → true ≡ stateRight b S

@@ -3,8 +3,8 @@
 ghost use mathlib.Core.Path.{_≡_};
 ghost use mathlib.Core.Bool.{true};
 ghost use mathlib.Core.List.{List};
-ghost use Prim.Native.Nat.{ℕ, _+_, _<_};
-ghost use lib.ListN.{length, replicate};
+ghost use Prim.Native.Nat.{ℕ, _+_, _*_, _<_, _≤_};
+ghost use lib.ListN.{length};
 ghost use Rattle.grammar.specs.Data.Book.{Book};
 ghost use Rattle.grammar.specs.Formulas.FormulaCheck as grammar;
 ghost use Rattle.book.specs.Held.{DefinitionsIn};
@@ -28,7 +28,7 @@ fn copies(definitions: &[u32], line: usize) -> bool
 // The attribute of the definition in a line is given; the leaders with its rule besides, if that is at the front.
 fn give(definitions: &[u32], line: usize, leaders: u64, given: &mut [u32]) -> u64
     requires { ⌜ ((b : Book) × (rules : List ℕ) × (owned : List ℕ) × (masks : List ℕ) × CheckHeld b (now definitions) rules owned masks
-        × (line < grammar.definitions b)) × (length (now given) ≡ 576) ⌝ }
+        × (line < grammar.definitions b) × (9 * length (b .rules) ≤ length (now given))) ⌝ }
     ensures { λ r. ⌜ ((b : Book) (rules owned masks : List ℕ) → CheckHeld b (now (definitions .entry)) rules owned masks
         → line < grammar.definitions b → GivenIn b line (now (given .entry)) leaders → GivenIn b (line + 1) (now (given .exit)) r) ⌝ }
 {
@@ -46,7 +46,7 @@ fn give(definitions: &[u32], line: usize, leaders: u64, given: &mut [u32]) -> u6
 // The same, but for a copy.
 fn mark_giver(definitions: &[u32], line: usize, leaders: u64, given: &mut [u32]) -> u64
     requires { ⌜ ((b : Book) × (rules : List ℕ) × (owned : List ℕ) × (masks : List ℕ) × CheckHeld b (now definitions) rules owned masks
-        × (line < grammar.definitions b)) × (length (now given) ≡ 576) ⌝ }
+        × (line < grammar.definitions b) × (9 * length (b .rules) ≤ length (now given))) ⌝ }
     ensures { λ r. ⌜ ((b : Book) (rules owned masks : List ℕ) → CheckHeld b (now (definitions .entry)) rules owned masks
         → line < grammar.definitions b → GivenIn b line (now (given .entry)) leaders → GivenIn b (line + 1) (now (given .exit)) r) ⌝ }
 {
@@ -59,9 +59,9 @@ fn mark_giver(definitions: &[u32], line: usize, leaders: u64, given: &mut [u32])
 // What all definitions give, from words that are 0; the leaders.
 pub fn mark_givers(definitions: &[u32], lines: usize, given: &mut [u32]) -> u64
     requires { ⌜ ((b : Book) × (rules : List ℕ) × (owned : List ℕ) × (masks : List ℕ) × CheckHeld b (now definitions) rules owned masks
-        × (lines ≡ grammar.definitions b)) × (now given ≡ replicate 576 0) ⌝ }
+        × (lines ≡ grammar.definitions b) × (9 * length (b .rules) ≤ length (now given))) ⌝ }
     ensures { λ r. ⌜ ((b : Book) (rules owned masks : List ℕ) → CheckHeld b (now (definitions .entry)) rules owned masks
-        → lines ≡ grammar.definitions b → GivenIn b (grammar.definitions b) (now (given .exit)) r) ⌝ }
+        → lines ≡ grammar.definitions b → 9 * length (b .rules) ≤ length (now (given .entry)) → GivenIn b (grammar.definitions b) (now (given .exit)) r) ⌝ }
 {
     let mut leaders = 0u64;
     let mut i = 0;

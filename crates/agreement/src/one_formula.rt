@@ -2,7 +2,7 @@
 // A contract asks that the arrays hold some book, and says its equation of every book that they hold.
 ghost use mathlib.Core.Path.{_≡_};
 ghost use mathlib.Core.List.{List};
-ghost use Prim.Native.Nat.{ℕ, _<_};
+ghost use Prim.Native.Nat.{ℕ, _*_, _<_, _≤_};
 ghost use lib.ListN.{length};
 ghost use Rattle.grammar.specs.Limits.{MAX-INHERITED};
 ghost use Rattle.grammar.specs.Conditions.Decides.{allBelow};
@@ -47,7 +47,7 @@ fn state_right(
     requires { ⌜ ((b : Book) × (firsts : List ℕ) × (states : ℕ) × FrontsHeld b (now rules) count (now definitions) lines (now kernels) (now starts)
         (now closures) (now fronts) (now nulls) firsts (now reaches) terminals states × OwnedIn (b .inheritedOwners) (attributes b) (now owned)
         × GivenIn b (grammar.definitions b) (now given) leaders × (state < states))
-        × (length (now sets) ≡ 576) × Room lines (now slots) (now done) (now table) (now heads) (now nexts) ⌝ }
+        × (9 * count ≤ length (now sets)) × Room lines (now slots) (now done) (now table) (now heads) (now nexts) ⌝ }
     ensures { λ r. ⌜ ((b : Book) (firsts : List ℕ) (states : ℕ) → FrontsHeld b (now (rules .entry)) count (now (definitions .entry)) lines
         (now (kernels .entry)) (now (starts .entry)) (now (closures .entry)) (now (fronts .entry)) (now (nulls .entry)) firsts (now (reaches .entry))
         terminals states → OwnedIn (b .inheritedOwners) (attributes b) (now (owned .entry)) → GivenIn b (grammar.definitions b) (now (given .entry)) leaders
@@ -111,7 +111,7 @@ fn states_right(
     requires { ⌜ ((b : Book) × (firsts : List ℕ) × FrontsHeld b (now rules) count (now definitions) lines (now kernels) (now starts) (now closures)
         (now fronts) (now nulls) firsts (now reaches) terminals states × OwnedIn (b .inheritedOwners) (attributes b) (now owned)
         × GivenIn b (grammar.definitions b) (now given) leaders)
-        × (length (now sets) ≡ 576) × Room lines (now slots) (now done) (now table) (now heads) (now nexts) ⌝ }
+        × (9 * count ≤ length (now sets)) × Room lines (now slots) (now done) (now table) (now heads) (now nexts) ⌝ }
     ensures { λ r. ⌜ ((b : Book) (firsts : List ℕ) → FrontsHeld b (now (rules .entry)) count (now (definitions .entry)) lines (now (kernels .entry))
         (now (starts .entry)) (now (closures .entry)) (now (fronts .entry)) (now (nulls .entry)) firsts (now (reaches .entry)) terminals states
         → OwnedIn (b .inheritedOwners) (attributes b) (now (owned .entry)) → GivenIn b (grammar.definitions b) (now (given .entry)) leaders

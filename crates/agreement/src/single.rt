@@ -16,14 +16,15 @@ ghost use Rattle.agreement.specs.Given.{GivenIn};
 ghost use Rattle.agreement.specs.SingleState.{Single, lineWord};
 ghost use Rattle.agreement.specs.OneFormula.{FrontsHeld, formulasRight};
 use super::givers::mark_givers;
+use attributes::masks::clear;
 use automaton::lefts::behind;
 use automaton::lefts::least;
 use items::words::word;
 
 // The attributes given at the item of kernel line i.
 fn line_gives(kernels: &[u32], i: usize, given: &[u32]) -> u32
-    requires { ⌜ ((b : Book) × (rules : List ℕ) × (starts : List ℕ) × StatesIn b rules (now kernels) starts × (i < length (b .kernels)))
-        × (length (now given) ≡ 576) ⌝ }
+    requires { ⌜ ((b : Book) × (rules : List ℕ) × (starts : List ℕ) × StatesIn b rules (now kernels) starts × (i < length (b .kernels))
+        × (9 * length (b .rules) ≤ length (now given))) ⌝ }
     ensures { λ r. ⌜ r ≡ lineWord (now (kernels .entry)) (now (given .entry)) i ⌝ }
 {
     let rule = word(kernels, 5 * i + 1);
@@ -33,8 +34,8 @@ fn line_gives(kernels: &[u32], i: usize, given: &[u32]) -> u32
 
 // True only if the items of the kernel lines from `first` up to `last` are given different attributes, and none of `base`.
 fn lines_apart(kernels: &[u32], first: usize, last: usize, base: u32, given: &[u32]) -> bool
-    requires { ⌜ ((b : Book) × (rules : List ℕ) × (starts : List ℕ) × StatesIn b rules (now kernels) starts × (last ≤ length (b .kernels)))
-        × (first ≤ last) × (length (now given) ≡ 576) ⌝ }
+    requires { ⌜ ((b : Book) × (rules : List ℕ) × (starts : List ℕ) × StatesIn b rules (now kernels) starts × (last ≤ length (b .kernels))
+        × (9 * length (b .rules) ≤ length (now given))) × (first ≤ last) ⌝ }
     ensures { λ r. ⌜ (r ≡ true → ((all : ℕ) × Apart (lineWord (now (kernels .entry)) (now (given .entry))) base first last all)) ⌝ }
 {
     let mut bits = base;
@@ -61,7 +62,7 @@ pub fn single(
     leaders: u64,
 ) -> bool
     requires { ⌜ ((b : Book) × (rules : List ℕ) × (closures : List ℕ) × ItemsIn b (setsOf (b .rules)) rules (now kernels) (now starts) closures
-        × FrontsIn b rules closures (now fronts) × (state < b .states)) × (length (now given) ≡ 576) ⌝ }
+        × FrontsIn b rules closures (now fronts) × (state < b .states) × (9 * length (b .rules) ≤ length (now given))) ⌝ }
     ensures { λ r. ⌜ (r ≡ true → (b : Book) (rules closures : List ℕ) → Ordered b
         → ItemsIn b (setsOf (b .rules)) rules (now (kernels .entry)) (now (starts .entry)) closures → FrontsIn b rules closures (now (fronts .entry))
         → GivenIn b (grammar.definitions b) (now (given .entry)) leaders → state < b .states → Single b state) ⌝ }
@@ -95,7 +96,7 @@ fn states_single(
     leaders: u64,
 ) -> bool
     requires { ⌜ ((b : Book) × (rules : List ℕ) × (closures : List ℕ) × ItemsIn b (setsOf (b .rules)) rules (now kernels) (now starts) closures
-        × FrontsIn b rules closures (now fronts) × (states ≡ b .states)) × (length (now given) ≡ 576) ⌝ }
+        × FrontsIn b rules closures (now fronts) × (states ≡ b .states) × (9 * length (b .rules) ≤ length (now given))) ⌝ }
     ensures { λ r. ⌜ (r ≡ true → (b : Book) (rules closures : List ℕ) → Ordered b
         → ItemsIn b (setsOf (b .rules)) rules (now (kernels .entry)) (now (starts .entry)) closures → FrontsIn b rules closures (now (fronts .entry))
         → GivenIn b (grammar.definitions b) (now (given .entry)) leaders → states ≡ b .states → (S : ℕ) → S < b .states → Single b S) ⌝ }
@@ -110,23 +111,27 @@ fn states_single(
     true
 }
 
-// True only if that is so in all states of a book: then each attribute has one formula in every partial state (10).
+// True only if that is so in all states of a book: then each attribute has one formula in every partial state (10). `given` is room for what definitions
+// give, nine words for each of `count` rules.
 pub fn all_single(
+    count: u32,
     definitions: &[u32],
     lines: u32,
     kernels: &[u32],
     starts: &[u32],
     fronts: &[u64],
     states: u32,
+    given: &mut [u32],
 ) -> bool
-    requires { ⌜ ((b : Book) × (rules : List ℕ) × (count : ℕ) × (closures : List ℕ) × (nulls : List ℕ) × (firsts : List ℕ) × (reaches : List ℕ)
+    requires { ⌜ ((b : Book) × (rules : List ℕ) × (closures : List ℕ) × (nulls : List ℕ) × (firsts : List ℕ) × (reaches : List ℕ)
         × (terminals : ℕ)
-        × FrontsHeld b rules count (now definitions) lines (now kernels) (now starts) closures (now fronts) nulls firsts reaches terminals states) ⌝ }
-    ensures { λ r. ⌜ (r ≡ true → (b : Book) (rules : List ℕ) (count : ℕ) (closures nulls firsts reaches : List ℕ) (terminals : ℕ)
+        × FrontsHeld b rules count (now definitions) lines (now kernels) (now starts) closures (now fronts) nulls firsts reaches terminals states)
+        × (9 * count ≤ length (now given)) ⌝ }
+    ensures { λ r. ⌜ (r ≡ true → (b : Book) (rules closures nulls firsts reaches : List ℕ) (terminals : ℕ)
         → FrontsHeld b rules count (now (definitions .entry)) lines (now (kernels .entry)) (now (starts .entry)) closures (now (fronts .entry))
         nulls firsts reaches terminals states → true ≡ formulasRight b) ⌝ }
 {
-    let mut given = [0u32; 576];
-    let leaders = mark_givers(definitions, lines as usize, &mut given);
-    states_single(kernels, starts, fronts, states as usize, &given, leaders)
+    clear(given, 9 * count as usize);
+    let leaders = mark_givers(definitions, lines as usize, given);
+    states_single(kernels, starts, fronts, states as usize, given, leaders)
 }

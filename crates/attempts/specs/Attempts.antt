@@ -7,7 +7,8 @@ use mathlib.Core.Path.{_≡_, refl, sym, _∙_}
 use mathlib.Core.Bool.{Bool, true, false, false≢true}
 use mathlib.Core.List.{List}
 use lib.ListN.{take}
-use Rattle.grammar.specs.Limits.{MAX-STATES}
+use Rattle.text.specs.Positional.{by-less}
+use Rattle.grammar.specs.Limits.{MAX-RULES, MAX-STATES}
 use Rattle.grammar.specs.Data.Book.{Book as Lines}
 use Rattle.grammar.specs.Evaluator.Machine.{evaluate}
 use Rattle.grammar.specs.Engine.{tablesOf, evaluateWords}
@@ -15,7 +16,7 @@ use Rattle.book.specs.declared.Book.{Book}
 use Rattle.book.specs.declared.Room.{Room}
 use Rattle.book.specs.Rooms.{fullRoom}
 use Rattle.conditions.specs.AskedLaws.{counted}
-use Rattle.compiler.specs.Compiling.{Compiles}
+use Rattle.compiler.specs.Compiling.{Compiles, rules-few}
 use Rattle.machine.specs.declared.run.Outcome.{Outcome}
 use Rattle.machine.specs.RunningLaws.{Answered}
 use Rattle.attempts.specs.Rooms.{compiled-whole}
@@ -24,10 +25,10 @@ use Rattle.attempts.specs.Evaluations.{Asked, Answers, Message, answers-
 
 -- the first n bytes of a text are those of stored words, and were compiled
 pub record Read (room : Room) (n : ℕ) (text : List ℕ) (complete : Bool) (r : ℕ) (numbers : Book) (inherited synthesized rules definitions kernels goes : List ℕ)
-    (vanishes begins reached starts closures table actions : List ℕ) : Type 0 where
+    (vanishes reached starts closures table actions : List ℕ) : Type 0 where
   pub words : List ℕ
   pub found : Found words text true n
-  pub compiles : Compiles room (take n text) complete r numbers inherited synthesized rules definitions kernels goes vanishes begins reached starts closures
+  pub compiles : Compiles room (take n text) complete r numbers inherited synthesized rules definitions kernels goes vanishes reached starts closures
       table actions
 
 -- the answer to a message under the book in such words, where arrays have room for what it has; where there is room for all, they have
@@ -37,11 +38,11 @@ pub record Attempts (room : Room) (text : List ℕ) (n : ℕ) (tokens : List ℕ
 
 -- where it is not refused, the book is taken
 module _ {room : Room} {n : ℕ} {text : List ℕ} {complete : Bool} {r : ℕ} {numbers : Book} {inherited synthesized rules definitions kernels goes : List ℕ}
-    {vanishes begins reached starts closures table actions : List ℕ}
-    (R : Read room n text complete r numbers inherited synthesized rules definitions kernels goes vanishes begins reached starts closures table actions)
+    {vanishes reached starts closures table actions : List ℕ}
+    (R : Read room n text complete r numbers inherited synthesized rules definitions kernels goes vanishes reached starts closures table actions)
     (whole : complete ≡ true) (taken : r ≡ 0) where
   pub book-taken : (b : Lines)
-      × TakenBook numbers inherited synthesized rules definitions kernels goes vanishes begins reached starts closures table actions b
+      × TakenBook numbers inherited synthesized rules definitions kernels goes vanishes reached starts closures table actions b
   book-taken = let (b, q, t) = found-book (R .found) refl whole (R .compiles) taken in (b, t)
 
   -- and has no more states than the room
@@ -57,9 +58,16 @@ module _ {room : Room} {n : ℕ} {text : List ℕ} {complete : Bool} {r : ℕ} {
       go (yes less) fits few = fits less
       go (no more) fits few = omega arith
 
+  -- and no more rules
+  pub rules-within : numbers .rules ≤ room .rules
+  rules-within =
+      let (b, t) = book-taken in
+      let few = rules-few (t .ready) in
+      by-less (room .rules) MAX-RULES (λ less. R .compiles .fits whole taken .rules-fit less) (λ all. omega (arith, few))
+
 module _ {room : Room} {n : ℕ} {text : List ℕ} {complete : Bool} {r : ℕ} {numbers : Book} {inherited synthesized rules definitions kernels goes : List ℕ}
-    {vanishes begins reached starts closures table actions : List ℕ}
-    (R : Read room n text complete r numbers inherited synthesized rules definitions kernels goes vanishes begins reached starts closures table actions)
+    {vanishes reached starts closures table actions : List ℕ}
+    (R : Read room n text complete r numbers inherited synthesized rules definitions kernels goes vanishes reached starts closures table actions)
     {tokens : List ℕ} {lent : ℕ} where
   -- something was left out
   pub attempts-part : {number count : ℕ} {rows : List ℕ} → complete ≡ false → Attempts room text n tokens lent false number rows count
@@ -88,7 +96,7 @@ module _ {room : Room} {n : ℕ} {text : List ℕ} {complete : Bool} {r : ℕ} {
 
       -- the machine runs
       pub attempts-run : {outcome : Outcome} {rows : List ℕ} (passed : first ≡ 0)
-          → ((b : Lines) → TakenBook numbers inherited synthesized rules definitions kernels goes vanishes begins reached starts closures table actions b
+          → ((b : Lines) → TakenBook numbers inherited synthesized rules definitions kernels goes vanishes reached starts closures table actions b
           → (m : Message (numbers .terminals) tokens) → Answered (evaluate b (tablesOf b) (m .list)) outcome rows)
           → Attempts room text n tokens lent true (outcome .number) rows (outcome .count)
       attempts-run passed ran = record {

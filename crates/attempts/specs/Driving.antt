@@ -13,7 +13,7 @@ use Rattle.grammar.specs.Engine.{tokensOf}
 use Rattle.book.specs.declared.Book.{Book}
 use Rattle.conditions.specs.AskedLaws.{counted}
 use Rattle.attributes.specs.Checking.{CheckHeld}
-use Rattle.agreement.specs.OneFormula.{held-check}
+use Rattle.agreement.specs.OneFormula.{held-check, rules-low}
 use Rattle.plans.specs.Idle.{PlacesIn}
 use Rattle.plans.specs.Plans.{PlansIn, NoneNoted, NoneListed}
 use Rattle.plans.specs.PlansLaws.{plans-none, none-noted}
@@ -26,12 +26,12 @@ use Rattle.attempts.specs.Rooms.{zeros}
 use Rattle.attempts.specs.Stored.{TakenBook}
 use Rattle.attempts.specs.Sides.{SidesIn}
 
-module _ {numbers : Book} {inherited synthesized rules definitions kernels goes : List ℕ} {vanishes begins reached starts closures table actions : List ℕ}
-    {b : Lines} (h : TakenBook numbers inherited synthesized rules definitions kernels goes vanishes begins reached starts closures table actions b)
+module _ {numbers : Book} {inherited synthesized rules definitions kernels goes : List ℕ} {vanishes reached starts closures table actions : List ℕ}
+    {b : Lines} (h : TakenBook numbers inherited synthesized rules definitions kernels goes vanishes reached starts closures table actions b)
     {own firsts down up : List ℕ} (s : SidesIn b definitions own firsts down up) where
   -- as the places of the definitions ask for it
-  pub places-asked : CheckHeld b definitions rules own (replicate 576 0)
-  places-asked = held-check (asked-formulas (h .ready)) (s .owned-in) (zeros 576)
+  pub places-asked : CheckHeld b definitions rules own (replicate (9 * length (b .rules)) 0)
+  places-asked = held-check (asked-formulas (h .ready)) (s .owned-in) (omega (arith, zeros (9 * length (b .rules))))
 
   -- and with them
   module _ {places : List ℕ} (L : PlacesIn b (grammar.definitions b) places) where
@@ -45,7 +45,7 @@ module _ {numbers : Book} {inherited synthesized rules definitions kernels goes 
         table-in = h .ready .tables-in .table-in;
       };
       plans-held = record {
-        firsts = begins;
+        firsts = h .ready .begins;
         terminals = numbers .terminals;
         states = numbers .states;
         formulas-held = asked-formulas (h .ready);
@@ -59,8 +59,8 @@ module _ {numbers : Book} {inherited synthesized rules definitions kernels goes 
         table actions tokens
     run-in e = record { driven = driven; left-in = s .left-in; actions-in = h .ready .tables-in .actions-in; tokens-in = e }
 
-module _ {numbers : Book} {inherited synthesized rules definitions kernels goes : List ℕ} {vanishes begins reached starts closures table actions : List ℕ}
-    {b : Lines} (h : TakenBook numbers inherited synthesized rules definitions kernels goes vanishes begins reached starts closures table actions b) where
+module _ {numbers : Book} {inherited synthesized rules definitions kernels goes : List ℕ} {vanishes reached starts closures table actions : List ℕ}
+    {b : Lines} (h : TakenBook numbers inherited synthesized rules definitions kernels goes vanishes reached starts closures table actions b) where
   pub tokens-of : {tokens : List ℕ} (m : Message (numbers .terminals) tokens) → Tokens b (m .list)
   tokens-of m = record { tokens = message-tokens b m (counted b (h .ready .numbers-are) .terminals-are); few = m .few }
 
@@ -71,13 +71,13 @@ module _ {numbers : Book} {inherited synthesized rules definitions kernels goes 
       let noted : NoneNoted (b .states) _ = rw (counted b (h .ready .numbers-are) .states-are) at (none-noted (numbers .states) old long e) in
       plans-none b noted
 
-  -- FIRST of the rests of rules has room for the sets of a state's items
-  pub sets-room : length begins ≡ 576
-  sets-room = h .ready .tables-in .items-filled .rests-in .suffixes-in .firsts-long
+  -- words for the places of its definitions
+  pub places-room : 32 + 9 * length (b .rules) ≤ 608
+  places-room = omega (arith, rules-low (asked-formulas (h .ready)))
 
 -- the stacks as they are before the first move, with room for n symbols
-pub run-room : (n : ℕ) → n ≤ MAX-STACK → {rows sets : List ℕ} → rows ≡ replicate PAGE-WORDS 0 → length sets ≡ 576
-    → Rooms (replicate (n + 1) 0) (replicate (16 * n + 16) 0) (replicate (33 * n) 0) (replicate n 0) rows sets
+pub run-room : (n : ℕ) → n ≤ MAX-STACK → {count : ℕ} {rows sets : List ℕ} → rows ≡ replicate PAGE-WORDS 0 → 9 * count ≤ length sets
+    → Rooms count (replicate (n + 1) 0) (replicate (16 * n + 16) 0) (replicate (33 * n) 0) (replicate n 0) rows sets
 run-room n low e long = record {
   stacks = record {
     starts-low = omega (arith, zeros n);

@@ -1,6 +1,6 @@
 -- The arrays of a book and its tables, as they are before anything is read: those that are as long as a room says, and those of one length.
 -- Assumes nothing.
-use Prim.Native.Nat.{ℕ, _*_, _≤_}
+use Prim.Native.Nat.{ℕ, _+_, _*_, _≤_}
 use mathlib.Core.Path.{_≡_, refl, _∙_}
 use mathlib.Core.Bool.{Bool, true, false}
 use mathlib.Core.List.{List}
@@ -24,12 +24,17 @@ pub zeros : (n : ℕ) → length {A = ℕ} (replicate n 0) ≡ n
 zeros n = length-replicate n 0
 
 -- the arrays that are as long as a room says, which is no more than the limits allow
-pub record ArraysLent (room : Room) (rules definitions kernels goes closures table : List ℕ) : Type 0 where
+pub record ArraysLent (room : Room) (rules definitions kernels goes vanishes begins reached starts closures fronts table : List ℕ) : Type 0 where
   pub rules-long : length rules ≡ 10 * room .rules
   pub definitions-long : length definitions ≡ 49 * room .definitions
   pub kernels-long : length kernels ≡ 5 * room .kernels
   pub goes-long : length goes ≡ 3 * room .goes
+  pub vanishes-long : length vanishes ≡ 9 * room .rules
+  pub begins-long : length begins ≡ 9 * room .rules
+  pub reached-long : length reached ≡ 9 * room .rules
+  pub starts-long : length starts ≡ room .states + 1
   pub closures-none : closures ≡ replicate (32 * room .states) 0
+  pub fronts-long : length fronts ≡ room .states
   pub table-long : length table ≡ 64 * room .states
   pub rules-few : room .rules ≤ MAX-RULES
   pub definitions-few : room .definitions ≤ MAX-DEFINITIONS
@@ -39,14 +44,21 @@ pub record ArraysLent (room : Room) (rules definitions kernels goes closures tab
 
 -- arrays of zeros
 arrays-lent : (room : Room) → room .rules ≤ MAX-RULES → room .definitions ≤ MAX-DEFINITIONS → room .kernels ≤ MAX-KERNELS → room .goes ≤ MAX-GOES
-    → room .states ≤ MAX-STATES → ArraysLent room (replicate (10 * room .rules) 0) (replicate (49 * room .definitions) 0) (replicate (5 * room .kernels) 0) (replicate (3 * room .goes) 0)
-    (replicate (32 * room .states) 0) (replicate (64 * room .states) 0)
+    → room .states ≤ MAX-STATES
+    → ArraysLent room (replicate (10 * room .rules) 0) (replicate (49 * room .definitions) 0) (replicate (5 * room .kernels) 0)
+    (replicate (3 * room .goes) 0) (replicate (9 * room .rules) 0) (replicate (9 * room .rules) 0) (replicate (9 * room .rules) 0)
+    (replicate (room .states + 1) 0) (replicate (32 * room .states) 0) (replicate (room .states) 0) (replicate (64 * room .states) 0)
 arrays-lent room rules definitions kernels goes states = record {
   rules-long = zeros (10 * room .rules);
   definitions-long = zeros (49 * room .definitions);
   kernels-long = zeros (5 * room .kernels);
   goes-long = zeros (3 * room .goes);
+  vanishes-long = zeros (9 * room .rules);
+  begins-long = zeros (9 * room .rules);
+  reached-long = zeros (9 * room .rules);
+  starts-long = zeros (room .states + 1);
   closures-none = refl;
+  fronts-long = zeros (room .states);
   table-long = zeros (64 * room .states);
   rules-few = rules;
   definitions-few = definitions;
@@ -55,13 +67,16 @@ arrays-lent room rules definitions kernels goes states = record {
   states-few = states;
 }
 
-pub tiny-arrays : ArraysLent tinyRoom (replicate 160 0) (replicate 784 0) (replicate 80 0) (replicate 48 0) (replicate 256 0) (replicate 512 0)
+pub tiny-arrays : ArraysLent tinyRoom (replicate 160 0) (replicate 784 0) (replicate 80 0) (replicate 48 0) (replicate 144 0) (replicate 144 0)
+    (replicate 144 0) (replicate 9 0) (replicate 256 0) (replicate 8 0) (replicate 512 0)
 tiny-arrays = arrays-lent tinyRoom (omega arith) (omega arith) (omega arith) (omega arith) (omega arith)
 
-pub short-arrays : ArraysLent shortRoom (replicate 320 0) (replicate 2352 0) (replicate 320 0) (replicate 192 0) (replicate 1024 0) (replicate 2048 0)
+pub short-arrays : ArraysLent shortRoom (replicate 320 0) (replicate 2352 0) (replicate 320 0) (replicate 192 0) (replicate 288 0) (replicate 288 0)
+    (replicate 288 0) (replicate 33 0) (replicate 1024 0) (replicate 32 0) (replicate 2048 0)
 short-arrays = arrays-lent shortRoom (omega arith) (omega arith) (omega arith) (omega arith) (omega arith)
 
-pub full-arrays : ArraysLent fullRoom (replicate 640 0) (replicate 6272 0) (replicate 2560 0) (replicate 3072 0) (replicate 4096 0) (replicate 8192 0)
+pub full-arrays : ArraysLent fullRoom (replicate 640 0) (replicate 6272 0) (replicate 2560 0) (replicate 3072 0) (replicate 576 0) (replicate 576 0)
+    (replicate 576 0) (replicate 129 0) (replicate 4096 0) (replicate 128 0) (replicate 8192 0)
 full-arrays = arrays-lent fullRoom (omega arith) (omega arith) (omega arith) (omega arith) (omega arith)
 
 -- where there is room for all that the limits allow, nothing is left out
@@ -75,9 +90,9 @@ full-complete numbers = record {
 }
 
 pub compiled-whole : {room : Room} {text : List ℕ} {complete : Bool} {r : ℕ} {numbers : Book} {inherited synthesized rules definitions kernels goes : List ℕ}
-    {vanishes begins reached starts closures table actions : List ℕ}
+    {vanishes reached starts closures table actions : List ℕ}
     → room ≡ fullRoom
-    → Compiles room text complete r numbers inherited synthesized rules definitions kernels goes vanishes begins reached starts closures table actions
+    → Compiles room text complete r numbers inherited synthesized rules definitions kernels goes vanishes reached starts closures table actions
     → complete ≡ true
 compiled-whole {complete = complete} {numbers = numbers} all c = go complete refl
   where
@@ -86,15 +101,20 @@ compiled-whole {complete = complete} {numbers = numbers} all c = go complete ref
     go false e = absurd (c .left-out e (rw all (full-complete numbers)))
 
 -- the first of the words that are lent serve as the array of definitions
-pub words-lent : {room : Room} {rules definitions kernels goes closures table : List ℕ} (words : List ℕ) → length words ≡ BOOK-WORDS
-    → ArraysLent room rules definitions kernels goes closures table
-    → ArraysLent room rules (take (49 * room .definitions) words) kernels goes closures table
+pub words-lent : {room : Room} {rules definitions kernels goes vanishes begins reached starts closures fronts table : List ℕ} (words : List ℕ)
+    → length words ≡ BOOK-WORDS → ArraysLent room rules definitions kernels goes vanishes begins reached starts closures fronts table
+    → ArraysLent room rules (take (49 * room .definitions) words) kernels goes vanishes begins reached starts closures fronts table
 words-lent {room} words e lent = record {
   rules-long = lent .rules-long;
   definitions-long = length-take (49 * room .definitions) words ∙ omega (arith, e, lent .definitions-few);
   kernels-long = lent .kernels-long;
   goes-long = lent .goes-long;
+  vanishes-long = lent .vanishes-long;
+  begins-long = lent .begins-long;
+  reached-long = lent .reached-long;
+  starts-long = lent .starts-long;
   closures-none = lent .closures-none;
+  fronts-long = lent .fronts-long;
   table-long = lent .table-long;
   rules-few = lent .rules-few;
   definitions-few = lent .definitions-few;
@@ -103,7 +123,8 @@ words-lent {room} words e lent = record {
   states-few = lent .states-few;
 }
 
-module _ {room : Room} {rules definitions kernels goes closures table : List ℕ} (lent : ArraysLent room rules definitions kernels goes closures table) where
+module _ {room : Room} {rules definitions kernels goes vanishes begins reached starts closures fronts table : List ℕ}
+    (lent : ArraysLent room rules definitions kernels goes vanishes begins reached starts closures fronts table) where
   pub lines-room : Roomy room (arrays (replicate 16 0) (replicate 32 0) rules definitions kernels goes)
   lines-room = record {
     inherited-long = zeros 16;
@@ -119,14 +140,16 @@ module _ {room : Room} {rules definitions kernels goes closures table : List ℕ
   }
 
   pub tables-lent : {actions : List ℕ} → 32 * room .states ≤ length actions
-      → TablesLent room (replicate 576 0) (replicate 576 0) (replicate 576 0) (replicate 129 0) closures table actions
+      → TablesLent room vanishes begins reached starts closures fronts table actions
   tables-lent long = record {
-    vanishes-long = zeros 576;
-    begins-long = zeros 576;
-    reached-long = zeros 576;
-    starts-long = zeros 129;
+    vanishes-long = omega (arith, lent .vanishes-long);
+    begins-long = omega (arith, lent .begins-long);
+    reached-long = omega (arith, lent .reached-long);
+    starts-long = omega (arith, lent .starts-long);
     closures-none = lent .closures-none;
+    fronts-long = omega (arith, lent .fronts-long);
     table-long = lent .table-long;
     actions-long = long;
+    rules-few = lent .rules-few;
     states-few = lent .states-few;
   }

@@ -35,8 +35,8 @@ owner-small : (b : Lines) → WithinLimits b → (owners : List ℕ) → ((A : �
     → ownerAt owners K < 32
 owner-small b w owners d K h = omega (arith, d (getD owners K 32) (at-member owners K 32 h) .high, w .nonterminals-limit .high)
 
-module _ {numbers : Book} {inherited synthesized rules definitions kernels goes : List ℕ} {vanishes begins reached starts closures table actions : List ℕ}
-    {b : Lines} (h : BookReady numbers inherited synthesized rules definitions kernels goes vanishes begins reached starts closures table actions b) where
+module _ {numbers : Book} {inherited synthesized rules definitions kernels goes : List ℕ} {vanishes reached starts closures table actions : List ℕ}
+    {b : Lines} (h : BookReady numbers inherited synthesized rules definitions kernels goes vanishes reached starts closures table actions b) where
   pub asked-sides : SidesAsked numbers inherited synthesized definitions b
   asked-sides = let n = counted b (h .numbers-are) in
       let w = h .conditions-met .limits in

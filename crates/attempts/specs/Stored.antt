@@ -38,8 +38,8 @@ pub record Found (words text : List ℕ) (filled : Bool) (count : ℕ) : Type 0 
 
 -- a book that is found is taken, and in the arrays
 pub record TakenBook (numbers : Book) (inherited synthesized rules definitions kernels goes : List ℕ)
-    (vanishes begins reached starts closures table actions : List ℕ) (b : Lines) : Type 0 where
-  pub ready : BookReady numbers inherited synthesized rules definitions kernels goes vanishes begins reached starts closures table actions b
+    (vanishes reached starts closures table actions : List ℕ) (b : Lines) : Type 0 where
+  pub ready : BookReady numbers inherited synthesized rules definitions kernels goes vanishes reached starts closures table actions b
   pub spelled : Spelled b
   pub sound : Sound b
 
@@ -100,9 +100,9 @@ pub filled-found : {words text : List ℕ} {filled : Bool} {count : ℕ} → Fou
 filled-found {filled = filled} h e = rw (not-false filled e) at h
 
 module _ {words text : List ℕ} {filled : Bool} {count : ℕ} (h : Found words text filled count) (e : filled ≡ true) {r : ℕ} {numbers : Book}
-    {inherited synthesized rules definitions kernels goes : List ℕ} {vanishes begins reached starts closures table actions : List ℕ}
+    {inherited synthesized rules definitions kernels goes : List ℕ} {vanishes reached starts closures table actions : List ℕ}
     {complete : Bool} {room : Room} (whole : complete ≡ true)
-    (c : Compiles room (take count text) complete r numbers inherited synthesized rules definitions kernels goes vanishes begins reached starts closures
+    (c : Compiles room (take count text) complete r numbers inherited synthesized rules definitions kernels goes vanishes reached starts closures
     table actions)
   where
     told : r ≡ refusal (unpack words)
@@ -117,7 +117,7 @@ module _ {words text : List ℕ} {filled : Bool} {count : ℕ} (h : Found words 
     -- else there is a book
     pub found-book : r ≡ 0
         → (b : Lines) × (storedBook words ≡ some b)
-        × TakenBook numbers inherited synthesized rules definitions kernels goes vanishes begins reached starts closures table actions b
+        × TakenBook numbers inherited synthesized rules definitions kernels goes vanishes reached starts closures table actions b
     found-book z = taken-got (unpack words) (sym told ∙ z) λ b p.
         let (s, same) = found-stored words b (taken b p z) in (
           b,

@@ -48,7 +48,7 @@ pub struct Answer {
 }
 
 // What is answered of a text that was read into arrays: `complete` where they have room for it, and then the number; where that is 0, the rows and their
-// count are in place. `slots` may hold anything.
+// count are in place. `sets` and `slots` may hold anything.
 fn respond(
     compiled: Compiled,
     inherited: &[u32],
@@ -58,23 +58,23 @@ fn respond(
     kernels: &[u32],
     goes: &[u32],
     vanishes: &[u32],
-    begins: &mut [u32],
     reached: &[u32],
     starts: &[u32],
     lookaheads: &[u32],
     table: &[u8],
     actions: &[u8],
     tokens: &[u32],
+    sets: &mut [u32],
     slots: &mut [u8],
     rows: &mut [u32],
     count: &mut u32,
 ) -> Answer
     requires { ⌜ ((room : Room) × (n : ℕ) × (text : List ℕ) × Read room n text (compiled .complete) (compiled .refusal) (compiled .book) (now inherited)
-        (now synthesized) (now rules) (now definitions) (now kernels) (now goes) (now vanishes) (now begins) (now reached) (now starts) (now lookaheads)
-        (now table) (now actions) × (32 * room .states ≤ length (now slots))) ⌝ }
+        (now synthesized) (now rules) (now definitions) (now kernels) (now goes) (now vanishes) (now reached) (now starts) (now lookaheads)
+        (now table) (now actions) × (9 * room .rules ≤ length (now sets)) × (32 * room .states ≤ length (now slots))) ⌝ }
     ensures { λ r. ⌜ ((room : Room) (n : ℕ) (text : List ℕ) → Read room n text (compiled .complete) (compiled .refusal) (compiled .book)
         (now (inherited .entry)) (now (synthesized .entry)) (now (rules .entry)) (now (definitions .entry)) (now (kernels .entry)) (now (goes .entry))
-        (now (vanishes .entry)) (now (begins .entry)) (now (reached .entry)) (now (starts .entry)) (now (lookaheads .entry)) (now (table .entry))
+        (now (vanishes .entry)) (now (reached .entry)) (now (starts .entry)) (now (lookaheads .entry)) (now (table .entry))
         (now (actions .entry))
         → Attempts room text n (now (tokens .entry)) (length (now (rows .entry))) (r .complete) (r .number) (now (rows .exit)) (now (count .exit))) ⌝ }
 {
@@ -114,7 +114,7 @@ fn respond(
         table,
         actions,
         tokens,
-        begins,
+        sets,
         slots,
         rows,
     );
@@ -125,8 +125,8 @@ fn respond(
     }
 }
 
-// The answer to a message under a book whose text is the first `n` bytes of `text`, by arrays of the caller. Neither the text nor
-// `begins` is read once the book is compiled: the bytes of the one then serve as slots, the words of the other as sets.
+// The answer to a message under a book whose text is the first `n` bytes of `text`, by arrays of the caller. Of what serves until the book is compiled, the run
+// has `text` for its slots and `begins` for its sets.
 pub fn attempt(
     text: &mut [u8],
     n: usize,
@@ -135,7 +135,12 @@ pub fn attempt(
     definitions: &mut [u32],
     kernels: &mut [u32],
     goes: &mut [u32],
+    vanishes: &mut [u32],
+    begins: &mut [u32],
+    reached: &mut [u32],
+    starts: &mut [u32],
     lookaheads: &mut [u32],
+    fronts: &mut [u64],
     table: &mut [u8],
     actions: &mut [u8],
     tokens: &[u32],
@@ -144,17 +149,14 @@ pub fn attempt(
 ) -> Answer
     requires { ⌜ ((words : List ℕ) × Found words (now text) true n) × (n ≤ 5 * length (now actions) + 3) × (32 * room .states ≤ length (now actions))
         × (32 * room .states ≤ length (now text))
-        × ArraysLent room (now rules) (now definitions) (now kernels) (now goes) (now lookaheads) (now table) ⌝ }
+        × ArraysLent room (now rules) (now definitions) (now kernels) (now goes) (now vanishes) (now begins) (now reached) (now starts) (now lookaheads)
+        (now fronts) (now table) ⌝ }
     ensures { λ r. ⌜ Attempts room (now (text .entry)) n (now (tokens .entry)) (length (now (rows .entry))) (r .complete) (r .number) (now (rows .exit))
         (now (count .exit)) ⌝ }
 {
     let t = classes();
     let mut inherited = [0u32; 16];
     let mut synthesized = [0u32; 32];
-    let mut vanishes = [0u32; 576];
-    let mut begins = [0u32; 576];
-    let mut reached = [0u32; 576];
-    let mut starts = [0u32; 129];
     let compiled = compile(
         &t,
         &text[..n],
@@ -165,11 +167,12 @@ pub fn attempt(
         definitions,
         kernels,
         goes,
-        &mut vanishes,
-        &mut begins,
-        &mut reached,
-        &mut starts,
+        vanishes,
+        begins,
+        reached,
+        starts,
         lookaheads,
+        fronts,
         table,
         actions,
     );
@@ -181,14 +184,14 @@ pub fn attempt(
         definitions,
         kernels,
         goes,
-        &vanishes,
-        &mut begins,
-        &reached,
-        &starts,
+        vanishes,
+        reached,
+        starts,
         lookaheads,
         table,
         actions,
         tokens,
+        begins,
         text,
         rows,
         count,

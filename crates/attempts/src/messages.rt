@@ -1,8 +1,7 @@
 // The machine's run over a message under a book that is taken, by stacks of two sizes: short messages need few symbols, and long arrays cost time to clear.
 ghost use mathlib.Core.Path.{_≡_};
 ghost use mathlib.Core.Logic.{_≢_};
-ghost use mathlib.Core.List.{List};
-ghost use Prim.Native.Nat.{ℕ, _*_, _≤_};
+ghost use Prim.Native.Nat.{_*_, _≤_};
 ghost use lib.ListN.{length, replicate};
 ghost use Rattle.grammar.specs.Limits.{PAGE-WORDS};
 ghost use Rattle.grammar.specs.Data.Book.{Book as Lines};
@@ -65,12 +64,12 @@ fn message_on(
     records: &mut [u32],
     bounds: &mut [u32],
 ) -> Outcome
-    requires { ⌜ ((begins : List ℕ) × Some (TakenBook book (now inherited) (now synthesized) (now rules) (now definitions) (now kernels) (now goes)
-        (now vanishes) begins (now reached) (now starts) (now lookaheads) (now table) (now actions))) ⌝ }
+    requires { ⌜ Some (TakenBook book (now inherited) (now synthesized) (now rules) (now definitions) (now kernels) (now goes) (now vanishes)
+        (now reached) (now starts) (now lookaheads) (now table) (now actions)) ⌝ }
     requires { ⌜ Message (book .terminals) (now tokens) × (now rows ≡ replicate PAGE-WORDS 0)
-        × Rooms (now states) (now cells) (now records) (now bounds) (now rows) (now sets) × (32 * book .states ≤ length (now slots)) × NoneListed (now lists) ⌝ }
-    ensures { λ r. ⌜ ((begins : List ℕ) (b : Lines) → TakenBook book (now (inherited .entry)) (now (synthesized .entry)) (now (rules .entry))
-        (now (definitions .entry)) (now (kernels .entry)) (now (goes .entry)) (now (vanishes .entry)) begins (now (reached .entry)) (now (starts .entry))
+        × Rooms (book .rules) (now states) (now cells) (now records) (now bounds) (now rows) (now sets) × (32 * book .states ≤ length (now slots)) × NoneListed (now lists) ⌝ }
+    ensures { λ r. ⌜ ((b : Lines) → TakenBook book (now (inherited .entry)) (now (synthesized .entry)) (now (rules .entry))
+        (now (definitions .entry)) (now (kernels .entry)) (now (goes .entry)) (now (vanishes .entry)) (now (reached .entry)) (now (starts .entry))
         (now (lookaheads .entry)) (now (table .entry)) (now (actions .entry)) b
         → (m : Message (book .terminals) (now (tokens .entry)))
         → Final (length (now (bounds .entry))) (r .number) → Answered (evaluate b (tablesOf b) (m .list)) r (now (rows .exit))) ⌝ }
@@ -146,12 +145,12 @@ fn message_short(
     slots: &mut [u8],
     rows: &mut [u32],
 ) -> Outcome
-    requires { ⌜ ((begins : List ℕ) × Some (TakenBook book (now inherited) (now synthesized) (now rules) (now definitions) (now kernels) (now goes)
-        (now vanishes) begins (now reached) (now starts) (now lookaheads) (now table) (now actions))) ⌝ }
-    requires { ⌜ Message (book .terminals) (now tokens) × (now rows ≡ replicate PAGE-WORDS 0) × (length (now sets) ≡ 576)
+    requires { ⌜ Some (TakenBook book (now inherited) (now synthesized) (now rules) (now definitions) (now kernels) (now goes) (now vanishes)
+        (now reached) (now starts) (now lookaheads) (now table) (now actions)) ⌝ }
+    requires { ⌜ Message (book .terminals) (now tokens) × (now rows ≡ replicate PAGE-WORDS 0) × (9 * book .rules ≤ length (now sets))
         × (32 * book .states ≤ length (now slots)) ⌝ }
-    ensures { λ r. ⌜ ((begins : List ℕ) (b : Lines) → TakenBook book (now (inherited .entry)) (now (synthesized .entry)) (now (rules .entry))
-        (now (definitions .entry)) (now (kernels .entry)) (now (goes .entry)) (now (vanishes .entry)) begins (now (reached .entry)) (now (starts .entry))
+    ensures { λ r. ⌜ ((b : Lines) → TakenBook book (now (inherited .entry)) (now (synthesized .entry)) (now (rules .entry))
+        (now (definitions .entry)) (now (kernels .entry)) (now (goes .entry)) (now (vanishes .entry)) (now (reached .entry)) (now (starts .entry))
         (now (lookaheads .entry)) (now (table .entry)) (now (actions .entry)) b
         → (m : Message (book .terminals) (now (tokens .entry)))
         → r .number ≢ 17 → Answered (evaluate b (tablesOf b) (m .list)) r (now (rows .exit))) ⌝ }
@@ -207,12 +206,12 @@ fn message_full(
     slots: &mut [u8],
     rows: &mut [u32],
 ) -> Outcome
-    requires { ⌜ ((begins : List ℕ) × Some (TakenBook book (now inherited) (now synthesized) (now rules) (now definitions) (now kernels) (now goes)
-        (now vanishes) begins (now reached) (now starts) (now lookaheads) (now table) (now actions))) ⌝ }
-    requires { ⌜ Message (book .terminals) (now tokens) × (now rows ≡ replicate PAGE-WORDS 0) × (length (now sets) ≡ 576)
+    requires { ⌜ Some (TakenBook book (now inherited) (now synthesized) (now rules) (now definitions) (now kernels) (now goes) (now vanishes)
+        (now reached) (now starts) (now lookaheads) (now table) (now actions)) ⌝ }
+    requires { ⌜ Message (book .terminals) (now tokens) × (now rows ≡ replicate PAGE-WORDS 0) × (9 * book .rules ≤ length (now sets))
         × (32 * book .states ≤ length (now slots)) ⌝ }
-    ensures { λ r. ⌜ ((begins : List ℕ) (b : Lines) → TakenBook book (now (inherited .entry)) (now (synthesized .entry)) (now (rules .entry))
-        (now (definitions .entry)) (now (kernels .entry)) (now (goes .entry)) (now (vanishes .entry)) begins (now (reached .entry)) (now (starts .entry))
+    ensures { λ r. ⌜ ((b : Lines) → TakenBook book (now (inherited .entry)) (now (synthesized .entry)) (now (rules .entry))
+        (now (definitions .entry)) (now (kernels .entry)) (now (goes .entry)) (now (vanishes .entry)) (now (reached .entry)) (now (starts .entry))
         (now (lookaheads .entry)) (now (table .entry)) (now (actions .entry)) b
         → (m : Message (book .terminals) (now (tokens .entry)))
         → Answered (evaluate b (tablesOf b) (m .list)) r (now (rows .exit))) ⌝ }
@@ -268,12 +267,12 @@ pub fn message(
     slots: &mut [u8],
     rows: &mut [u32],
 ) -> Outcome
-    requires { ⌜ ((begins : List ℕ) × Some (TakenBook book (now inherited) (now synthesized) (now rules) (now definitions) (now kernels) (now goes)
-        (now vanishes) begins (now reached) (now starts) (now lookaheads) (now table) (now actions))) ⌝ }
-    requires { ⌜ Message (book .terminals) (now tokens) × (now rows ≡ replicate PAGE-WORDS 0) × (length (now sets) ≡ 576)
+    requires { ⌜ Some (TakenBook book (now inherited) (now synthesized) (now rules) (now definitions) (now kernels) (now goes) (now vanishes)
+        (now reached) (now starts) (now lookaheads) (now table) (now actions)) ⌝ }
+    requires { ⌜ Message (book .terminals) (now tokens) × (now rows ≡ replicate PAGE-WORDS 0) × (9 * book .rules ≤ length (now sets))
         × (32 * book .states ≤ length (now slots)) ⌝ }
-    ensures { λ r. ⌜ ((begins : List ℕ) (b : Lines) → TakenBook book (now (inherited .entry)) (now (synthesized .entry)) (now (rules .entry))
-        (now (definitions .entry)) (now (kernels .entry)) (now (goes .entry)) (now (vanishes .entry)) begins (now (reached .entry)) (now (starts .entry))
+    ensures { λ r. ⌜ ((b : Lines) → TakenBook book (now (inherited .entry)) (now (synthesized .entry)) (now (rules .entry))
+        (now (definitions .entry)) (now (kernels .entry)) (now (goes .entry)) (now (vanishes .entry)) (now (reached .entry)) (now (starts .entry))
         (now (lookaheads .entry)) (now (table .entry)) (now (actions .entry)) b
         → (m : Message (book .terminals) (now (tokens .entry)))
         → Answered (evaluate b (tablesOf b) (m .list)) r (now (rows .exit))) ⌝ }

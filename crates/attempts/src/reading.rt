@@ -23,24 +23,26 @@ pub fn attempt(
     rules: &mut [u32],
     kernels: &mut [u32],
     goes: &mut [u32],
+    vanishes: &mut [u32],
+    begins: &mut [u32],
+    reached: &mut [u32],
+    starts: &mut [u32],
     lookaheads: &mut [u32],
+    fronts: &mut [u64],
     table: &mut [u8],
     actions: &mut [u8],
     words: &mut [u32],
 ) -> Answer
     requires { ⌜ (length (now text) ≤ MAX-TEXT) × (length (now words) ≡ BOOK-WORDS)
         × WaitsRoom (now text) (now actions) × (32 * room .states ≤ length (now actions))
-        × ArraysLent room (now rules) (take (49 * room .definitions) (now words)) (now kernels) (now goes) (now lookaheads) (now table) ⌝ }
+        × ArraysLent room (now rules) (take (49 * room .definitions) (now words)) (now kernels) (now goes) (now vanishes) (now begins)
+        (now reached) (now starts) (now lookaheads) (now fronts) (now table) ⌝ }
     ensures { λ r. ⌜ Attempted room (now (text .entry)) (r .complete) (r .refusal) ⌝ }
 {
     let t = classes();
     let size = 49 * room.definitions;
     let mut inherited = [0u32; 16];
     let mut synthesized = [0u32; 32];
-    let mut vanishes = [0u32; 576];
-    let mut begins = [0u32; 576];
-    let mut reached = [0u32; 576];
-    let mut starts = [0u32; 129];
     let compiled = compile(
         &t,
         text,
@@ -51,11 +53,12 @@ pub fn attempt(
         &mut words[..size],
         kernels,
         goes,
-        &mut vanishes,
-        &mut begins,
-        &mut reached,
-        &mut starts,
+        vanishes,
+        begins,
+        reached,
+        starts,
         lookaheads,
+        fronts,
         table,
         actions,
     );

@@ -1,5 +1,5 @@
 -- What the one-formula check asks of a book, from conditions 2 to 6. Assumes nothing.
-use Prim.Native.Nat.{ℕ, zero, suc, _<_, _≤_}
+use Prim.Native.Nat.{ℕ, zero, suc, _*_, _<_, _≤_}
 use native.Mathlib.Omega.{arith}
 use mathlib.Core.Path.{_≡_}
 use mathlib.Core.List.{List}
@@ -37,7 +37,7 @@ module _ {b : Book} (ordered : Ordered b) (limits : WithinLimits b) (declared : 
   left-right (suc P) l = omega (arith, declared .left-sides (suc P) (omega arith) l .high, limits .nonterminals-limit .high)
 
   pub check-held : {definitions rules sets masks : List ℕ} → DefinitionsIn (b .inheritedDefinitions) (b .synthesizedDefinitions) definitions
-      → RulesIn (b .rules) rules → OwnedIn (b .inheritedOwners) (attributes b) sets → length masks ≡ 576 → CheckHeld b definitions rules sets masks
+      → RulesIn (b .rules) rules → OwnedIn (b .inheritedOwners) (attributes b) sets → 9 * length (b .rules) ≤ length masks → CheckHeld b definitions rules sets masks
   check-held D R O m = record {
     definitions-in = D;
     rules-in = R;

@@ -40,7 +40,7 @@ pub record CheckHeld (b : Book) (definitions rules owned masks : List ℕ) : Typ
   pub definitions-in : DefinitionsIn (b .inheritedDefinitions) (b .synthesizedDefinitions) definitions
   pub rules-in : RulesIn (b .rules) rules
   pub owned-in : OwnedIn (b .inheritedOwners) (attributes b) owned
-  pub masks-long : length masks ≡ 576
+  pub masks-long : 9 * length (b .rules) ≤ length masks
   pub premises : DefinitionPremises b
   pub line-in : (d : ℕ) → d < FormulaCheck.definitions b → LineIn b d
   pub left-low : (P : ℕ) → P < length (b .rules) → leftOf (b .rules) P < 32

@@ -67,8 +67,11 @@ module _ {b : Book} {definitions rules owned masks : List ℕ} (H : CheckHeld b 
   pub line-below : 49 * d + 49 ≤ length definitions
   line-below = omega (arith, H .definitions-in .long, H .definitions-in .fits)
 
+  pub rule-there : getD definitions (49 * d) 0 < length (b .rules)
+  rule-there = omega (arith, rule-word, H .line-in d l .rule-there)
+
   pub rule-low : getD definitions (49 * d) 0 < 64
-  rule-low = omega (arith, rule-word, H .line-in d l .rule-there, H .rules-in .fits)
+  rule-low = omega (arith, rule-there, H .rules-in .fits)
 
   pub rule-place : 10 * getD definitions (49 * d) 0 + 10 ≤ length rules
   rule-place = omega (arith, rule-word, H .line-in d l .rule-there, H .rules-in .long)

@@ -86,7 +86,7 @@ module _ {G : List Rule} {rules looks words : List ℕ} {first : ℕ} (L : Looks
       let M = setAt looks (leftOf G P) in
       let is = look e in
       rw (is, entered-more P M items (λ z. n (is ∙ z)))
-      (marks-item G F R H P 0 M p (L .rules-in .fits) (omega arith))
+      (marks-item G F R H P 0 M p (omega arith))
 
 module _ (b : Book) (looks : List ℕ) where
   abbrev found : ℕ → ℕ

@@ -19,7 +19,6 @@ use Rattle.attributes.specs.Marks.{MarksIn, marks-item}
 -- kernel lines in an array, each with its dot in a rule of the grammar
 pub record ItemLinesIn (G : List Rule) (ks : List Kernel) (kernels : List ℕ) : Type 0 where
   pub kernels-in : KernelsIn ks kernels
-  pub few-rules : length G ≤ 64
   pub rule-there : (i : ℕ) → i < length ks → kernelAt ks i .rule < length G
   pub dot-there : (i : ℕ) → i < length ks → kernelAt ks i .dot ≤ length (rightOf G (kernelAt ks i .rule))
   pub short : (i : ℕ) → i < length ks → kernelAt ks i .dot ≤ 8
@@ -34,7 +33,7 @@ module _ {G : List Rule} {ks : List Kernel} {kernels : List ℕ} (L : ItemLinesI
   line-below = omega (arith, L .kernels-in .long, L .kernels-in .fits)
 
   module _ {rule dot : ℕ} (rule-is : rule ≡ getD kernels (5 * i + 1) 0) (dot-is : dot ≡ getD kernels (5 * i + 2) 0) where
-    pub item-place : 9 * rule + dot < 576
+    pub item-place : 9 * rule + dot < 9 * length G
     item-place =
         omega (
           arith,
@@ -43,7 +42,6 @@ module _ {G : List Rule} {ks : List Kernel} {kernels : List ℕ} (L : ItemLinesI
           L .kernels-in .rule-is i h,
           L .kernels-in .dot-is i h,
           L .rule-there i h,
-          L .few-rules,
           L .short i h,
         )
 
@@ -65,7 +63,7 @@ module _ {G : List Rule} {ks : List Kernel} {kernels : List ℕ} (L : ItemLinesI
     line-marks {F} {R} H =
         rw (rule-same, dot-same, L .kernels-in .set-is i h)
         (marks-item G F R H (kernelAt ks i .rule) (kernelAt ks i .dot) (setOf (kernelAt ks i .lookaheads))
-        (L .rule-there i h) (L .few-rules) (omega (arith, L .short i h)))
+        (L .rule-there i h) (omega (arith, L .short i h)))
 
 -- the lines from one up to another
 

@@ -18,17 +18,27 @@ use Rattle.grammar.specs.Automaton.FirstSets.{Sets}
 use Rattle.grammar.specs.Automaton.ReachSets.{reachWith}
 use Rattle.grammar.specs.Automaton.CoreItems.{Core, core}
 
+-- words for the items of all rules, in three arrays
+pub record MarksRoom (G : List Rule) (nulls reaches masks : List ℕ) : Type 0 where
+  pub nulls-long : 9 * length G ≤ length nulls
+  pub reaches-long : 9 * length G ≤ length reaches
+  pub masks-long : 9 * length G ≤ length masks
+
+pub room-kept : {G : List Rule} {nulls reaches masks more : List ℕ} → MarksRoom G nulls reaches masks → length more ≡ length masks
+    → MarksRoom G nulls reaches more
+room-kept H e = record { nulls-long = H .nulls-long; reaches-long = H .reaches-long; masks-long = omega (arith, e, H .masks-long) }
+
 module _ (G : List Rule) (F : Sets) (R : List ℕ) where
   -- an entry for the item (P, D) that reaches a
   abbrev pub ItemReaches : List Core → ℕ → ℕ → ℕ → Type 0
   ItemReaches items P D a = (M : ℕ) × Mem (core P D M) items × (bit (reachWith F R (after G P D) M) a ≡ true)
 
   pub record MarksIn (items : List Core) (masks : List ℕ) : Type 0 where
-    pub long : length masks ≡ 576
+    pub long : 9 * length G ≤ length masks
     pub mark-is : (P D a : ℕ) → P < length G → D < 9 → a < 32 → Decides (bit (getD masks (9 * P + D) 0) a) (ItemReaches items P D a)
 
   -- no items: the words of the rules are 0
-  pub marks-none : {n : ℕ} (rest : List ℕ) → n ≡ 9 * length G → length (replicate n 0 ++ rest) ≡ 576 → MarksIn [] (replicate n 0 ++ rest)
+  pub marks-none : {n : ℕ} (rest : List ℕ) → n ≡ 9 * length G → 9 * length G ≤ length (replicate n 0 ++ rest) → MarksIn [] (replicate n 0 ++ rest)
   unfolding empty
   marks-none {n} rest e long = record {
     long = long;
@@ -43,7 +53,7 @@ module _ (G : List Rule) (F : Sets) (R : List ℕ) where
           ∙ bit-empty a
 
   -- the item (Q, E) with the lookaheads N besides
-  module _ {items : List Core} {masks : List ℕ} (H : MarksIn items masks) (Q E N : ℕ) (q : Q < length G) (few : length G ≤ 64) (e : E < 9) where
+  module _ {items : List Core} {masks : List ℕ} (H : MarksIn items masks) (Q E N : ℕ) (q : Q < length G) (e : E < 9) where
     abbrev place : ℕ
     place = 9 * Q + E
 
@@ -85,7 +95,7 @@ module _ (G : List Rule) (F : Sets) (R : List ℕ) where
 
     pub marks-item : MarksIn (core Q E N ∷ items) more
     marks-item = record {
-      long = length-set masks place (union (getD masks place 0) reach) ∙ H .long;
+      long = omega (arith, length-set masks place (union (getD masks place 0) reach), H .long);
       mark-is = λ P D a p d l. by P D a p d l (ℕ-discrete (9 * P + D) place);
     }
       where

@@ -21,7 +21,7 @@ use Rattle.grammar.specs.Formulas.FormulaCheckAll.{CoreIn}
 use Rattle.book.specs.Held.{kernelAt}
 use Rattle.items.specs.RestSets.{RestSetsIn}
 use Rattle.automaton.specs.StatesIn.{ItemsIn, Range, kernel-there, state-range, state-starts}
-use Rattle.attributes.specs.Marks.{MarksIn, marks-none}
+use Rattle.attributes.specs.Marks.{MarksIn, MarksRoom, marks-none}
 use Rattle.attributes.specs.Checking.{CheckHeld}
 use Rattle.attributes.specs.MarkFronts.{LooksIn, fronts, fronts-in, fronts-have}
 use Rattle.attributes.specs.MarkLines.{ItemLinesIn}
@@ -33,24 +33,31 @@ pub record MarksHeld (b : Book) (rules kernels starts closures nulls firsts reac
 
 -- the sets of a state's items, where definitions are of them
 pub record StateMarksIn (b : Book) (S : ℕ) (masks : List ℕ) : Type 0 where
-  pub long : length masks ≡ 576
+  pub long : 9 * length (b .rules) ≤ length masks
   pub mark-is : (d a : ℕ) → d < grammar.definitions b → a < 32
       → Decides (bit (getD masks (9 * lineAt b d .rule + dotOf (lineAt b d)) 0) a)
       (CoreIn b (setsOf (b .rules)) (reachSets (b .rules) (setsOf (b .rules))) S a (lineAt b d .rule) (dotOf (lineAt b d)))
 
 -- the sets of no items
 pub marks-cleared : (b : Book) (F : Sets) (R : List ℕ) (masks : List ℕ) {count : ℕ} {cleared : List ℕ} → count ≡ length (b .rules)
-    → cleared ≡ replicate (9 * count) 0 ++ drop (9 * count) masks → length cleared ≡ 576 → MarksIn (b .rules) F R [] cleared
+    → cleared ≡ replicate (9 * count) 0 ++ drop (9 * count) masks → 9 * length (b .rules) ≤ length cleared → MarksIn (b .rules) F R [] cleared
 marks-cleared b F R masks {count} c e l = rw e (marks-none (b .rules) F R (drop (9 * count) masks) (ap (λ (n : ℕ). 9 * n) c) (rw e at l))
 
 module _ {b : Book} {rules kernels starts closures nulls firsts reaches : List ℕ} (H : MarksHeld b rules kernels starts closures nulls firsts reaches) where
+  pub marks-room : {definitions owned cleared masks : List ℕ} → CheckHeld b definitions rules owned cleared → length masks ≡ length cleared
+      → MarksRoom (b .rules) nulls reaches masks
+  marks-room C e = record {
+    nulls-long = H .rests-in .suffixes-in .nulls-long;
+    reaches-long = H .rests-in .reaches-in .long;
+    masks-long = omega (arith, e, C .masks-long);
+  }
+
   pub item-lines : ItemLinesIn (b .rules) (b .kernels) kernels
   item-lines =
       let states = H .items-in .states-in in
       let declared = states .grammar-in .declared in
       record {
         kernels-in = states .kernels-in;
-        few-rules = states .grammar-in .rules-in .fits;
         rule-there = λ i h. kernel-there declared i h .rule-there;
         dot-there = λ i h. kernel-there declared i h .dot-there;
         short = λ i h.

@@ -14,7 +14,7 @@ ghost use Rattle.grammar.specs.Automaton.CoreItems.{Core, entered, ofKernels};
 ghost use Rattle.grammar.specs.Formulas.FormulaCheck as grammar;
 ghost use Rattle.items.specs.Arrays.{SuffixesIn, ReachesIn};
 ghost use Rattle.attributes.specs.Checking.{CheckHeld};
-ghost use Rattle.attributes.specs.Marks.{MarksIn};
+ghost use Rattle.attributes.specs.Marks.{MarksIn, MarksRoom};
 ghost use Rattle.attributes.specs.MarkFronts.{LooksIn, fronts};
 ghost use Rattle.attributes.specs.MarkLines.{ItemLinesIn, itemOf};
 ghost use Rattle.attributes.specs.StateMarks.{MarksHeld, StateMarksIn};
@@ -59,7 +59,7 @@ fn mark_rule(
     masks: &mut [u32],
 )
     requires { ⌜ ((G : List Rule) × (L : List ℕ) × LooksIn G (now rules) L (now looks) first × (rule < length G)) × (first + 32 ≤ length (now looks))
-        × (length (now nulls) ≡ 576) × (length (now reaches) ≡ 576) × (length (now masks) ≡ 576) ⌝ }
+        × (9 * rule < length (now nulls)) × (9 * rule < length (now reaches)) × (9 * rule < length (now masks)) ⌝ }
     ensures { λ _. ⌜ ((G : List Rule) (F : Sets) (R firsts L : List ℕ) (items : List Core) → LooksIn G (now (rules .entry)) L (now (looks .entry)) first
         → rule < length G → SuffixesIn G F (now (nulls .entry)) firsts → ReachesIn G F R (now (reaches .entry)) → MarksIn G F R items (now (masks .entry))
         → MarksIn G F R (entered rule (setAt L (leftOf G rule)) items) (now (masks .exit))) ⌝ }
@@ -84,8 +84,8 @@ fn mark_front(
     masks: &mut [u32],
 )
     requires { ⌜ ((b : Book) × (owned : List ℕ) × (cleared : List ℕ) × (L : List ℕ) × CheckHeld b (now definitions) (now rules) owned cleared
-        × LooksIn (b .rules) (now rules) L (now looks) first × (line < grammar.definitions b)) × (first + 32 ≤ length (now looks))
-        × (length (now nulls) ≡ 576) × (length (now reaches) ≡ 576) × (length (now masks) ≡ 576) ⌝ }
+        × LooksIn (b .rules) (now rules) L (now looks) first × (line < grammar.definitions b)
+        × MarksRoom (b .rules) (now nulls) (now reaches) (now masks)) × (first + 32 ≤ length (now looks)) ⌝ }
     ensures { λ _. ⌜ ((b : Book) (F : Sets) (R firsts owned cleared L : List ℕ) → CheckHeld b (now (definitions .entry)) (now (rules .entry)) owned cleared
         → LooksIn (b .rules) (now (rules .entry)) L (now (looks .entry)) first → line < grammar.definitions b
         → SuffixesIn (b .rules) F (now (nulls .entry)) firsts → ReachesIn (b .rules) F R (now (reaches .entry))
@@ -110,8 +110,8 @@ fn mark_fronts(
     masks: &mut [u32],
 )
     requires { ⌜ ((b : Book) × (owned : List ℕ) × (cleared : List ℕ) × (L : List ℕ) × CheckHeld b (now definitions) (now rules) owned cleared
-        × LooksIn (b .rules) (now rules) L (now looks) first × (lines ≡ grammar.definitions b)) × (first + 32 ≤ length (now looks))
-        × (length (now nulls) ≡ 576) × (length (now reaches) ≡ 576) × (length (now masks) ≡ 576) ⌝ }
+        × LooksIn (b .rules) (now rules) L (now looks) first × (lines ≡ grammar.definitions b)
+        × MarksRoom (b .rules) (now nulls) (now reaches) (now masks)) × (first + 32 ≤ length (now looks)) ⌝ }
     ensures { λ _. ⌜ ((b : Book) (F : Sets) (R firsts owned cleared L : List ℕ) → CheckHeld b (now (definitions .entry)) (now (rules .entry)) owned cleared
         → LooksIn (b .rules) (now (rules .entry)) L (now (looks .entry)) first → lines ≡ grammar.definitions b
         → SuffixesIn (b .rules) F (now (nulls .entry)) firsts → ReachesIn (b .rules) F R (now (reaches .entry))
@@ -129,8 +129,8 @@ fn mark_fronts(
 
 // The item of kernel line i.
 fn mark_line(kernels: &[u32], i: usize, nulls: &[u32], reaches: &[u32], masks: &mut [u32])
-    requires { ⌜ ((G : List Rule) × (ks : List Kernel) × ItemLinesIn G ks (now kernels) × (i < length ks))
-        × (length (now nulls) ≡ 576) × (length (now reaches) ≡ 576) × (length (now masks) ≡ 576) ⌝ }
+    requires { ⌜ ((G : List Rule) × (ks : List Kernel) × ItemLinesIn G ks (now kernels) × (i < length ks)
+        × MarksRoom G (now nulls) (now reaches) (now masks)) ⌝ }
     ensures { λ _. ⌜ ((G : List Rule) (F : Sets) (R firsts : List ℕ) (ks : List Kernel) (items : List Core) → ItemLinesIn G ks (now (kernels .entry))
         → i < length ks → SuffixesIn G F (now (nulls .entry)) firsts → ReachesIn G F R (now (reaches .entry)) → MarksIn G F R items (now (masks .entry))
         → MarksIn G F R (itemOf ks i ∷ items) (now (masks .exit))) ⌝ }
@@ -149,8 +149,8 @@ fn mark_lines(
     reaches: &[u32],
     masks: &mut [u32],
 )
-    requires { ⌜ ((G : List Rule) × (ks : List Kernel) × ItemLinesIn G ks (now kernels) × (last ≤ length ks)) × (first ≤ last)
-        × (length (now nulls) ≡ 576) × (length (now reaches) ≡ 576) × (length (now masks) ≡ 576) ⌝ }
+    requires { ⌜ ((G : List Rule) × (ks : List Kernel) × ItemLinesIn G ks (now kernels) × (last ≤ length ks)
+        × MarksRoom G (now nulls) (now reaches) (now masks)) × (first ≤ last) ⌝ }
     ensures { λ _. ⌜ ((G : List Rule) (F : Sets) (R firsts : List ℕ) (ks : List Kernel) (items : List Core) → ItemLinesIn G ks (now (kernels .entry))
         → last ≤ length ks → SuffixesIn G F (now (nulls .entry)) firsts → ReachesIn G F R (now (reaches .entry)) → MarksIn G F R items (now (masks .entry))
         → MarksIn G F R (ofKernels (slice first last ks) ++ items) (now (masks .exit))) ⌝ }
@@ -163,7 +163,7 @@ fn mark_lines(
 }
 
 // Sets that have nothing, in the first words.
-fn clear(masks: &mut [u32], n: usize)
+pub fn clear(masks: &mut [u32], n: usize)
     requires { ⌜ n ≤ length (now masks) ⌝ }
     ensures { λ _. ⌜ now (masks .exit) ≡ replicate n 0 ++ drop n (now (masks .entry)) ⌝ }
 {

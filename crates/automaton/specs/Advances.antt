@@ -108,8 +108,11 @@ module _ {b : Book} {rules kernels starts table : List ℕ} (h : MovesIn b rules
     pub target-range : let T : ℕ = getD table (64 * S + symbol) 0 in Range b T (getD starts T 0) (getD starts (T + 1) 0)
     target-range = state-range (h .states-in) (getD table (64 * S + symbol) 0) (led 0 .target-is)
 
+    pub target-within : getD table (64 * S + symbol) 0 < b .states
+    target-within = led 0 .target-is
+
     pub target-low : getD table (64 * S + symbol) 0 < MAX-STATES
-    target-low = omega (arith, led 0 .target-is, h .states-in .grammar-in .limits .states-limit .high)
+    target-low = omega (arith, target-within, h .states-in .grammar-in .limits .states-limit .high)
 
     pub advances-found : (M : ℕ) {r : Bool} {first last : ℕ} → first ≡ getD starts (getD table (64 * S + symbol) 0) 0
         → last ≡ getD starts (getD table (64 * S + symbol) 0 + 1) 0

@@ -11,7 +11,6 @@ use mathlib.Core.List.{List}
 use lib.ListN.{length, getD, set, length-set}
 use lib.Seq.{getD-set-same, getD-set-other}
 use Rattle.sets.specs.Sets.{bit}
-use Rattle.grammar.specs.Limits.{MAX-STATES}
 use Rattle.grammar.specs.Data.Symbol.{Rule, leftOf}
 use Rattle.grammar.specs.Data.Book.{Book}
 use Rattle.grammar.specs.Automaton.Fixpoint.{setAt}
@@ -37,7 +36,7 @@ FrontsIn b rules closures fronts = Fronts rules (length (b .rules)) closures (b 
 
 -- what filling asks, of a book's rules and closures
 pub fronts-asked : {b : Book} {F : Sets} {rules closures : List ℕ} → GrammarIn b rules → ClosuresIn b F closures → {count states : ℕ}
-    → count ≡ length (b .rules) → states ≡ b .states → (fronts : List ℕ) → length fronts ≡ MAX-STATES
+    → count ≡ length (b .rules) → states ≡ b .states → (fronts : List ℕ) → states ≤ length fronts
     → (10 * count ≤ length rules) × (count ≤ 64) × ((P : ℕ) → P < count → getD rules (10 * P) 0 < 32) × (32 * states ≤ length closures)
     × (states ≤ length fronts)
 fronts-asked g k c s fronts e = (
@@ -45,7 +44,7 @@ fronts-asked g k c s fronts e = (
   omega (arith, g .rules-in .fits),
   λ P l. rule-low g P (omega arith) .left-low,
   omega (arith, k .long),
-  omega (arith, g .limits .states-limit .high),
+  e,
 )
 
 pub fronts-none : (rules : List ℕ) (count : ℕ) (closures fronts : List ℕ) → Fronts rules count closures 0 fronts

@@ -101,6 +101,10 @@ module _ {b : Book} {rules kernels starts : List ℕ} (h : StatesIn b rules kern
         dot-low = omega (arith, h .kernels-in .dot-is i l, d .dot-there, right-length (h .grammar-in .limits) (k .rule));
       }
 
+  -- its rule is one of the book's
+  pub kernel-rule : (i : ℕ) → i < length (b .kernels) → getD kernels (5 * i + 1) 0 < length (b .rules)
+  kernel-rule i l = omega (arith, h .kernels-in .rule-is i l, kernel-there (h .grammar-in .declared) i l .rule-there)
+
   -- the starts ascend to the number of lines
   start-within : (left S : ℕ) → S + left ≡ b .states → getD starts S 0 ≤ length (b .kernels)
   start-within zero S e = let z : S ≡ b .states = omega arith in rw z (omega (arith, h .starts-in .last-is))

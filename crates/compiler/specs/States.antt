@@ -1,6 +1,6 @@
 -- A book that is spelled right (2), within the limits (3) and declared (4), in the arrays from which its states are worked out; the arrays that are
 -- filled; and the first of 7, 8 and 9 that applies. Assumes nothing.
-use Prim.Native.Nat.{ℕ, _*_, _<_, _≤_}
+use Prim.Native.Nat.{ℕ, _+_, _*_, _<_, _≤_}
 use mathlib.Core.Path.{_≡_, sym, ap, _∙_}
 use mathlib.Core.Bool.{Bool, true, false}
 use mathlib.Core.List.{List}
@@ -78,38 +78,44 @@ pub record TablesIn (b : Book) (vanishes begins reached starts closures table ac
   pub table-in : GoTableIn b table
   pub actions-in : ActionsIn b (setsOf (b .rules)) actions
 
--- the arrays as they are lent, with room for the states of a book within the limits
-pub record TablesRoom (states : ℕ) (vanishes begins reached starts closures table actions : List ℕ) : Type 0 where
-  pub vanishes-long : length vanishes ≡ 9 * MAX-RULES
-  pub begins-long : length begins ≡ 9 * MAX-RULES
-  pub reached-long : length reached ≡ 9 * MAX-RULES
-  pub starts-long : length starts ≡ 129
+-- the arrays as they are lent, with room for the rules and the states of a book within the limits
+pub record TablesRoom (rules states : ℕ) (vanishes begins reached starts closures fronts table actions : List ℕ) : Type 0 where
+  pub vanishes-long : rules ≤ MAX-RULES → 9 * rules ≤ length vanishes
+  pub begins-long : rules ≤ MAX-RULES → 9 * rules ≤ length begins
+  pub reached-long : rules ≤ MAX-RULES → 9 * rules ≤ length reached
+  pub starts-long : states ≤ MAX-STATES → states + 1 ≤ length starts
   pub closures-blank : states ≤ MAX-STATES → Blank states closures
+  pub fronts-long : states ≤ MAX-STATES → states ≤ length fronts
   pub table-long : states ≤ MAX-STATES → 64 * states ≤ length table
   pub actions-long : states ≤ MAX-STATES → 32 * states ≤ length actions
 
 -- the same, with as much room as is said
-pub record TablesLent (room : Room) (vanishes begins reached starts closures table actions : List ℕ) : Type 0 where
-  pub vanishes-long : length vanishes ≡ 9 * MAX-RULES
-  pub begins-long : length begins ≡ 9 * MAX-RULES
-  pub reached-long : length reached ≡ 9 * MAX-RULES
-  pub starts-long : length starts ≡ 129
+pub record TablesLent (room : Room) (vanishes begins reached starts closures fronts table actions : List ℕ) : Type 0 where
+  pub vanishes-long : 9 * room .rules ≤ length vanishes
+  pub begins-long : 9 * room .rules ≤ length begins
+  pub reached-long : 9 * room .rules ≤ length reached
+  pub starts-long : room .states + 1 ≤ length starts
   pub closures-none : closures ≡ replicate (32 * room .states) 0
+  pub fronts-long : room .states ≤ length fronts
   pub table-long : length table ≡ 64 * room .states
   pub actions-long : 32 * room .states ≤ length actions
+  pub rules-few : room .rules ≤ MAX-RULES
   pub states-few : room .states ≤ MAX-STATES
 
 -- actions may be written over before they are filled
-pub actions-kept : {room : Room} {vanishes begins reached starts closures table actions new : List ℕ} → length new ≡ length actions
-    → TablesLent room vanishes begins reached starts closures table actions → TablesLent room vanishes begins reached starts closures table new
+pub actions-kept : {room : Room} {vanishes begins reached starts closures fronts table actions new : List ℕ} → length new ≡ length actions
+    → TablesLent room vanishes begins reached starts closures fronts table actions
+    → TablesLent room vanishes begins reached starts closures fronts table new
 actions-kept e t = record {
   vanishes-long = t .vanishes-long;
   begins-long = t .begins-long;
   reached-long = t .reached-long;
   starts-long = t .starts-long;
   closures-none = t .closures-none;
+  fronts-long = t .fronts-long;
   table-long = t .table-long;
   actions-long = omega (arith, t .actions-long);
+  rules-few = t .rules-few;
   states-few = t .states-few;
 }
 
@@ -118,19 +124,25 @@ pub states-enough : {room : Room} {numbers : Counts} → Complete room numbers �
     → numbers .states ≤ room .states
 states-enough {room} fit few low = by-less (room .states) MAX-STATES (λ less. fit .states-fit less) (λ all. omega arith)
 
-pub tables-room : {room : Room} {numbers : Counts} {vanishes begins reached starts closures table actions : List ℕ} → Complete room numbers
-    → TablesLent room vanishes begins reached starts closures table actions
-    → TablesRoom (numbers .states) vanishes begins reached starts closures table actions
+-- so have its rules
+pub rules-enough : {room : Room} {numbers : Counts} → Complete room numbers → room .rules ≤ MAX-RULES → numbers .rules ≤ MAX-RULES
+    → numbers .rules ≤ room .rules
+rules-enough {room} fit few low = by-less (room .rules) MAX-RULES (λ less. fit .rules-fit less) (λ all. omega arith)
+
+pub tables-room : {room : Room} {numbers : Counts} {vanishes begins reached starts closures fronts table actions : List ℕ} → Complete room numbers
+    → TablesLent room vanishes begins reached starts closures fronts table actions
+    → TablesRoom (numbers .rules) (numbers .states) vanishes begins reached starts closures fronts table actions
 tables-room {room} {numbers} {closures = closures} fit t =
     record {
-      vanishes-long = t .vanishes-long;
-      begins-long = t .begins-long;
-      reached-long = t .reached-long;
-      starts-long = t .starts-long;
+      vanishes-long = λ few. omega (arith, t .vanishes-long, rules-enough fit (t .rules-few) few);
+      begins-long = λ few. omega (arith, t .begins-long, rules-enough fit (t .rules-few) few);
+      reached-long = λ few. omega (arith, t .reached-long, rules-enough fit (t .rules-few) few);
+      starts-long = λ few. omega (arith, t .starts-long, enough few);
       closures-blank = λ few. record {
         long = omega (arith, closures-long, enough few);
         none = t .closures-none ∙ ap (λ (n : ℕ). replicate n 0) (sym closures-long);
       };
+      fronts-long = λ few. omega (arith, t .fronts-long, enough few);
       table-long = λ few. omega (arith, t .table-long, enough few);
       actions-long = λ few. omega (arith, t .actions-long, enough few);
     }
@@ -163,7 +175,7 @@ module _ {b : Book} {rules kernels : List ℕ} {states : ℕ} (h : KernelsHeld b
   rules-held = record { limits = h .limits; declared = h .declared; rules-in = h .rules-in }
 
   module _ {count : ℕ} (e : count ≡ length (b .rules)) {closures : List ℕ} where
-    pub ask-fronts : ClosuresIn b (setsOf (b .rules)) closures → (fronts : List ℕ) → length fronts ≡ MAX-STATES
+    pub ask-fronts : ClosuresIn b (setsOf (b .rules)) closures → (fronts : List ℕ) → states ≤ length fronts
         → (10 * count ≤ length rules) × (count ≤ 64) × ((P : ℕ) → P < count → getD rules (10 * P) 0 < 32) × (32 * states ≤ length closures)
         × (states ≤ length fronts)
     ask-fronts C fronts l = fronts-asked rules-held C e (h .states-are) fronts l

@@ -2,10 +2,10 @@
 // A contract asks that the arrays hold some book, and says what it says of every book that they hold.
 ghost use mathlib.Core.Path.{_≡_};
 ghost use mathlib.Core.List.{List};
-ghost use Prim.Native.Nat.{ℕ};
+ghost use Prim.Native.Nat.{ℕ, _*_, _≤_};
 ghost use lib.ListN.{length};
 ghost use Rattle.text.specs.Reading.{Lent};
-ghost use Rattle.grammar.specs.Limits.{MAX-INHERITED, MAX-STATES};
+ghost use Rattle.grammar.specs.Limits.{MAX-INHERITED};
 ghost use Rattle.grammar.specs.Data.Book.{Book as Lines};
 ghost use Rattle.definitions.specs.Expressions.{WaitsRoom};
 ghost use Rattle.book.specs.Held.{OwnersIn};
@@ -105,12 +105,12 @@ fn prepare(
     cells: &mut [u8],
 ) -> u32
     requires { ⌜ Some (BookKept book (now inherited) (now synthesized) (now rules) (now definitions) (now kernels) (now goes)) ⌝ }
-    requires { ⌜ TablesRoom (book .states) (now vanishes) (now begins) (now reached) (now starts) (now lookaheads) (now table) (now cells)
-        × (length (now fronts) ≡ MAX-STATES) ⌝ }
+    requires { ⌜ TablesRoom (book .rules) (book .states) (now vanishes) (now begins) (now reached) (now starts) (now lookaheads) (now fronts) (now table)
+        (now cells) ⌝ }
     ensures { λ r. ⌜ ((b : Lines) → BookKept book (now (inherited .entry)) (now (synthesized .entry)) (now (rules .entry)) (now (definitions .entry))
         (now (kernels .entry)) (now (goes .entry)) b
         → Prepared r book (now (inherited .entry)) (now (synthesized .entry)) (now (rules .entry)) (now (definitions .entry)) (now (kernels .entry))
-        (now (goes .entry)) (now (vanishes .exit)) (now (begins .exit)) (now (reached .exit)) (now (starts .exit)) (now (lookaheads .exit))
+        (now (goes .entry)) (now (vanishes .exit)) (now (reached .exit)) (now (starts .exit)) (now (lookaheads .exit))
         (now (fronts .exit)) (now (table .exit)) (now (cells .exit)) b) ⌝ }
 {
     let first = conditions(
@@ -145,8 +145,8 @@ fn prepare(
     )
 }
 
-// Whether each attribute has one formula in every partial state (10): most books give each once, and have nothing to compare. Where formulas are
-// compared there is room for their nodes, 15 of each definition; most books have few.
+// Whether each attribute has one formula in every partial state (10): most books give each once, and have nothing to compare. `given` is room for what
+// definitions give. Where formulas are compared there is room for their nodes, 15 of each definition; most books have few.
 fn formulas_right(
     book: Book,
     inherited: &[u32],
@@ -158,22 +158,26 @@ fn formulas_right(
     fronts: &[u64],
     vanishes: &[u32],
     reached: &[u32],
+    given: &mut [u32],
 ) -> bool
     requires { ⌜ ((b : Lines) × (begins : List ℕ) × FrontsHeld b (now rules) (book .rules) (now definitions) (book .«inherited_definitions») (now kernels)
         (now starts) (now lookaheads) (now fronts) (now vanishes) begins (now reached) (book .terminals) (book .states)
-        × OwnersIn MAX-INHERITED (b .inheritedOwners) (now inherited) × (book .inherited ≡ length (b .inheritedOwners))) ⌝ }
+        × OwnersIn MAX-INHERITED (b .inheritedOwners) (now inherited) × (book .inherited ≡ length (b .inheritedOwners)))
+        × (9 * book .rules ≤ length (now given)) ⌝ }
     ensures { λ r. ⌜ ((b : Lines) (begins : List ℕ) → FrontsHeld b (now (rules .entry)) (book .rules) (now (definitions .entry))
         (book .«inherited_definitions») (now (kernels .entry)) (now (starts .entry)) (now (lookaheads .entry)) (now (fronts .entry))
         (now (vanishes .entry)) begins (now (reached .entry)) (book .terminals) (book .states)
         → OwnersIn MAX-INHERITED (b .inheritedOwners) (now (inherited .entry)) → book .inherited ≡ length (b .inheritedOwners) → r ≡ formulasRight b) ⌝ }
 {
     if all_single(
+        book.rules,
         definitions,
         book.inherited_definitions,
         kernels,
         starts,
         fronts,
         book.states,
+        given,
     ) {
         return true;
     }
@@ -221,7 +225,8 @@ fn formulas_right(
     )
 }
 
-// Fills the tables of a book, up to the first of 3 to 10 that applies; that, or 0.
+// Fills the tables of a book, up to the first of 3 to 10 that applies; that, or 0. What begins the rests of rules is not asked for after the closures:
+// its array is lent for what definitions give.
 fn check(
     book: Book,
     inherited: &[u32],
@@ -235,18 +240,19 @@ fn check(
     reached: &mut [u32],
     starts: &mut [u32],
     lookaheads: &mut [u32],
+    fronts: &mut [u64],
     table: &mut [u8],
     cells: &mut [u8],
 ) -> u32
     requires { ⌜ Some (BookKept book (now inherited) (now synthesized) (now rules) (now definitions) (now kernels) (now goes)) ⌝ }
-    requires { ⌜ TablesRoom (book .states) (now vanishes) (now begins) (now reached) (now starts) (now lookaheads) (now table) (now cells) ⌝ }
+    requires { ⌜ TablesRoom (book .rules) (book .states) (now vanishes) (now begins) (now reached) (now starts) (now lookaheads) (now fronts) (now table)
+        (now cells) ⌝ }
     ensures { λ r. ⌜ ((b : Lines) → BookKept book (now (inherited .entry)) (now (synthesized .entry)) (now (rules .entry)) (now (definitions .entry))
         (now (kernels .entry)) (now (goes .entry)) b
         → Checked r book (now (inherited .entry)) (now (synthesized .entry)) (now (rules .entry)) (now (definitions .entry)) (now (kernels .entry))
-        (now (goes .entry)) (now (vanishes .exit)) (now (begins .exit)) (now (reached .exit)) (now (starts .exit)) (now (lookaheads .exit))
+        (now (goes .entry)) (now (vanishes .exit)) (now (reached .exit)) (now (starts .exit)) (now (lookaheads .exit))
         (now (table .exit)) (now (cells .exit)) b) ⌝ }
 {
-    let mut fronts = [0u64; 128];
     let first = prepare(
         book,
         inherited,
@@ -260,7 +266,7 @@ fn check(
         reached,
         starts,
         lookaheads,
-        &mut fronts,
+        fronts,
         table,
         cells,
     );
@@ -275,9 +281,10 @@ fn check(
         kernels,
         starts,
         lookaheads,
-        &fronts,
+        fronts,
         vanishes,
         reached,
+        begins,
     ) {
         return 0;
     }
@@ -292,7 +299,7 @@ pub struct Compiled {
 }
 
 // Reads a text into the arrays of its lines and fills the tables, up to the first of 2 to 10 that applies.
-// Until they are filled, `cells` are room for what waits in an expression.
+// Until they are filled, `cells` are room for what waits in an expression. What `begins` and `fronts` hold in the end is not said.
 pub fn compile(
     t: &[u8; 256],
     text: &[u8],
@@ -308,14 +315,15 @@ pub fn compile(
     reached: &mut [u32],
     starts: &mut [u32],
     lookaheads: &mut [u32],
+    fronts: &mut [u64],
     table: &mut [u8],
     cells: &mut [u8],
 ) -> Compiled
     requires { ⌜ Lent (now t) (now text) × WaitsRoom (now text) (now cells)
         × Roomy room (arrays (now inherited) (now synthesized) (now rules) (now definitions) (now kernels) (now goes)) ⌝ }
-    requires { ⌜ TablesLent room (now vanishes) (now begins) (now reached) (now starts) (now lookaheads) (now table) (now cells) ⌝ }
+    requires { ⌜ TablesLent room (now vanishes) (now begins) (now reached) (now starts) (now lookaheads) (now fronts) (now table) (now cells) ⌝ }
     ensures { λ r. ⌜ Compiles room (now (text .entry)) (r .complete) (r .refusal) (r .book) (now (inherited .exit)) (now (synthesized .exit))
-        (now (rules .exit)) (now (definitions .exit)) (now (kernels .exit)) (now (goes .exit)) (now (vanishes .exit)) (now (begins .exit)) (now (reached .exit))
+        (now (rules .exit)) (now (definitions .exit)) (now (kernels .exit)) (now (goes .exit)) (now (vanishes .exit)) (now (reached .exit))
         (now (starts .exit)) (now (lookaheads .exit)) (now (table .exit)) (now (cells .exit)) ⌝ }
 {
     let read = spelling(
@@ -352,6 +360,7 @@ pub fn compile(
         reached,
         starts,
         lookaheads,
+        fronts,
         table,
         cells,
     );

@@ -1,9 +1,8 @@
 // The arrays of a book's states, and the first of 7, 8 and 9 that applies.
 // A contract asks that the arrays hold some book, and says what it says of every book that they hold.
 ghost use mathlib.Core.Path.{_≡_};
-ghost use Prim.Native.Nat.{_*_, _≤_};
+ghost use Prim.Native.Nat.{_+_, _*_, _≤_};
 ghost use lib.ListN.{length};
-ghost use Rattle.grammar.specs.Limits.{MAX-RULES, MAX-STATES};
 ghost use Rattle.grammar.specs.Data.Book.{Book};
 ghost use Rattle.grammar.specs.Automaton.FirstSets.{setsOf};
 ghost use Rattle.grammar.specs.Automaton.StatesCheck.{kernelRules};
@@ -29,7 +28,7 @@ fn kernel_states(
     states: u32,
     starts: &mut [u32],
 ) -> bool
-    requires { ⌜ ((b : Book) × KernelsHeld b (now rules) (now kernels) states × (count ≡ length (b .kernels))) × (length (now starts) ≡ 129) ⌝ }
+    requires { ⌜ ((b : Book) × KernelsHeld b (now rules) (now kernels) states × (count ≡ length (b .kernels))) × (states + 1 ≤ length (now starts)) ⌝ }
     ensures { λ r. ⌜ ((b : Book) → KernelsHeld b (now (rules .entry)) (now (kernels .entry)) states → count ≡ length (b .kernels)
         → (r ≡ kernelRules b) × StartsIn (b .kernels) (b .states) (now (starts .exit))) ⌝ }
 {
@@ -51,7 +50,7 @@ fn fill_items(
 )
     requires { ⌜ ((b : Book) × KernelsHeld b (now rules) (now kernels) states × (count ≡ length (b .rules))
         × StartsIn (b .kernels) (b .states) (now starts)) ⌝ }
-    requires { ⌜ (length (now vanishes) ≡ 9 * MAX-RULES) × (length (now begins) ≡ 9 * MAX-RULES) × (length (now reached) ≡ 9 * MAX-RULES)
+    requires { ⌜ (9 * count ≤ length (now vanishes)) × (9 * count ≤ length (now begins)) × (9 * count ≤ length (now reached))
         × Blank states (now lookaheads) ⌝ }
     ensures { λ _. ⌜ ((b : Book) → KernelsHeld b (now (rules .entry)) (now (kernels .entry)) states → count ≡ length (b .rules)
         → StartsIn (b .kernels) (b .states) (now (starts .entry))
@@ -123,8 +122,8 @@ pub fn tables(
     cells: &mut [u8],
 ) -> u32
     requires { ⌜ ((b : Book) × BookHeld b (now rules) count (now kernels) items (now goes) lines terminals states) ⌝ }
-    requires { ⌜ TablesRoom states (now vanishes) (now begins) (now reached) (now starts) (now lookaheads) (now table) (now cells)
-        × (length (now fronts) ≡ MAX-STATES) ⌝ }
+    requires { ⌜ TablesRoom count states (now vanishes) (now begins) (now reached) (now starts) (now lookaheads) (now fronts) (now table)
+        (now cells) ⌝ }
     ensures { λ r. ⌜ ((b : Book) → BookHeld b (now (rules .entry)) count (now (kernels .entry)) items (now (goes .entry)) lines terminals states
         → Tabled b r (now (rules .entry)) (now (vanishes .exit)) (now (begins .exit)) (now (reached .exit)) (now (starts .exit))
         (now (lookaheads .exit)) (now (fronts .exit)) (now (table .exit)) (now (cells .exit))) ⌝ }

@@ -41,7 +41,12 @@ fn tiny(words: &[u32], tokens: &[u32], rows: &mut [u32], count: &mut u32) -> Ans
     let mut definitions = [0u32; 784];
     let mut kernels = [0u32; 80];
     let mut goes = [0u32; 48];
+    let mut vanishes = [0u32; 144];
+    let mut begins = [0u32; 144];
+    let mut reached = [0u32; 144];
+    let mut starts = [0u32; 9];
     let mut lookaheads = [0u32; 256];
+    let mut fronts = [0u64; 8];
     let mut table = [0u8; 512];
     let mut actions = [0u8; 256];
     attempt(
@@ -52,7 +57,12 @@ fn tiny(words: &[u32], tokens: &[u32], rows: &mut [u32], count: &mut u32) -> Ans
         &mut definitions,
         &mut kernels,
         &mut goes,
+        &mut vanishes,
+        &mut begins,
+        &mut reached,
+        &mut starts,
         &mut lookaheads,
+        &mut fronts,
         &mut table,
         &mut actions,
         tokens,
@@ -79,7 +89,12 @@ fn short(words: &[u32], tokens: &[u32], rows: &mut [u32], count: &mut u32) -> An
     let mut definitions = [0u32; 2352];
     let mut kernels = [0u32; 320];
     let mut goes = [0u32; 192];
+    let mut vanishes = [0u32; 288];
+    let mut begins = [0u32; 288];
+    let mut reached = [0u32; 288];
+    let mut starts = [0u32; 33];
     let mut lookaheads = [0u32; 1024];
+    let mut fronts = [0u64; 32];
     let mut table = [0u8; 2048];
     let mut actions = [0u8; 1024];
     attempt(
@@ -90,7 +105,12 @@ fn short(words: &[u32], tokens: &[u32], rows: &mut [u32], count: &mut u32) -> An
         &mut definitions,
         &mut kernels,
         &mut goes,
+        &mut vanishes,
+        &mut begins,
+        &mut reached,
+        &mut starts,
         &mut lookaheads,
+        &mut fronts,
         &mut table,
         &mut actions,
         tokens,
@@ -123,7 +143,12 @@ fn any_book(
     let mut definitions = [0u32; 6272];
     let mut kernels = [0u32; 2560];
     let mut goes = [0u32; 3072];
+    let mut vanishes = [0u32; 576];
+    let mut begins = [0u32; 576];
+    let mut reached = [0u32; 576];
+    let mut starts = [0u32; 129];
     let mut lookaheads = [0u32; 4096];
+    let mut fronts = [0u64; 128];
     let mut table = [0u8; 8192];
     attempt(
         text,
@@ -133,7 +158,12 @@ fn any_book(
         &mut definitions,
         &mut kernels,
         &mut goes,
+        &mut vanishes,
+        &mut begins,
+        &mut reached,
+        &mut starts,
         &mut lookaheads,
+        &mut fronts,
         &mut table,
         actions,
         tokens,

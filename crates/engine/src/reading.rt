@@ -29,7 +29,12 @@ fn tiny(text: &[u8], words: &mut [u32]) -> Answer
     let mut rules = [0u32; 160];
     let mut kernels = [0u32; 80];
     let mut goes = [0u32; 48];
+    let mut vanishes = [0u32; 144];
+    let mut begins = [0u32; 144];
+    let mut reached = [0u32; 144];
+    let mut starts = [0u32; 9];
     let mut lookaheads = [0u32; 256];
+    let mut fronts = [0u64; 8];
     let mut table = [0u8; 512];
     let mut actions = [0u8; 256];
     attempt(
@@ -38,7 +43,12 @@ fn tiny(text: &[u8], words: &mut [u32]) -> Answer
         &mut rules,
         &mut kernels,
         &mut goes,
+        &mut vanishes,
+        &mut begins,
+        &mut reached,
+        &mut starts,
         &mut lookaheads,
+        &mut fronts,
         &mut table,
         &mut actions,
         words,
@@ -53,7 +63,12 @@ fn short(text: &[u8], words: &mut [u32]) -> Answer
     let mut rules = [0u32; 320];
     let mut kernels = [0u32; 320];
     let mut goes = [0u32; 192];
+    let mut vanishes = [0u32; 288];
+    let mut begins = [0u32; 288];
+    let mut reached = [0u32; 288];
+    let mut starts = [0u32; 33];
     let mut lookaheads = [0u32; 1024];
+    let mut fronts = [0u64; 32];
     let mut table = [0u8; 2048];
     let mut actions = [0u8; 1024];
     attempt(
@@ -62,7 +77,12 @@ fn short(text: &[u8], words: &mut [u32]) -> Answer
         &mut rules,
         &mut kernels,
         &mut goes,
+        &mut vanishes,
+        &mut begins,
+        &mut reached,
+        &mut starts,
         &mut lookaheads,
+        &mut fronts,
         &mut table,
         &mut actions,
         words,
@@ -77,7 +97,12 @@ fn full(text: &[u8], words: &mut [u32]) -> u32
     let mut rules = [0u32; 640];
     let mut kernels = [0u32; 2560];
     let mut goes = [0u32; 3072];
+    let mut vanishes = [0u32; 576];
+    let mut begins = [0u32; 576];
+    let mut reached = [0u32; 576];
+    let mut starts = [0u32; 129];
     let mut lookaheads = [0u32; 4096];
+    let mut fronts = [0u64; 128];
     let mut table = [0u8; 8192];
     let mut actions = [0u8; 13107];
     attempt(
@@ -86,7 +111,12 @@ fn full(text: &[u8], words: &mut [u32]) -> u32
         &mut rules,
         &mut kernels,
         &mut goes,
+        &mut vanishes,
+        &mut begins,
+        &mut reached,
+        &mut starts,
         &mut lookaheads,
+        &mut fronts,
         &mut table,
         &mut actions,
         words,

@@ -6,7 +6,6 @@ use mathlib.Core.Bool.{Bool, true, false}
 use mathlib.Core.Option.{Option, none, some}
 use mathlib.Core.List.{List, []}
 use lib.ListN.{length, getD, take, drop}
-use Rattle.grammar.specs.Limits.{MAX-RULES, MAX-STATES}
 use Rattle.grammar.specs.Data.Symbol.{Symbol, Rule, rightOf, after}
 use Rattle.grammar.specs.Data.Book.{Book, Kernel}
 use Rattle.grammar.specs.Automaton.States.{shift, accept, reduce, goIn}
@@ -25,19 +24,19 @@ flag false = 0
 
 -- of rule P after D symbols, at 9 * P + D: whether the rest vanishes, and what can begin it
 pub record SuffixesIn (G : List Rule) (F : Sets) (nulls firsts : List ℕ) : Type 0 where
-  pub nulls-long : length nulls ≡ 9 * MAX-RULES
-  pub firsts-long : length firsts ≡ 9 * MAX-RULES
+  pub nulls-long : 9 * length G ≤ length nulls
+  pub firsts-long : 9 * length G ≤ length firsts
   pub null-is : (P D : ℕ) → P < length G → D ≤ length (rightOf G P) → getD nulls (9 * P + D) 0 ≡ flag (null F (after G P D))
   pub first-is : (P D : ℕ) → P < length G → D ≤ length (rightOf G P) → getD firsts (9 * P + D) 0 ≡ first F (after G P D)
 
 -- and what is reached before it ends
 pub record ReachesIn (G : List Rule) (F : Sets) (R : List ℕ) (reaches : List ℕ) : Type 0 where
-  pub long : length reaches ≡ 9 * MAX-RULES
+  pub long : 9 * length G ≤ length reaches
   pub reach-is : (P D : ℕ) → P < length G → D ≤ length (rightOf G P) → getD reaches (9 * P + D) 0 ≡ reachIn F R (after G P D)
 
 -- where the kernel lines of each state begin: those of state S stand from word S up to word S + 1
 pub record StartsIn (ks : List Kernel) (states : ℕ) (starts : List ℕ) : Type 0 where
-  pub long : length starts ≡ MAX-STATES + 1
+  pub long : states + 1 ≤ length starts
   pub ascend : (S : ℕ) → S < states → getD starts S 0 ≤ getD starts (S + 1) 0
   pub last-is : getD starts states 0 ≡ length ks
   pub lines-are : (S : ℕ) → S < states → kernelsIn ks S ≡ take (getD starts (S + 1) 0 - getD starts S 0) (drop (getD starts S 0) ks)

@@ -9,7 +9,7 @@ use native.Mathlib.Numerals.{add-one}
 use lib.ListN.{length, getD, drop-of-length-le}
 use lib.Seq.{drop-cons, set-getD}
 use Rattle.sets.specs.Sets.{union}
-use Rattle.grammar.specs.Limits.{MAX-RULES, MAX-RIGHT}
+use Rattle.grammar.specs.Limits.{MAX-RIGHT}
 use Rattle.grammar.specs.Data.Symbol.{Symbol, terminal, nonterminal, Rule, rightOf, after}
 use Rattle.grammar.specs.Data.Book.{Book}
 use Rattle.grammar.specs.Automaton.Small.{numberOf, Low, low-at, Small}
@@ -112,8 +112,8 @@ module _ {b : Book} {F : Sets} {rules nulls firsts : List ℕ} (H : GrammarIn b 
     pub symbol-place : 10 * P + 2 + D < length rules
     symbol-place = omega (arith, inside, H .short P p, H .rules-in .long)
 
-    pub rest-place : 9 * P + (D + 1) < 9 * MAX-RULES
-    rest-place = omega (arith, inside, H .short P p, H .rules-in .fits)
+    pub rest-place : 9 * P + (D + 1) < 9 * length (b .rules)
+    rest-place = omega (arith, inside, H .short P p)
 
     pub rest-within : D + 1 ≤ length (rightOf (b .rules) P)
     rest-within = omega (arith, inside)

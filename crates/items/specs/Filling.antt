@@ -11,7 +11,6 @@ use lib.ListN.{length, getD, set, drop, length-set}
 use lib.Seq.{getD-set-same, getD-set-other}
 use borrow.Author.Tests.{eqb-true, eqb-false}
 use Rattle.sets.specs.Bits.{below-suc}
-use Rattle.grammar.specs.Limits.{MAX-RULES}
 use Rattle.grammar.specs.Data.Symbol.{Symbol, rightOf, after}
 use Rattle.items.specs.GrammarOf.{
   symbolOf,
@@ -103,7 +102,7 @@ module _ (f : List Symbol → ℕ) {words : List ℕ} {P : ℕ} {old : List ℕ}
     behind-is = q ∙ ap f (sym (rest-none words P last (omega arith)));
   }
 
-  module _ (R : RuleFits words P) (long : length old ≡ 9 * MAX-RULES) {now : List ℕ} {d behind : ℕ} (B : Backward f words P old now d behind) where
+  module _ (R : RuleFits words P) (long : 9 * P + 9 ≤ length old) {now : List ℕ} {d behind : ℕ} (B : Backward f words P old now d behind) where
     kept : Filled (ofRest f words P) (9 * P) d (sizeWord words P + 1) old (set now (9 * P + d) behind)
     kept = fill-down (B .filled) d (omega (arith, R .below, R .size-low, B .within)) (B .behind-is) refl
 

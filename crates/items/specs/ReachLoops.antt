@@ -6,7 +6,6 @@ use mathlib.Core.Bool.{Bool}
 use mathlib.Core.List.{List, _∷_}
 use native.Mathlib.Omega.{arith}
 use lib.ListN.{getD, drop, length, set, replicate, length-set}
-use Rattle.grammar.specs.Limits.{MAX-RULES}
 use Rattle.grammar.specs.Data.Symbol.{Symbol, rightOf}
 use Rattle.grammar.specs.Automaton.Fixpoint.{visit, least}
 use Rattle.grammar.specs.Automaton.FirstSets.{Sets, nullable, setsOf, null, first}
@@ -85,6 +84,11 @@ module _ {words : List ℕ} {count nulls : ℕ} {vanishes begins : List ℕ} (S 
       inside : P < length (grammarOf words count)
       inside = rw (grammar-size words count) h
 
+  -- which are there
+  pub rests-there : (P : ℕ) → P < count → (9 * P + 9 ≤ length vanishes) × (9 * P + 9 ≤ length begins)
+  rests-there P h =
+      (omega (arith, S .suffixes-are .nulls-long, grammar-size words count), omega (arith, S .suffixes-are .firsts-long, grammar-size words count))
+
   -- what a rule gives
   pub reach-told : {now next : List ℕ} {p target more : ℕ} {r : Bool} → p < count → target ≡ leftWord words p
       → more ≡ reachIn (setsOf (grammarOf words count)) now (drop 0 (rightIn words p)) → Told (given target more now) now next r
@@ -114,7 +118,7 @@ module _ {words : List ℕ} {P nulls : ℕ} {vanishes begins reached old : List 
   reaching-begins = record { within = omega arith; long = refl; filled = λ F e R. fill-none (omega arith) }
 
   module _ {now : List ℕ} {d : ℕ} (R : Reaching words P nulls vanishes begins reached old now d) where
-    pub reaching-turn : RuleFits words P → length old ≡ 9 * MAX-RULES → d ≤ sizeWord words P → {w : ℕ}
+    pub reaching-turn : RuleFits words P → 9 * P + 9 ≤ length old → d ≤ sizeWord words P → {w : ℕ}
         → ((F : Sets) → nulls ≡ nullsOf F → RestsIn F (rightIn words P) (9 * P) vanishes begins → w ≡ reachIn F reached (drop d (rightIn words P)))
         → Reaching words P nulls vanishes begins reached old (set now (9 * P + d) w) (d + 1)
     reaching-turn fits l h told = record {
@@ -132,5 +136,8 @@ module _ {words : List ℕ} {P nulls : ℕ} {vanishes begins reached old : List 
 -- ---- the array, when all rules are done
 
 pub reaches-done : {words : List ℕ} {count p : ℕ} {F : Sets} {reached old now : List ℕ} → RestsFilled (reachIn F reached) words count old now p → count ≤ p
-    → length old ≡ 9 * MAX-RULES → ReachesIn (grammarOf words count) F reached now
-reaches-done {F = F} {reached = reached} R h l = record { long = R .rules .long ∙ l; reach-is = rests-end (reachIn F reached) R h }
+    → 9 * count ≤ length old → ReachesIn (grammarOf words count) F reached now
+reaches-done {words} {count} {F = F} {reached = reached} R h l = record {
+  long = omega (arith, l, R .rules .long, grammar-size words count);
+  reach-is = rests-end (reachIn F reached) R h;
+}

@@ -5,7 +5,6 @@ use mathlib.Core.Path.{_≡_, sym, _∙_, subst}
 use mathlib.Core.List.{List}
 use native.Mathlib.Omega.{arith}
 use lib.ListN.{length, getD}
-use Rattle.grammar.specs.Limits.{MAX-RULES}
 use Rattle.grammar.specs.Data.Symbol.{Rule}
 use Rattle.grammar.specs.Automaton.FirstSets.{Sets, sets, nullable, firstSets, setsOf}
 use Rattle.grammar.specs.Automaton.ReachSets.{reachSets}
@@ -45,10 +44,10 @@ module _ {words : List ℕ} {count nulls : ℕ} {vanishes begins : List ℕ} whe
 
     -- which is that of FIRST where no rest is a dead end
     pub living-reaches-in : {firsts : List ℕ} → firsts ≡ firstSets (grammarOf words count) nulls → Living (grammarOf words count) (sets nulls firsts)
-        → length reached ≡ 9 * MAX-RULES → ((i : ℕ) → i < 9 * count → getD reached i 0 ≡ getD begins i 0)
+        → 9 * count ≤ length reached → ((i : ℕ) → i < 9 * count → getD reached i 0 ≡ getD begins i 0)
         → ReachesIn (grammarOf words count) (setsOf (grammarOf words count)) (reachSets (grammarOf words count) (setsOf (grammarOf words count))) reached
     living-reaches-in f L long same = record {
-      long = long;
+      long = omega (arith, long, grammar-size words count);
       reach-is = λ P D p d.
           let inside : P < count = rw (grammar-size words count) at p in
           let short : D ≤ sizeWord words P = rw (right-is words count P inside, right-size words P) at d in

@@ -128,16 +128,16 @@ module _ {kernels : List ℕ} {count states S : ℕ} (W : Sorted kernels count s
 -- ---- the states below s are done
 pub record Starting (kernels : List ℕ) (count states : ℕ) (starts : List ℕ) (at s : ℕ) : Type 0 where
   pub within : s ≤ states
-  pub long : length starts ≡ MAX-STATES + 1
+  pub long : states + 1 ≤ length starts
   pub here : getD starts s 0 ≡ at
   pub cuts : (S : ℕ) → S ≤ s → Cut kernels count S (getD starts S 0)
 
-pub starting-none : {kernels : List ℕ} {count states : ℕ} (starts : List ℕ) → length starts ≡ MAX-STATES + 1
+pub starting-none : {kernels : List ℕ} {count states : ℕ} (starts : List ℕ) → states + 1 ≤ length starts
     → Starting kernels count states (set starts 0 0) 0 0
 starting-none {kernels} {count} {states} starts h =
     record {
       within = omega arith;
-      long = length-set starts 0 0 ∙ h;
+      long = omega (arith, length-set starts 0 0, h);
       here = first;
       cuts = λ S l. let z : S ≡ 0 = omega arith in rw (z, first) (cut-none kernels count);
     }
@@ -145,14 +145,14 @@ starting-none {kernels} {count} {states} starts h =
     first : getD (set starts 0 0) 0 0 ≡ 0
     first = getD-set-same starts 0 0 0 (omega arith)
 
-module _ {kernels starts : List ℕ} {count states at s : ℕ} (few : states ≤ MAX-STATES) (W : Sorted kernels count states)
+module _ {kernels starts : List ℕ} {count states at s : ℕ} (W : Sorted kernels count states)
     (D : Starting kernels count states starts at s) where
   -- a state more
   pub starting-more : {to : ℕ} → s < states → Passes kernels count s at to → Starting kernels count states (set starts (s + 1) to) to (s + 1)
   starting-more {to} h P =
       record {
         within = omega arith;
-        long = length-set starts (s + 1) to ∙ D .long;
+        long = omega (arith, length-set starts (s + 1) to, D .long);
         here = next;
         cuts = λ S l. by-order S (s + 1) (λ b. rw (getD-set-other starts (s + 1) S to 0 (λ e. omega arith)) (D .cuts S (omega arith)))
             (λ b. let e : S ≡ s + 1 = omega arith in rw (e, next) (cut-next W (rw (D .here) at (D .cuts s (omega arith))) P));

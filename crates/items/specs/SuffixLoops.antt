@@ -8,7 +8,6 @@ use mathlib.Core.Bool.{Bool, true, false, not, _&&_}
 use mathlib.Core.List.{List, [], _∷_}
 use lib.ListN.{length, set, drop}
 use borrow.Author.Tests.{not-true}
-use Rattle.grammar.specs.Limits.{MAX-RULES}
 use Rattle.grammar.specs.Data.Symbol.{Symbol}
 use Rattle.grammar.specs.Automaton.TestLaws.{both-true}
 use Rattle.grammar.specs.Automaton.FirstSets.{nullIn, firstIn, Sets, sets, null, first}
@@ -72,7 +71,7 @@ module _ {words : List ℕ} {P nulls : ℕ} {firsts oldNulls oldFirsts : List �
     living = λ _ D l h. rw (rest-none words P D (omega arith)) (end-lives nulls firsts);
   }
 
-  module _ (R : RuleFits words P) (m : length oldNulls ≡ 9 * MAX-RULES) (n : length oldFirsts ≡ 9 * MAX-RULES)
+  module _ (R : RuleFits words P) (m : 9 * P + 9 ≤ length oldNulls) (n : 9 * P + 9 ≤ length oldFirsts)
       {nowNulls nowFirsts : List ℕ} {d vanishes begins : ℕ} {alive : Bool}
       (S : Suffixing words P nulls firsts oldNulls nowNulls oldFirsts nowFirsts d vanishes begins alive) where
     module _ (h : 0 < d) {word vanishes₁ begins₁ : ℕ} {dies : Bool} (w : word ≡ symbolWord words P (d - 1))
@@ -141,12 +140,12 @@ module _ {words : List ℕ} {count nulls : ℕ} {firsts oldNulls oldFirsts : Lis
           go before now P l (no z) = S .living before P (omega arith)
 
       module _ (h : count ≤ p) where
-        pub suffixes-end : length oldNulls ≡ 9 * MAX-RULES → length oldFirsts ≡ 9 * MAX-RULES
+        pub suffixes-end : 9 * count ≤ length oldNulls → 9 * count ≤ length oldFirsts
             → SuffixesIn (grammarOf words count) (sets nulls firsts) nowNulls nowFirsts
         unfolding null first
         suffixes-end m n = record {
-          nulls-long = S .nulls-filled .rules .long ∙ m;
-          firsts-long = S .firsts-filled .rules .long ∙ n;
+          nulls-long = omega (arith, m, S .nulls-filled .rules .long, grammar-size words count);
+          firsts-long = omega (arith, n, S .firsts-filled .rules .long, grammar-size words count);
           null-is = rests-end (λ β. flag (nullIn nulls β)) (S .nulls-filled) h;
           first-is = rests-end (firstIn nulls firsts) (S .firsts-filled) h;
         }

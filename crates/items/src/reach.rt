@@ -1,9 +1,8 @@
 // Which terminals are reached from an item before its rule is complete: as FIRST, but through a nonterminal only if something can follow it.
 ghost use mathlib.Core.Path.{_≡_};
 ghost use mathlib.Core.List.{List, _∷_};
-ghost use Prim.Native.Nat.{_<_, _≤_, _*_};
+ghost use Prim.Native.Nat.{_+_, _*_, _<_, _≤_};
 ghost use lib.ListN.{length, drop, replicate};
-ghost use Rattle.grammar.specs.Limits.{MAX-RULES};
 ghost use Rattle.grammar.specs.Data.Symbol.{Symbol};
 ghost use Rattle.grammar.specs.Automaton.Fixpoint.{visits};
 ghost use Rattle.grammar.specs.Automaton.FirstSets.{Sets, setsOf};
@@ -62,7 +61,7 @@ fn reach_rest(
     reached: &[u32],
 ) -> u32
     requires { ⌜ RuleFits (now rules) p × (d ≤ sizeWord (now rules) p) × (length (now reached) ≡ 32) ⌝ }
-    requires { ⌜ (length (now vanishes) ≡ 9 * MAX-RULES) × (length (now begins) ≡ 9 * MAX-RULES) ⌝ }
+    requires { ⌜ (9 * p + 9 ≤ length (now vanishes)) × (9 * p + 9 ≤ length (now begins)) ⌝ }
     ensures { λ r. ⌜ ((F : Sets) → nulls ≡ nullsOf F → RestsIn F (rightIn (now (rules .entry)) p) (9 * p) (now (vanishes .entry)) (now (begins .entry))
         → r ≡ reachIn F (now (reached .entry)) (drop d (rightIn (now (rules .entry)) p))) ⌝ }
 {
@@ -125,8 +124,8 @@ fn reach_rests(
     reached: &[u32],
     reaches: &mut [u32],
 )
-    requires { ⌜ RuleFits (now rules) p × (length (now reached) ≡ 32) × (length (now reaches) ≡ 9 * MAX-RULES) ⌝ }
-    requires { ⌜ (length (now vanishes) ≡ 9 * MAX-RULES) × (length (now begins) ≡ 9 * MAX-RULES) ⌝ }
+    requires { ⌜ RuleFits (now rules) p × (length (now reached) ≡ 32) × (9 * p + 9 ≤ length (now reaches)) ⌝ }
+    requires { ⌜ (9 * p + 9 ≤ length (now vanishes)) × (9 * p + 9 ≤ length (now begins)) ⌝ }
     ensures { λ _. ⌜ ((F : Sets) → nulls ≡ nullsOf F → RestsIn F (rightIn (now (rules .entry)) p) (9 * p) (now (vanishes .entry)) (now (begins .entry))
         → RestsAre (reachIn F (now (reached .entry))) (now (rules .entry)) p (now (reaches .entry)) (now (reaches .exit))) ⌝ }
 {
@@ -148,7 +147,7 @@ fn fill_reaches(
     reached: &[u32],
     reaches: &mut [u32],
 )
-    requires { ⌜ SetsIn (now rules) count nulls (now vanishes) (now begins) × (length (now reached) ≡ 32) × (length (now reaches) ≡ 9 * MAX-RULES) ⌝ }
+    requires { ⌜ SetsIn (now rules) count nulls (now vanishes) (now begins) × (length (now reached) ≡ 32) × (9 * count ≤ length (now reaches)) ⌝ }
     ensures { λ _. ⌜ ReachesIn (grammarOf (now (rules .entry)) count) (setsOf (grammarOf (now (rules .entry)) count))
         (now (reached .entry)) (now (reaches .exit)) ⌝ }
 {
@@ -169,7 +168,7 @@ pub fn reaches(
     begins: &[u32],
     reaches: &mut [u32],
 )
-    requires { ⌜ SetsIn (now rules) count nulls (now vanishes) (now begins) × (length (now reaches) ≡ 9 * MAX-RULES) ⌝ }
+    requires { ⌜ SetsIn (now rules) count nulls (now vanishes) (now begins) × (9 * count ≤ length (now reaches)) ⌝ }
     ensures { λ _. ⌜ ReachesIn (grammarOf (now (rules .entry)) count) (setsOf (grammarOf (now (rules .entry)) count))
         (reachSets (grammarOf (now (rules .entry)) count) (setsOf (grammarOf (now (rules .entry)) count))) (now (reaches .exit)) ⌝ }
 {

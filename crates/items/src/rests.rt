@@ -1,9 +1,8 @@
 // The sets of every rest of every rule, of a grammar in an array: whether it vanishes, what can begin it, what is reached before it ends.
 ghost use mathlib.Core.Path.{_≡_};
 ghost use mathlib.Core.List.{List};
-ghost use Prim.Native.Nat.{_*_};
+ghost use Prim.Native.Nat.{_*_, _≤_};
 ghost use lib.ListN.{length};
-ghost use Rattle.grammar.specs.Limits.{MAX-RULES};
 ghost use Rattle.grammar.specs.Data.Symbol.{Rule};
 ghost use Rattle.items.specs.GrammarOf.{GrammarHeld};
 ghost use Rattle.items.specs.RestSets.{RestSetsIn};
@@ -22,7 +21,7 @@ pub fn rests(
     reached: &mut [u32],
 )
     requires { ⌜ ((G : List Rule) × GrammarHeld G (now rules) count) ⌝ }
-    requires { ⌜ (length (now vanishes) ≡ 9 * MAX-RULES) × (length (now begins) ≡ 9 * MAX-RULES) × (length (now reached) ≡ 9 * MAX-RULES) ⌝ }
+    requires { ⌜ (9 * count ≤ length (now vanishes)) × (9 * count ≤ length (now begins)) × (9 * count ≤ length (now reached)) ⌝ }
     ensures { λ _. ⌜ ((G : List Rule) → GrammarHeld G (now (rules .entry)) count
         → RestSetsIn G (now (vanishes .exit)) (now (begins .exit)) (now (reached .exit))) ⌝ }
 {

@@ -1,7 +1,7 @@
 // Where the kernel lines of each state begin. The lines ascend by their states, so one pass over them finds all.
 // The contract asks that the array holds some kernel lines, and says what it says of all lines that it holds.
 ghost use mathlib.Core.Path.{_≡_};
-ghost use Prim.Native.Nat.{_≤_};
+ghost use Prim.Native.Nat.{_+_, _≤_};
 ghost use lib.ListN.{length};
 ghost use mathlib.Core.List.{List};
 ghost use Rattle.grammar.specs.Data.Book.{Kernel};
@@ -25,7 +25,7 @@ fn past(kernels: &[u32], count: usize, state: u32, from: usize) -> usize
 
 // Fills `starts`: the lines of state S stand from word S up to word S + 1.
 pub fn kernel_starts(kernels: &[u32], count: u32, states: u32, starts: &mut [u32])
-    requires { ⌜ ((ks : List Kernel) × LinesIn ks count states (now kernels)) × (length (now starts) ≡ 129) ⌝ }
+    requires { ⌜ ((ks : List Kernel) × LinesIn ks count states (now kernels)) × (states + 1 ≤ length (now starts)) ⌝ }
     ensures { λ _. ⌜ ((ks : List Kernel) → LinesIn ks count states (now (kernels .entry)) → StartsIn ks states (now (starts .exit))) ⌝ }
 {
     let mut at = 0;

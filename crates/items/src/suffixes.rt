@@ -2,9 +2,8 @@
 ghost use mathlib.Core.Path.{_≡_};
 ghost use mathlib.Core.Bool.{true};
 ghost use mathlib.Core.List.{List, _∷_};
-ghost use Prim.Native.Nat.{_<_, _*_};
+ghost use Prim.Native.Nat.{_+_, _*_, _<_, _≤_};
 ghost use lib.ListN.{length};
-ghost use Rattle.grammar.specs.Limits.{MAX-RULES};
 ghost use Rattle.grammar.specs.Data.Symbol.{Symbol};
 ghost use Rattle.grammar.specs.Automaton.FirstSets.{sets};
 ghost use Rattle.items.specs.Arrays.{SuffixesIn};
@@ -53,7 +52,7 @@ fn rule_suffixes(
     begins: &mut [u32],
 ) -> bool
     requires { ⌜ RuleFits (now rules) p × (length (now firsts) ≡ 32) ⌝ }
-    requires { ⌜ (length (now vanishes) ≡ 9 * MAX-RULES) × (length (now begins) ≡ 9 * MAX-RULES) ⌝ }
+    requires { ⌜ (9 * p + 9 ≤ length (now vanishes)) × (9 * p + 9 ≤ length (now begins)) ⌝ }
     ensures { λ r. ⌜ RuleSuffixes (now (rules .entry)) p nulls (now (firsts .entry))
         (now (vanishes .entry)) (now (vanishes .exit)) (now (begins .entry)) (now (begins .exit)) r ⌝ }
 {
@@ -85,7 +84,7 @@ pub fn suffixes(
     begins: &mut [u32],
 ) -> bool
     requires { ⌜ GrammarFits (now rules) count × (length (now firsts) ≡ 32) ⌝ }
-    requires { ⌜ (length (now vanishes) ≡ 9 * MAX-RULES) × (length (now begins) ≡ 9 * MAX-RULES) ⌝ }
+    requires { ⌜ (9 * count ≤ length (now vanishes)) × (9 * count ≤ length (now begins)) ⌝ }
     ensures { λ r. ⌜ SuffixesIn (grammarOf (now (rules .entry)) count) (sets nulls (now (firsts .entry))) (now (vanishes .exit)) (now (begins .exit))
         × (r ≡ true → Living (grammarOf (now (rules .entry)) count) (sets nulls (now (firsts .entry)))) ⌝ }
 {

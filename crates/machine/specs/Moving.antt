@@ -1,5 +1,5 @@
 -- What a move over the arrays asks, and what it tells: the next configuration, or the answer with which the run stops. Assumes nothing.
-use Prim.Native.Nat.{ℕ, _+_, _*_}
+use Prim.Native.Nat.{ℕ, _+_, _*_, _≤_}
 use mathlib.Core.Path.{_≡_}
 use mathlib.Core.List.{List}
 use lib.ListN.{length}
@@ -17,11 +17,11 @@ use Rattle.stack.specs.declared.top.Top.{Top}
 use Rattle.stack.specs.Pushes.{Stacks}
 use Rattle.stack.specs.Standing.{BookIn, Message, ConfigIn, CellIn, rowsOf, GoesOn}
 
--- the arrays that moves change, as they are lent
-pub record Rooms (states inherited synthesized starts rows sets : List ℕ) : Type 0 where
+-- the arrays that moves change, as they are lent for a book of `count` rules
+pub record Rooms (count : ℕ) (states inherited synthesized starts rows sets : List ℕ) : Type 0 where
   pub stacks : Stacks states synthesized starts rows
   pub cells-long : length inherited ≡ 16 * length starts + 16
-  pub sets-long : length sets ≡ 576
+  pub sets-long : 9 * count ≤ length sets
 
 -- a book that is taken, in the arrays that moves read
 pub record Driven (b : Book) (rules : List ℕ) (count : ℕ) (definitions : List ℕ) (lines : ℕ)

@@ -175,17 +175,19 @@ module _ {b : Book} {ks : List Token} {rules : List ℕ} {count : ℕ} {definiti
         run-stepped = stepped U (cell-set .plans-in) (moved b ks (U .at) run-moves run-poised (run-facing value-is))
 
 -- the arrays as they are lent, after a step
-pub record RoomsLeft (room bytes symbols : ℕ) (states inherited synthesized starts rows sets slots lists : List ℕ) : Type 0 where
-  pub rooms : Rooms states inherited synthesized starts rows sets
+pub record RoomsLeft (count words room bytes symbols : ℕ) (states inherited synthesized starts rows sets slots lists : List ℕ) : Type 0 where
+  pub rooms : Rooms count states inherited synthesized starts rows sets
+  pub words-long : length sets ≡ words
   pub starts-long : length starts ≡ symbols
   pub slots-long : length slots ≡ room
   pub lists-long : length lists ≡ bytes
 
-pub rooms-kept : {room bytes symbols : ℕ} {states inherited synthesized starts rows sets slots lists : List ℕ}
+pub rooms-kept : {count words room bytes symbols : ℕ} {states inherited synthesized starts rows sets slots lists : List ℕ}
     {states′ inherited′ synthesized′ starts′ rows′ sets′ slots′ lists′ : List ℕ}
-    → RoomsLeft room bytes symbols states inherited synthesized starts rows sets slots lists → length states′ ≡ length states → length inherited′ ≡ length inherited
-    → length synthesized′ ≡ length synthesized → length starts′ ≡ length starts → length rows′ ≡ length rows → length sets′ ≡ length sets
-    → length slots′ ≡ length slots → length lists′ ≡ length lists → RoomsLeft room bytes symbols states′ inherited′ synthesized′ starts′ rows′ sets′ slots′ lists′
+    → RoomsLeft count words room bytes symbols states inherited synthesized starts rows sets slots lists → length states′ ≡ length states
+    → length inherited′ ≡ length inherited → length synthesized′ ≡ length synthesized → length starts′ ≡ length starts → length rows′ ≡ length rows → length sets′ ≡ length sets
+    → length slots′ ≡ length slots → length lists′ ≡ length lists
+    → RoomsLeft count words room bytes symbols states′ inherited′ synthesized′ starts′ rows′ sets′ slots′ lists′
 rooms-kept R a b c d e f g h = record {
   rooms = record {
     stacks = record {
@@ -195,8 +197,9 @@ rooms-kept R a b c d e f g h = record {
       rows-long = e ∙ R .rooms .stacks .rows-long;
     };
     cells-long = omega (arith, R .rooms .cells-long);
-    sets-long = f ∙ R .rooms .sets-long;
+    sets-long = omega (arith, f, R .rooms .sets-long);
   };
+  words-long = f ∙ R .words-long;
   starts-long = d ∙ R .starts-long;
   slots-long = g ∙ R .slots-long;
   lists-long = h ∙ R .lists-long;

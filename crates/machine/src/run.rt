@@ -51,7 +51,7 @@ pub fn run(
     starts: &mut [u32],
     rows: &mut [u32],
 ) -> Outcome
-    requires { ⌜ Rooms (now states) (now inherited) (now synthesized) (now starts) (now rows) (now sets) × (now rows ≡ replicate 5120 0) ⌝ }
+    requires { ⌜ Rooms count (now states) (now inherited) (now synthesized) (now starts) (now rows) (now sets) × (now rows ≡ replicate 5120 0) ⌝ }
     requires { ⌜ ((b : Book) × (ks : List Token)
         × RunIn b ks (now rules) count (now definitions) lines (now owned) (now kernels) (now heads) (now closures) (now nulls) (now reaches) (now places)
         (now firsts) (now down) (now up) (now table) (now actions) (now tokens)

@@ -2,7 +2,7 @@
 // A contract asks that the arrays hold some book, and says its statement of every book that they hold.
 ghost use mathlib.Core.Path.{_≡_};
 ghost use mathlib.Core.List.{List};
-ghost use Prim.Native.Nat.{ℕ, _<_};
+ghost use Prim.Native.Nat.{ℕ, _*_, _<_, _≤_};
 ghost use lib.ListN.{length};
 ghost use Rattle.grammar.specs.Data.Book.{Book};
 ghost use Rattle.grammar.specs.Evaluator.Machine.{Frame};
@@ -34,7 +34,7 @@ pub fn set_top(
     inherited: &mut [u32],
     synthesized: &[u32],
 )
-    requires { ⌜ Room height (now inherited) (now synthesized) × (kind < 32) × (length (now sets) ≡ 576) ⌝ }
+    requires { ⌜ Room height (now inherited) (now synthesized) × (kind < 32) × (9 * count ≤ length (now sets)) ⌝ }
     requires { ⌜ ((b : Book) × (states : List ℕ) × (starts : List ℕ) × (st : List Frame)
         × TopAsked b (now definitions) (now inherited) (now synthesized) state height states starts st × (state < b .states)
         × PlansHeld b (now rules) count (now definitions) lines (now owned) (now kernels) (now heads) (now closures) (now nulls) (now reaches)

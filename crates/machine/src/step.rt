@@ -133,7 +133,7 @@ pub fn step(
     starts: &mut [u32],
     rows: &mut [u32],
 ) -> Moved
-    requires { ⌜ Rooms (now states) (now inherited) (now synthesized) (now starts) (now rows) (now sets) ⌝ }
+    requires { ⌜ Rooms count (now states) (now inherited) (now synthesized) (now starts) (now rows) (now sets) ⌝ }
     requires { ⌜ ((b : Book) × (ks : List Token)
         × RunIn b ks (now rules) count (now definitions) lines (now owned) (now kernels) (now heads) (now closures) (now nulls) (now reaches) (now places)
         (now firsts) (now down) (now up) (now table) (now actions) (now tokens)

@@ -40,8 +40,11 @@ module _ {b : Book} {rules : List ℕ} {count : ℕ} {definitions : List ℕ} {l
     {owned kernels starts closures nulls reaches places : List ℕ}
     (H : PlansHeld b rules count definitions lines owned kernels starts closures nulls reaches places) where
   -- for the plan of a state's items
-  pub plans-check : {masks : List ℕ} → length masks ≡ 576 → CheckHeld b definitions rules owned masks
-  plans-check = held-check (H .formulas-held) (H .owned-in)
+  pub plans-check : {masks : List ℕ} → 9 * count ≤ length masks → CheckHeld b definitions rules owned masks
+  plans-check room = held-check (H .formulas-held) (H .owned-in) (omega (arith, room, H .formulas-held .rules-counted))
+
+  pub plans-marked : {S : ℕ} {masks : List ℕ} → StateMarksIn b S masks → CheckHeld b definitions rules owned masks
+  plans-marked marks = held-check (H .formulas-held) (H .owned-in) (marks .long)
 
   module _ {S a : ℕ} (low : a < 32) where
     -- the row is the plan of the state's items

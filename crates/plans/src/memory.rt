@@ -39,7 +39,7 @@ fn noted_idle(
     slots: &mut [u8],
 ) -> bool
     requires { ⌜ ((b : Book) × (rules : List ℕ) × ItemsIn b (setsOf (b .rules)) rules (now kernels) (now starts) (now closures) × (state < b .states)
-        × (32 * b .states ≤ length (now slots))) × (length (now places) ≡ 608) ⌝ }
+        × (32 * b .states ≤ length (now slots)) × (32 + 9 * length (b .rules) ≤ length (now places))) ⌝ }
     ensures { λ r. ⌜ ((b : Book) (rules lists : List ℕ) → Ordered b
         → ItemsIn b (setsOf (b .rules)) rules (now (kernels .entry)) (now (starts .entry)) (now (closures .entry))
         → PlacesIn b (grammar.definitions b) (now (places .entry)) → state < b .states
@@ -72,7 +72,7 @@ fn plan_into(
 )
     requires { ⌜ ((b : Book) × (places : List ℕ) × PlansHeld b (now rules) count (now definitions) lines (now owned) (now kernels) (now starts)
         (now closures) (now nulls) (now reaches) places × (state < b .states)) × (terminal < 32) × (slot < 255)
-        × (length (now sets) ≡ 576) × (17 * slot + 17 ≤ length (now lists)) ⌝ }
+        × (9 * count ≤ length (now sets)) × (17 * slot + 17 ≤ length (now lists)) ⌝ }
     ensures { λ _. ⌜ ((b : Book) (places : List ℕ) → PlansHeld b (now (rules .entry)) count (now (definitions .entry)) lines (now (owned .entry))
         (now (kernels .entry)) (now (starts .entry)) (now (closures .entry)) (now (nulls .entry)) (now (reaches .entry)) places → state < b .states
         → PlanIn (planOf b state terminal) (now (lists .exit)) slot)
@@ -127,7 +127,7 @@ fn plan_next(
 ) -> usize
     requires { ⌜ ((b : Book) × (places : List ℕ) × PlansHeld b (now rules) count (now definitions) lines (now owned) (now kernels) (now starts)
         (now closures) (now nulls) (now reaches) places × (state < b .states) × PlansIn b (now slots) (now lists)) × (terminal < 32)
-        × (length (now sets) ≡ 576) ⌝ }
+        × (9 * count ≤ length (now sets)) ⌝ }
     ensures { λ r. ⌜ ((b : Book) (places : List ℕ) → PlansHeld b (now (rules .entry)) count (now (definitions .entry)) lines (now (owned .entry))
         (now (kernels .entry)) (now (starts .entry)) (now (closures .entry)) (now (nulls .entry)) (now (reaches .entry)) places → state < b .states
         → PlansIn b (now (slots .entry)) (now (lists .entry)) → PlanTold b (now (slots .exit)) (now (lists .exit)) state terminal r) ⌝ }
@@ -180,7 +180,7 @@ pub fn planned(
     lists: &mut [u8],
 ) -> usize
     requires { ⌜ ((b : Book) × PlansHeld b (now rules) count (now definitions) lines (now owned) (now kernels) (now starts) (now closures) (now nulls)
-        (now reaches) (now places) × (state < b .states) × PlansIn b (now slots) (now lists)) × (terminal < 32) × (length (now sets) ≡ 576) ⌝ }
+        (now reaches) (now places) × (state < b .states) × PlansIn b (now slots) (now lists)) × (terminal < 32) × (9 * count ≤ length (now sets)) ⌝ }
     ensures { λ r. ⌜ ((b : Book) → PlansHeld b (now (rules .entry)) count (now (definitions .entry)) lines (now (owned .entry)) (now (kernels .entry))
         (now (starts .entry)) (now (closures .entry)) (now (nulls .entry)) (now (reaches .entry)) (now (places .entry)) → state < b .states
         → PlansIn b (now (slots .entry)) (now (lists .entry)) → PlanTold b (now (slots .exit)) (now (lists .exit)) state terminal r) ⌝ }

@@ -4,7 +4,7 @@ use Prim.Native.Nat.{_≤_, _<_}
 use mathlib.Core.Path.{sym, _∙_}
 use native.Mathlib.Omega.{arith}
 use borrow.Author.Needs.{needs}
-use Rattle.attributes.specs.CheckingLaws.{rule-low, position-low, position-high}
+use Rattle.attributes.specs.CheckingLaws.{rule-there, rule-low, position-low, position-high}
 use Rattle.agreement.specs.Alike.{agree-in, agree-out}
 use Rattle.agreement.proofs.alike.item_apart.Statement.{statement}
 use Rattle.agreement.proofs.alike.item_apart.Tie as tie
@@ -54,7 +54,10 @@ mul-set-2 : tie.Need-mul-set-2
 mul-set-2 c = omega (arith, rule c, low c, high c)
 
 shared-slice-read-set : tie.Need-shared-slice-read-set
-shared-slice-read-set c = omega (arith, rule (c .before), low (c .before), high (c .before), entry (c .before) .pre .0 .3 .masks-long)
+shared-slice-read-set c =
+    let w = c .before in
+    let H = entry w .pre .0 .3 in
+    omega (arith, w .before .word .ensures, rule-there H (entry w .pre .0 .4), low w, high w, H .masks-long)
 
 has-requires : tie.Need-has-requires
 has-requires c κs = search needs

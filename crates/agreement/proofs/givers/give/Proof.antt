@@ -4,10 +4,10 @@ use Prim.Native.Nat.{_-_, _≤_, _<_, _+_, _*_}
 use mathlib.Core.Path.{refl}
 use native.Mathlib.Omega.{arith}
 use lib.Dec.{lit<}
-use lib.ListN.{getD}
+use lib.ListN.{length, getD}
 use lib.Pow.{shl-exact}
 use borrow.Author.Needs.{needs}
-use Rattle.attributes.specs.CheckingLaws.{rule-low, position-low, position-high, attribute-low}
+use Rattle.attributes.specs.CheckingLaws.{rule-there, rule-low, position-low, position-high, attribute-low}
 use Rattle.agreement.specs.Given.{given-behind, given-front}
 use Rattle.agreement.proofs.givers.give.Statement.{statement}
 use Rattle.agreement.proofs.givers.give.Tie as tie
@@ -18,17 +18,20 @@ entry c = c .before .before .before .before
 
 -- What is known there
 
+there : (c : tie.After-word2) → c .before .word .result < length (entry c .pre .0 .rules)
+there c = omega (arith, c .before .word .ensures, rule-there (entry c .pre .4) (entry c .pre .5))
+
 rule : (c : tie.After-word2) → c .before .word .result < 64
-rule c = omega (arith, c .before .word .ensures, rule-low (entry c .pre .0 .4) (entry c .pre .0 .5))
+rule c = omega (arith, c .before .word .ensures, rule-low (entry c .pre .4) (entry c .pre .5))
 
 low : (c : tie.After-word2) → 1 ≤ c .word2 .result
-low c = omega (arith, c .word2 .ensures, position-low (entry c .pre .0 .4) (entry c .pre .0 .5))
+low c = omega (arith, c .word2 .ensures, position-low (entry c .pre .4) (entry c .pre .5))
 
 high : (c : tie.After-word2) → c .word2 .result ≤ 8
-high c = omega (arith, c .word2 .ensures, position-high (entry c .pre .0 .4) (entry c .pre .0 .5))
+high c = omega (arith, c .word2 .ensures, position-high (entry c .pre .4) (entry c .pre .5))
 
 attribute : (c : tie.After-word2) → getD (entry c .args .definitions .now) (49 * entry c .args .line + 2) 0 < 16
-attribute c = attribute-low (entry c .pre .0 .4) (entry c .pre .0 .5)
+attribute c = attribute-low (entry c .pre .4) (entry c .pre .5)
 
 -- Needs
 
@@ -72,7 +75,7 @@ mul-with : tie.Need-mul-with
 mul-with c = omega (arith, rule (c .before), low (c .before), high (c .before))
 
 slice-read-with : tie.Need-slice-read-with
-slice-read-with c = let w = c .before .before in omega (arith, rule w, low w, high w, entry w .pre .1)
+slice-read-with c = let w = c .before .before in omega (arith, there w, low w, high w, entry w .pre .6)
 
 with-requires : tie.Need-with-requires
 with-requires c κs = omega (arith, attribute (c .before .before))
@@ -81,7 +84,7 @@ mul-given : tie.Need-mul-given
 mul-given c = let w = c .before .before .before in omega (arith, rule w, low w, high w)
 
 slice-write-given : tie.Need-slice-write-given
-slice-write-given c = let w = c .before .before .before in omega (arith, rule w, low w, high w, entry w .pre .1)
+slice-write-given c = let w = c .before .before .before in omega (arith, there w, low w, high w, entry w .pre .6)
 
 same-length : tie.Need-same-length
 same-length c = search needs

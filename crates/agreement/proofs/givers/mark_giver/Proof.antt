@@ -6,7 +6,7 @@ use Rattle.agreement.proofs.givers.mark_giver.Statement.{statement}
 use Rattle.agreement.proofs.givers.mark_giver.Tie as tie
 
 copies-requires : tie.Need-copies-requires
-copies-requires c κs = let g = c .before .before .pre .0 in (g .0, g .4 .definitions-in, g .5)
+copies-requires c κs = let g = c .before .before .pre in (g .0, g .4 .definitions-in, g .5)
 
 returns : tie.Need-returns
 returns c = λ b rules owned masks H l G. given-copy H l G (c .before .copies .ensures (c .if1 .taken) b (H .definitions-in) l)

@@ -3,7 +3,7 @@
 use mathlib.Core.Path.{refl, sym, _∙_}
 use native.Mathlib.Omega.{arith}
 use borrow.Author.Needs.{needs}
-use Rattle.agreement.specs.OneFormula.{owned-all, owner-low, held-lines, states-told}
+use Rattle.agreement.specs.OneFormula.{owned-all, owner-low, held-lines, rules-low, states-told}
 use Rattle.agreement.proofs.one_formula.one_formula.Statement.{statement}
 use Rattle.agreement.proofs.one_formula.one_formula.Tie as tie
 
@@ -26,7 +26,7 @@ mark-givers-requires : tie.Need-mark-givers-requires
 mark-givers-requires c κs =
     let g = entry (c .before .before) .pre .0 in
     let H = g .2 .formulas-held in
-    ((g .0, _, held-lines H .0, _, held-lines H .1, H .definitions-counted), refl)
+    (g .0, _, held-lines H .0, _, held-lines H .1, H .definitions-counted, rules-low H)
 
 slice-aggregate-states-right : tie.Need-slice-aggregate-states-right
 slice-aggregate-states-right c = search needs
@@ -54,8 +54,8 @@ states-right-requires c κs =
     let g = s .pre .0 in
     let H = g .2 .formulas-held in
     let sets = owned-all (g .4) (o .owned .ensures (g .0 .inheritedOwners) (g .3) (sym (g .4))) in (
-      (g .0, g .1, g .2, sets, m .mark-givers .ensures (g .0) _ _ _ (held-lines H .1) (H .definitions-counted)),
-      refl,
+      (g .0, g .1, g .2, sets, m .mark-givers .ensures (g .0) _ _ _ (held-lines H .1) (H .definitions-counted) (rules-low H)),
+      omega (arith, rules-low H, H .rules-counted),
       record { words-long = refl; marks-long = refl; heads-long = refl; nodes-room = s .pre .1 },
     )
 
@@ -71,7 +71,7 @@ returns c = λ b firsts W I e.
     let v = c .before .before .before .before .before .before .before .before in
     let m = v .before .before .before .before .before .before .before .before .before .before in
     let sets = owned-all e (m .before .before .before .owned .ensures (b .inheritedOwners) I (sym e)) in
-    v .states-right .ensures b firsts W sets (m .mark-givers .ensures b _ _ _ (held-lines H .1) (H .definitions-counted)) ∙ states-told H
+    v .states-right .ensures b firsts W sets (m .mark-givers .ensures b _ _ _ (held-lines H .1) (H .definitions-counted) (rules-low H)) ∙ states-told H
 
 pub one-formula-spec : {M : Type 1} → statement M
 one-formula-spec =

@@ -18,7 +18,7 @@ single-requires : tie.Need-single-requires
 single-requires c κs =
     let g = start c .pre .0 in
     let H = g .3 .formulas-held in
-    ((g .0, _, _, H .marks-held .items-in, g .3 .fronts-in, omega (arith, g .6, H .states-are)), g .5 .long)
+    (g .0, _, _, H .marks-held .items-in, g .3 .fronts-in, omega (arith, g .6, H .states-are), g .5 .long)
 
 returns : tie.Need-returns
 returns c = λ b firsts states W O L l.
@@ -32,7 +32,7 @@ masks-requires c κs =
     let s = entry c in
     let g = s .pre .0 in
     let H = g .3 .formulas-held in
-    (g .0, g .1, _, H .marks-held, held-check H (g .4) (s .pre .1), H .definitions-counted, H .rules-counted, omega (arith, g .6, H .states-are))
+    (g .0, g .1, _, H .marks-held, held-check H (g .4) (omega (arith, s .pre .1, H .rules-counted)), H .definitions-counted, H .rules-counted, omega (arith, g .6, H .states-are))
 
 check-state-requires : tie.Need-check-state-requires
 check-state-requires c κs =
@@ -40,7 +40,7 @@ check-state-requires c κs =
     let s = entry (m .before) in
     let g = s .pre .0 in
     let H = g .3 .formulas-held in
-    let C = held-check H (g .4) (s .pre .1) in
+    let C = held-check H {masks = s .args .sets .now} (g .4) (omega (arith, s .pre .1, H .rules-counted)) in
     let M = m .masks .ensures (g .0) (g .1) _ (H .marks-held) C (H .definitions-counted) (H .rules-counted) (omega (arith, g .6, H .states-are)) in (
       (g .0, held-check H (g .4) (M .long), H .definitions-counted),
       terminals-low H,
@@ -71,7 +71,7 @@ returns-2 c = λ b firsts states W O L l.
     let v = c .before .before .before .before .before .before .before .before .before .before in
     let m = v .before .before .before .before .before .before .before .before .before in
     let s = entry (m .before) in
-    let M = m .masks .ensures b firsts _ (H .marks-held) (held-check H O (s .pre .1)) (H .definitions-counted) (H .rules-counted)
+    let M = m .masks .ensures b firsts _ (H .marks-held) (held-check H O (omega (arith, s .pre .1, H .rules-counted))) (H .definitions-counted) (H .rules-counted)
     (omega (arith, l, H .states-are)) in
     v .check-state .ensures b (held-check H O (M .long)) (H .definitions-counted) (H .terminals-are)
     ∙ state-told H (s .args .state) M

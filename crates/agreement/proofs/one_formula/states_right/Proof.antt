@@ -1,7 +1,7 @@
 -- `one_formula::states_right` meets its contract: the states passed have one formula for each attribute.
 -- Assumes nothing.
 use Prim.Native.Nat.{ℕ, _-_, _≤_}
-use mathlib.Core.Path.{_≡_, refl, sym, _∙_}
+use mathlib.Core.Path.{_≡_, refl, sym}
 use mathlib.Core.Bool.{true}
 use mathlib.Core.List.{List}
 use native.Mathlib.Omega.{arith}
@@ -48,7 +48,7 @@ state-right-requires c κs =
     let at = t .before .loop in
     let g = entry (t .before) .pre in (
       (g .0 .0, g .0 .1, entry (t .before) .args .states, g .0 .2, g .0 .3, g .0 .4, t .loop-test .taken),
-      at .inv .1 ∙ g .1,
+      omega (arith, at .inv .1, g .1),
       room-kept (g .2) (at .inv .2) (at .inv .3) (at .inv .4) (at .inv .5) (at .inv .6),
     )
 

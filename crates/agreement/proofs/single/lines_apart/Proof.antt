@@ -23,7 +23,7 @@ loop-holds c = (omega arith, c .before .before .pre .1, apart-none _)
 line-gives-requires : tie.Need-line-gives-requires Inv-loop μ-loop
 line-gives-requires c κs =
     let s = c .before .before .before .before .pre in
-    ((s .0 .0, s .0 .1, s .0 .2, s .0 .3, omega (arith, c .loop-test .taken, s .0 .4)), s .2)
+    (s .0 .0, s .0 .1, s .0 .2, s .0 .3, omega (arith, c .loop-test .taken, s .0 .4), s .0 .5)
 
 returns : tie.Need-returns Inv-loop μ-loop
 returns c = λ e. absurd (true-false e refl)

@@ -4,7 +4,7 @@ use Prim.Native.Nat.{_+_, _-_, _<_}
 use mathlib.Core.Path.{refl}
 use native.Mathlib.Omega.{arith}
 use lib.Bits.{bitAnd}
-use lib.ListN.{getD}
+use lib.ListN.{length, getD}
 use borrow.Author.Needs.{needs}
 use Rattle.grammar.specs.Automaton.TestLaws.{true-false}
 use Rattle.automaton.specs.StatesIn.{state-range}
@@ -23,11 +23,15 @@ abbrev entry : tie.At-loop Inv-loop μ-loop → tie.Start Inv-loop μ-loop
 entry c = c .before .before .before .before .before .before
 
 -- the next rule is one of the book
-there : (c : tie.After-least Inv-loop μ-loop) → c .before .before .loop .rule + c .least .result < 64
-there c =
+within : (c : tie.After-least Inv-loop μ-loop)
+    → c .before .before .loop .rule + c .least .result < length (entry (c .before .before) .pre .0 .rules)
+within c =
     let head = c .before .before in
-    let g = entry head .pre .0 in
-    omega (arith, g .4 .low _ _ (g .5) (and-first _ _ _ (walk-there (head .loop .inv) (c .least .ensures))), g .3 .states-in .grammar-in .rules-in .fits)
+    let g = entry head .pre in
+    g .4 .low _ _ (g .5) (and-first _ _ _ (walk-there (head .loop .inv) (c .least .ensures)))
+
+there : (c : tie.After-least Inv-loop μ-loop) → c .before .before .loop .rule + c .least .result < 64
+there c = omega (arith, within c, entry (c .before .before) .pre .3 .states-in .grammar-in .rules-in .fits)
 
 mul-rest : tie.Need-mul-rest Inv-loop μ-loop
 mul-rest c = search needs
@@ -54,7 +58,7 @@ mul-here-2 : tie.Need-mul-here-2 Inv-loop μ-loop
 mul-here-2 c = omega (arith, there c)
 
 shared-slice-read-here : tie.Need-shared-slice-read-here Inv-loop μ-loop
-shared-slice-read-here c = let v = c .before in omega (arith, there v, entry (v .before .before) .pre .1)
+shared-slice-read-here c = let v = c .before in omega (arith, within v, entry (v .before .before) .pre .6)
 
 returns : tie.Need-returns Inv-loop μ-loop
 returns c = λ e. true-false e refl
@@ -85,11 +89,10 @@ word-requires-2 c κs = search needs
 lines-apart-requires : tie.Need-lines-apart-requires Inv-loop μ-loop
 lines-apart-requires c κs =
     let s = entry (c .before .before .before) in
-    let g = s .pre .0 in
+    let g = s .pre in
     let range = state-range (g .3 .states-in) (s .args .state) (g .5) in (
-      (g .0, g .1, s .args .starts .now, g .3 .states-in, omega (arith, c .word2 .ensures, range .within)),
+      (g .0, g .1, s .args .starts .now, g .3 .states-in, omega (arith, c .word2 .ensures, range .within), g .6),
       omega (arith, c .before .word .ensures, c .word2 .ensures, range .ordered),
-      s .pre .1,
     )
 
 returns-2 : tie.Need-returns-2 Inv-loop μ-loop

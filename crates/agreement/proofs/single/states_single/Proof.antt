@@ -34,7 +34,7 @@ loop-holds c = (omega arith, λ b rules closures o I W G e S l. absurd (omega ar
 single-requires : tie.Need-single-requires Inv-loop μ-loop
 single-requires c κs =
     let s = c .before .before .before .before .before .before .pre in
-    ((s .0 .0, s .0 .1, s .0 .2, s .0 .3, s .0 .4, omega (arith, c .loop-test .taken, s .0 .5)), s .1)
+    (s .0, s .1, s .2, s .3, s .4, omega (arith, c .loop-test .taken, s .5), s .6)
 
 returns : tie.Need-returns Inv-loop μ-loop
 returns c = λ e. true-false e refl

@@ -12,18 +12,19 @@ use Rattle.attempts.proofs.evaluating.attempt.Tie as tie
 abbrev start : tie.After-compile → tie.Start
 start c =
     c .before .before .before .before .before .before .before .before .before .before .before .before .before .before .before
-    .before .before .before .before .before .before .before .before .before .before .before .before
+    .before .before .before .before .before .before .before .before .before .before .before .before .before .before .before
+    .before .before .before
 
-abbrev compiled-at : tie.After-respond-arg10 → tie.After-compile
+abbrev compiled-at : tie.After-respond-arg14 → tie.After-compile
 compiled-at c =
-    c .before .before .before .before .before .before .before .before .before .before .before .before
-    .before .before .before .before .before .before .before .before .before .before .before .before
+    c .before .before .before .before .before .before .before .before .before .before .before .before .before .before .before
+    .before .before .before .before .before .before .before .before .before .before .before .before .before .before .before
     .before .before .before .before .before .before .before .before .before .before .before .before
 
-abbrev responded-at : tie.After-slice-known18 → tie.After-respond
-responded-at c = c .before .before .before .before .before
+abbrev responded-at : tie.After-slice-known29 → tie.After-respond
+responded-at c = c .before .before .before .before .before .before
 
-abbrev compile-at : tie.After-slice-known18 → tie.After-compile
+abbrev compile-at : tie.After-slice-known29 → tie.After-compile
 compile-at c = compiled-at (responded-at c .before)
 
 classes-requires : tie.Need-classes-requires
@@ -33,7 +34,7 @@ slice-reshare-prefix-compile : tie.Need-slice-reshare-prefix-compile
 slice-reshare-prefix-compile c = search needs
 
 slice-aggregate-compile : tie.Need-slice-aggregate-compile
-slice-aggregate-compile c = let s = c .before .before .before .before .before .before .before .before .before .before .before .before .before in
+slice-aggregate-compile c = let s = c .before .before .before .before .before .before .before .before .before .before .before .before .before .before .before .before .before .before in
     sym (length-take (s .args .n) (s .args .text .now) ∙ omega (arith, s .pre .0 .1 .inside))
 
 slice-aggregate-compile-2 : tie.Need-slice-aggregate-compile-2
@@ -42,28 +43,12 @@ slice-aggregate-compile-2 c = search needs
 slice-aggregate-compile-3 : tie.Need-slice-aggregate-compile-3
 slice-aggregate-compile-3 c = search needs
 
-slice-aggregate-compile-4 : tie.Need-slice-aggregate-compile-4
-slice-aggregate-compile-4 c = search needs
-
-slice-aggregate-compile-5 : tie.Need-slice-aggregate-compile-5
-slice-aggregate-compile-5 c = search needs
-
-slice-aggregate-compile-6 : tie.Need-slice-aggregate-compile-6
-slice-aggregate-compile-6 c = search needs
-
-slice-aggregate-compile-7 : tie.Need-slice-aggregate-compile-7
-slice-aggregate-compile-7 c = search needs
-
 compile-requires : tie.Need-compile-requires
-compile-requires c κs = let s = c .before .before .before .before .before .before .before .before .before .before .before .before .before .before .before
-    .before .before .before .before .before .before .before .before .before .before .before in
+compile-requires c κs = let k = c .before .before .before .before .before .before .before .before .before .before .before .before .before .before .before .before in
+    let s = k .before .before .before .before .before .before .before .before .before .before .before .before .before .before .before .before in
     let cut = length-take (s .args .n) (s .args .text .now) in (
       (
-        record {
-          table-is = c .before .before .before .before .before .before .before .before .before .before .before .before .before .before .before
-              .classes .ensures;
-          short = omega (arith, cut, s .pre .0 .1 .within);
-        },
+        record { table-is = k .classes .ensures; short = omega (arith, cut, s .pre .0 .1 .within) },
         omega (arith, cut, s .pre .1),
         lines-room (s .pre .4),
       ),
@@ -76,18 +61,6 @@ slice-aggregate-respond c = search needs
 slice-aggregate-respond-2 : tie.Need-slice-aggregate-respond-2
 slice-aggregate-respond-2 c = search needs
 
-slice-aggregate-respond-3 : tie.Need-slice-aggregate-respond-3
-slice-aggregate-respond-3 c = search needs
-
-slice-aggregate-respond-4 : tie.Need-slice-aggregate-respond-4
-slice-aggregate-respond-4 c = search needs
-
-slice-aggregate-respond-5 : tie.Need-slice-aggregate-respond-5
-slice-aggregate-respond-5 c = search needs
-
-slice-aggregate-respond-6 : tie.Need-slice-aggregate-respond-6
-slice-aggregate-respond-6 c = search needs
-
 respond-requires : tie.Need-respond-requires
 respond-requires c κs = let k = compiled-at c in
     let s = start k in (
@@ -99,6 +72,7 @@ respond-requires c κs = let k = compiled-at c in
         found = s .pre .0 .1;
         compiles = k .compile .ensures;
       },
+      omega (arith, k .compile .kept .1 .1 .1 .1 .1 .1 .1 .1 .1 .1 .0, s .pre .4 .begins-long),
       s .pre .3,
     )
 
@@ -118,16 +92,31 @@ same-length-5 : tie.Need-same-length-5
 same-length-5 c = compile-at c .compile .kept .1 .1 .1 .1 .1 .1 .1 .1 .0
 
 same-length-6 : tie.Need-same-length-6
-same-length-6 c = compile-at c .compile .kept .1 .1 .1 .1 .1 .1 .1 .1 .1 .1 .1 .1 .1 .0
+same-length-6 c = compile-at c .compile .kept .1 .1 .1 .1 .1 .1 .1 .1 .1 .0
 
 same-length-7 : tie.Need-same-length-7
-same-length-7 c = compile-at c .compile .kept .1 .1 .1 .1 .1 .1 .1 .1 .1 .1 .1 .1 .1 .1 .0
+same-length-7 c = responded-at c .respond .kept .1 .1 .1 .1 .1 .1 .1 .1 .1 .1 .1 .1 .1 .1 .0 ∙ compile-at c .compile .kept .1 .1 .1 .1 .1 .1 .1 .1 .1 .1 .0
 
 same-length-8 : tie.Need-same-length-8
-same-length-8 c = compile-at c .compile .kept .1 .1 .1 .1 .1 .1 .1 .1 .1 .1 .1 .1 .1 .1 .1 .0
+same-length-8 c = compile-at c .compile .kept .1 .1 .1 .1 .1 .1 .1 .1 .1 .1 .1 .0
 
 same-length-9 : tie.Need-same-length-9
-same-length-9 c = responded-at c .respond .kept .1 .1 .1 .1 .1 .1 .1 .1 .1 .1 .1 .1 .1 .1 .1 .1 .0
+same-length-9 c = compile-at c .compile .kept .1 .1 .1 .1 .1 .1 .1 .1 .1 .1 .1 .1 .0
+
+same-length-10 : tie.Need-same-length-10
+same-length-10 c = compile-at c .compile .kept .1 .1 .1 .1 .1 .1 .1 .1 .1 .1 .1 .1 .1 .0
+
+same-length-11 : tie.Need-same-length-11
+same-length-11 c = compile-at c .compile .kept .1 .1 .1 .1 .1 .1 .1 .1 .1 .1 .1 .1 .1 .1 .0
+
+same-length-12 : tie.Need-same-length-12
+same-length-12 c = compile-at c .compile .kept .1 .1 .1 .1 .1 .1 .1 .1 .1 .1 .1 .1 .1 .1 .1 .0
+
+same-length-13 : tie.Need-same-length-13
+same-length-13 c = compile-at c .compile .kept .1 .1 .1 .1 .1 .1 .1 .1 .1 .1 .1 .1 .1 .1 .1 .1 .0
+
+same-length-14 : tie.Need-same-length-14
+same-length-14 c = responded-at c .respond .kept .1 .1 .1 .1 .1 .1 .1 .1 .1 .1 .1 .1 .1 .1 .1 .1 .0
 
 returns : tie.Need-returns
 returns c = let k = compile-at c in
@@ -147,17 +136,9 @@ attempt-spec =
     slice-aggregate-compile
     slice-aggregate-compile-2
     slice-aggregate-compile-3
-    slice-aggregate-compile-4
-    slice-aggregate-compile-5
-    slice-aggregate-compile-6
-    slice-aggregate-compile-7
     compile-requires
     slice-aggregate-respond
     slice-aggregate-respond-2
-    slice-aggregate-respond-3
-    slice-aggregate-respond-4
-    slice-aggregate-respond-5
-    slice-aggregate-respond-6
     respond-requires
     same-length
     same-length-2
@@ -168,4 +149,9 @@ attempt-spec =
     same-length-7
     same-length-8
     same-length-9
+    same-length-10
+    same-length-11
+    same-length-12
+    same-length-13
+    same-length-14
     returns)

@@ -3,8 +3,7 @@ use mathlib.Core.Path.{ap, _∙_}
 use native.Mathlib.Omega.{arith}
 use lib.ListN.{replicate}
 use borrow.Author.Tests.{not-true, not-false}
-use Rattle.attempts.specs.Driving.{sets-room}
-use Rattle.attempts.specs.Attempts.{book-taken, states-within, attempts-part, attempts-none, attempts-asked, attempts-run}
+use Rattle.attempts.specs.Attempts.{book-taken, rules-within, states-within, attempts-part, attempts-none, attempts-asked, attempts-run}
 use borrow.Author.Needs.{needs}
 use Rattle.attempts.proofs.evaluating.respond.Statement.{statement}
 use Rattle.attempts.proofs.evaluating.respond.Tie as tie
@@ -53,15 +52,15 @@ message-requires c κs =
     let a = p .before in
     let e = taken-at a in
     let w = whole-at e in
-    let (room, n, text, R, long) = start w .pre in
+    let (room, n, text, R, sets, slots) = start w .pre in
     let whole = not-false _ (w .if1 .left) in
-    let taken = book-taken R whole (e .if2 .left) in (
-      (_, taken),
+    let taken = e .if2 .left in (
+      book-taken R whole taken,
       (
         a .asked .ensures .passed (p .if3 .left),
         k .clear .ensures ∙ ap (λ n. replicate n 0) (a .asked .ensures .all-rows (p .if3 .left)),
-        sets-room (taken .1),
-        omega (arith, long, states-within R whole (e .if2 .left)),
+        omega (arith, sets, rules-within R whole taken),
+        omega (arith, slots, states-within R whole taken),
       ),
     )
 
@@ -80,7 +79,7 @@ returns-4 c = λ room n text R.
     let p = passed-at (clear-at (m .before)) in
     let a = p .before in
     let e = taken-at a in
-    attempts-run R (not-false _ (whole-at e .if1 .left)) (e .if2 .left) (a .asked .ensures) (p .if3 .left) (m .message .ensures _)
+    attempts-run R (not-false _ (whole-at e .if1 .left)) (e .if2 .left) (a .asked .ensures) (p .if3 .left) (m .message .ensures)
 
 pub respond-spec : {M : Type 1} → statement M
 respond-spec =

@@ -46,9 +46,9 @@ same-length-6 : tie.Need-same-length-6
 same-length-6 c = search needs
 
 returns-2 : tie.Need-returns-2
-returns-2 c = λ begins b t m.
+returns-2 c = λ b t m.
     let k = c .before .before .before .before .before .before .before .before in
-    k .message-short .ensures begins b t m (c .if2 .taken)
+    k .message-short .ensures b t m (c .if2 .taken)
 
 clear-requires : tie.Need-clear-requires
 clear-requires c κs = search needs
@@ -64,7 +64,7 @@ message-full-requires-2 c κs =
       (
         message,
         e .clear .ensures ∙ ap (λ n. replicate n 0) (kept .1 .1 .0 ∙ ap length rows ∙ zeros PAGE-WORDS),
-        kept .0 ∙ sets,
+        omega (arith, kept .0, sets),
         omega (arith, kept .1 .0, slots),
       ),
     )

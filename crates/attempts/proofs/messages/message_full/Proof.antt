@@ -44,8 +44,8 @@ same-length-3 : tie.Need-same-length-3
 same-length-3 c = search needs
 
 returns : tie.Need-returns
-returns c = λ begins b t m. let k = c .before .before .before .before .before .before .before .before .before .before .before in
-    k .message-on .ensures begins b t m (λ e. zeros 128)
+returns c = λ b t m. let k = c .before .before .before .before .before .before .before .before .before .before .before in
+    k .message-on .ensures b t m (λ e. zeros 128)
 
 pub message-full-spec : {M : Type 1} → statement M
 message-full-spec =

@@ -2,7 +2,7 @@
 use mathlib.Core.Path.{refl}
 use Rattle.compiler.specs.Compiling.{asked-formulas}
 use Rattle.attempts.specs.Sides.{asked-sides}
-use Rattle.attempts.specs.Driving.{places-asked, run-in, tokens-of, plans-of}
+use Rattle.attempts.specs.Driving.{places-asked, places-room, run-in, tokens-of, plans-of}
 use borrow.Author.Needs.{needs}
 use Rattle.attempts.proofs.messages.message_on.Statement.{statement}
 use Rattle.attempts.proofs.messages.message_on.Tie as tie
@@ -38,7 +38,7 @@ slice-aggregate-fill-sides-4 c = search needs
 
 fill-sides-requires : tie.Need-fill-sides-requires
 fill-sides-requires c κs = let s = sides-start c in
-    ((s .pre .0 .1 .0, asked-sides (s .pre .0 .1 .1 .ready)), (refl, refl, refl, refl))
+    ((s .pre .0 .0, asked-sides (s .pre .0 .1 .ready)), (refl, refl, refl, refl))
 
 cast-mark-places : tie.Need-cast-mark-places
 cast-mark-places c = search needs
@@ -48,8 +48,8 @@ slice-aggregate-mark-places c = search needs
 
 mark-places-requires : tie.Need-mark-places-requires
 mark-places-requires c κs = let o = sides-at c in
-    let (begins, (b, t)) = sides-start (o .before) .pre .0 in
-    ((b, _, _, places-asked t (o .fill-sides .ensures b (asked-sides (t .ready))), asked-formulas (t .ready) .definitions-counted), refl)
+    let (b, t) = sides-start (o .before) .pre .0 in
+    (b, _, _, places-asked t (o .fill-sides .ensures b (asked-sides (t .ready))), asked-formulas (t .ready) .definitions-counted, places-room t)
 
 cast-fill : tie.Need-cast-fill
 cast-fill c = search needs
@@ -80,10 +80,10 @@ run-requires c κs = let f = cleared-at c in
     let p = marked-at (f .before) in
     let o = sides-at (p .before) in
     let s = sides-start (o .before) in
-    let (begins, (b, t)) = s .pre .0 in
+    let (b, t) = s .pre .0 in
     let (m, rows, rooms, long, none) = s .pre .1 in
     let sides = o .fill-sides .ensures b (asked-sides (t .ready)) in
-    let places = p .mark-places .ensures b _ _ (places-asked t sides) (asked-formulas (t .ready) .definitions-counted) in (
+    let places = p .mark-places .ensures b _ _ (places-asked t sides) (asked-formulas (t .ready) .definitions-counted) (places-room t) in (
       (rooms, rows),
       (b, m .list, run-in t sides places (m .tokens-are), tokens-of t m, plans-of t _ long (f .fill .ensures) none),
     )
@@ -113,13 +113,13 @@ same-length-8 : tie.Need-same-length-8
 same-length-8 c = search needs
 
 returns : tie.Need-returns
-returns c = λ begins b t m. let k = c .before .before .before .before .before .before .before .before .before .before .before .before .before .before .before .before in
+returns c = λ b t m. let k = c .before .before .before .before .before .before .before .before .before .before .before .before .before .before .before .before in
     let f = cleared-at (k .before) in
     let p = marked-at (f .before) in
     let o = sides-at (p .before) in
     let (_, _, _, long, none) = sides-start (o .before) .pre .1 in
     let sides = o .fill-sides .ensures b (asked-sides (t .ready)) in
-    let places = p .mark-places .ensures b _ _ (places-asked t sides) (asked-formulas (t .ready) .definitions-counted) in
+    let places = p .mark-places .ensures b _ _ (places-asked t sides) (asked-formulas (t .ready) .definitions-counted) (places-room t) in
     k .run .ensures b (m .list) (run-in t sides places (m .tokens-are)) (tokens-of t m) (plans-of t _ long (f .fill .ensures) none)
 
 pub message-on-spec : {M : Type 1} → statement M

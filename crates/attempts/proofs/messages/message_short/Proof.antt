@@ -43,8 +43,8 @@ same-length-3 : tie.Need-same-length-3
 same-length-3 c = search needs
 
 returns : tie.Need-returns
-returns c = λ begins b t m n. let k = c .before .before .before .before .before .before .before .before .before .before .before in
-    k .message-on .ensures begins b t m (λ e. absurd (n e))
+returns c = λ b t m n. let k = c .before .before .before .before .before .before .before .before .before .before .before in
+    k .message-on .ensures b t m (λ e. absurd (n e))
 
 pub message-short-spec : {M : Type 1} → statement M
 message-short-spec =

@@ -4,7 +4,7 @@ use Prim.Native.Nat.{_≤_, _<_}
 use mathlib.Core.Path.{_∙_}
 use native.Mathlib.Omega.{arith}
 use borrow.Author.Needs.{needs}
-use Rattle.attributes.specs.CheckingLaws.{rule-low, rule-place, position-low, position-high, left-below, due-absent, due-behind, due-front}
+use Rattle.attributes.specs.CheckingLaws.{rule-there, rule-low, rule-place, position-low, position-high, left-below, due-absent, due-behind, due-front}
 use Rattle.attributes.proofs.due.due.Statement.{statement}
 use Rattle.attributes.proofs.due.due.Tie as tie
 
@@ -61,7 +61,10 @@ mul-meets-2 : tie.Need-mul-meets-2
 mul-meets-2 c = omega (arith, rule c, low c, high c)
 
 shared-slice-read-meets : tie.Need-shared-slice-read-meets
-shared-slice-read-meets c = omega (arith, rule (c .before), low (c .before), high (c .before), entry (c .before) .pre .2 .masks-long)
+shared-slice-read-meets c =
+    let w = c .before in
+    let H = entry w .pre .2 in
+    omega (arith, w .before .word .ensures, rule-there H (entry w .pre .3), low w, high w, H .masks-long)
 
 meets-requires : tie.Need-meets-requires
 meets-requires c κs = search needs

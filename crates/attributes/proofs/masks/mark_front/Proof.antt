@@ -1,9 +1,11 @@
 -- `masks::mark_front` meets its contract: the item of a definition with the dot in front is marked as its rule's.
 -- Assumes nothing.
+use Prim.Native.Nat.{_<_}
 use native.Mathlib.Omega.{arith}
 use mathlib.Core.Path.{sym, _∙_}
+use lib.ListN.{length}
 use borrow.Author.Needs.{needs}
-use Rattle.attributes.specs.CheckingLaws.{rule-word}
+use Rattle.attributes.specs.CheckingLaws.{rule-there}
 use Rattle.attributes.specs.MarkFronts.{mark-other, mark-here}
 use Rattle.attributes.proofs.masks.mark_front.Statement.{statement}
 use Rattle.attributes.proofs.masks.mark_front.Tie as tie
@@ -33,8 +35,9 @@ word-requires-2 c κs = search needs
 mark-rule-requires : tie.Need-mark-rule-requires
 mark-rule-requires c κs =
     let g = entry c .pre in
-    let (b, owned, cleared, L, C, H, l) = g .0 in
-    ((b .rules, L, H, omega (arith, c .before .word2 .ensures, rule-word C l, C .line-in _ l .rule-there)), g .1, g .2, g .3, g .4)
+    let (b, owned, cleared, L, C, H, l, room) = g .0 in
+    let there : c .before .word2 .result < length (b .rules) = omega (arith, c .before .word2 .ensures, rule-there C l) in
+    ((b .rules, L, H, there), g .1, omega (arith, room .nulls-long), omega (arith, room .reaches-long), omega (arith, room .masks-long))
 
 same-length : tie.Need-same-length
 same-length c = search needs
@@ -45,7 +48,7 @@ returns-2 c = λ b F R firsts owned cleared L C H l N T M.
     let w = v .before .before in
     let e = w .before in
     mark-here C l L (w .word2 .ensures) (sym (e .before .word .ensures) ∙ e .if1 .left)
-    (v .mark-rule .ensures (b .rules) F R firsts L _ H (omega (arith, w .word2 .ensures, rule-word C l, C .line-in _ l .rule-there)) N T M)
+    (v .mark-rule .ensures (b .rules) F R firsts L _ H (omega (arith, w .word2 .ensures, rule-there C l)) N T M)
 
 pub mark-front-spec : {M : Type 1} → statement M
 mark-front-spec =

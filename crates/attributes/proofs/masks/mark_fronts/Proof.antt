@@ -1,7 +1,7 @@
 -- `masks::mark_fronts` meets its contract: the items of the definitions passed are in the sets.
 -- Assumes nothing.
 use Prim.Native.Nat.{ℕ, _-_, _≤_}
-use mathlib.Core.Path.{_≡_, refl, _∙_}
+use mathlib.Core.Path.{_≡_, refl}
 use mathlib.Core.List.{List, []}
 use native.Mathlib.Omega.{arith}
 use lib.ListN.{length}
@@ -11,7 +11,7 @@ use Rattle.grammar.specs.Automaton.FirstSets.{Sets}
 use Rattle.grammar.specs.Formulas.FormulaCheck as grammar
 use Rattle.items.specs.Arrays.{SuffixesIn, ReachesIn}
 use Rattle.attributes.specs.Checking.{CheckHeld}
-use Rattle.attributes.specs.Marks.{MarksIn}
+use Rattle.attributes.specs.Marks.{MarksIn, room-kept}
 use Rattle.attributes.specs.MarkFronts.{LooksIn, fronts, fronts-start, fronts-nothing}
 use Rattle.attributes.proofs.masks.mark_fronts.Statement.{statement}
 use Rattle.attributes.proofs.masks.mark_fronts.Tie as tie
@@ -39,7 +39,8 @@ mark-front-requires : tie.Need-mark-front-requires Inv-loop μ-loop
 mark-front-requires c κs =
     let t = c .before in
     let g = t .before .before .before .before .before .before .before .before .before .before .pre in
-    ((g .0 .0, g .0 .1, g .0 .2, g .0 .3, g .0 .4, g .0 .5, omega (arith, t .loop-test .taken, g .0 .6)), g .1, g .2, g .3, t .before .loop .inv .1 ∙ g .4)
+    let (b, owned, cleared, L, C, H, e, room) = g .0 in
+    ((b, owned, cleared, L, C, H, omega (arith, t .loop-test .taken, e), room-kept room (t .before .loop .inv .1)), g .1)
 
 add-i : tie.Need-add-i Inv-loop μ-loop
 add-i c = search needs

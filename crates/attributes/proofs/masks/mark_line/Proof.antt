@@ -10,7 +10,7 @@ use Rattle.attributes.proofs.masks.mark_line.Tie as tie
 
 -- the line is in the array
 below : (c : tie.Start) → 5 * c .args .i + 4 < length (c .args .kernels .now)
-below c = line-below (c .pre .0 .2) (c .args .i) (c .pre .0 .3)
+below c = line-below (c .pre .2) (c .args .i) (c .pre .3)
 
 mul-word : tie.Need-mul-word
 mul-word c = search needs
@@ -46,8 +46,8 @@ mark-item-requires : tie.Need-mark-item-requires
 mark-item-requires c κs =
     let w = c .before .before in
     let s = w .before .before .before .before .before .before in
-    let place = item-place (s .pre .0 .2) (s .args .i) (s .pre .0 .3) (w .before .word .ensures) (w .word2 .ensures) in
-    (omega (arith, place, s .pre .1), omega (arith, place, s .pre .2), omega (arith, place, s .pre .3))
+    let place = item-place (s .pre .2) (s .args .i) (s .pre .3) (w .before .word .ensures) (w .word2 .ensures) in
+    (omega (arith, place, s .pre .4 .nulls-long), omega (arith, place, s .pre .4 .reaches-long), omega (arith, place, s .pre .4 .masks-long))
 
 same-length : tie.Need-same-length
 same-length c = search needs

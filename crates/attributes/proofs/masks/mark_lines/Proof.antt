@@ -1,7 +1,7 @@
 -- `masks::mark_lines` meets its contract: the lines from i on are in the sets.
 -- Assumes nothing.
 use Prim.Native.Nat.{ℕ, _≤_}
-use mathlib.Core.Path.{_≡_, refl, _∙_}
+use mathlib.Core.Path.{_≡_, refl}
 use mathlib.Core.List.{List, _++_}
 use native.Mathlib.Omega.{arith}
 use lib.ListN.{length}
@@ -12,7 +12,7 @@ use Rattle.grammar.specs.Data.Book.{Kernel}
 use Rattle.grammar.specs.Automaton.FirstSets.{Sets}
 use Rattle.grammar.specs.Automaton.CoreItems.{Core, ofKernels}
 use Rattle.items.specs.Arrays.{SuffixesIn, ReachesIn}
-use Rattle.attributes.specs.Marks.{MarksIn}
+use Rattle.attributes.specs.Marks.{MarksIn, room-kept}
 use Rattle.attributes.specs.MarkLines.{ItemLinesIn, lines-start, lines-turn}
 use Rattle.attributes.proofs.masks.mark_lines.Statement.{statement}
 use Rattle.attributes.proofs.masks.mark_lines.Tie as tie
@@ -38,7 +38,8 @@ mark-line-requires c κs =
     let t = c .before in
     let at = t .before .loop in
     let g = t .before .before .before .before .before .before .pre in
-    ((g .0 .0, g .0 .1, g .0 .2, omega (arith, t .loop-test .taken, at .inv .1, g .0 .3)), g .2, g .3, at .inv .2 ∙ g .4)
+    let (G, ks, L, l, room) = g .0 in
+    (G, ks, L, omega (arith, t .loop-test .taken, at .inv .1, l), room-kept room (at .inv .2))
 
 loop-less : tie.Need-loop-less Inv-loop μ-loop
 loop-less c = search needs

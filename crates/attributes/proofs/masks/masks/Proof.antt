@@ -2,13 +2,12 @@
 -- Assumes nothing.
 use Prim.Native.Nat.{_*_, _≤_}
 use native.Mathlib.Omega.{arith}
-use mathlib.Core.Path.{_∙_}
 use lib.ListN.{length}
 use Rattle.grammar.specs.Automaton.FirstSets.{setsOf}
 use Rattle.grammar.specs.Automaton.ReachSets.{reachSets}
 use Rattle.grammar.specs.Automaton.ClosureSets.{closureSets}
 use borrow.Author.Needs.{needs}
-use Rattle.attributes.specs.StateMarks.{marks-cleared, item-lines, state-looks, looks-below, starts-below, range, marks-state}
+use Rattle.attributes.specs.StateMarks.{marks-cleared, marks-room, item-lines, state-looks, looks-below, starts-below, range, marks-state}
 use Rattle.attributes.proofs.masks.masks.Statement.{statement}
 use Rattle.attributes.proofs.masks.masks.Tie as tie
 
@@ -18,7 +17,7 @@ entry c = c .before .before .before .before .before .before .before .before .bef
 
 -- the words of the rules are words of the sets
 few : (s : tie.Start) → 9 * s .args .count ≤ length (s .args .masks .now)
-few s = let (b, firsts, owned, H, C, e, n, l) = s .pre in omega (arith, n, C .masks-long, H .items-in .states-in .grammar-in .rules-in .fits)
+few s = let (b, firsts, owned, H, C, e, n, l) = s .pre in omega (arith, n, C .masks-long)
 
 mul-clear : tie.Need-mul-clear
 mul-clear c = omega (arith, few (c .before .before .before .before .before .before .before .before .before))
@@ -33,11 +32,8 @@ mark-fronts-requires : tie.Need-mark-fronts-requires
 mark-fronts-requires c κs =
     let s = entry c in
     let (b, firsts, owned, H, C, e, n, l) = s .pre in (
-      (b, owned, _, closureSets b (setsOf (b .rules)) (s .args .state), C, state-looks H l, e),
+      (b, owned, _, closureSets b (setsOf (b .rules)) (s .args .state), C, state-looks H l, e, marks-room H C (c .before .before .before .clear .kept .0)),
       looks-below H l,
-      H .rests-in .suffixes-in .nulls-long,
-      H .rests-in .reaches-in .long,
-      c .before .before .before .clear .kept .0 ∙ C .masks-long,
     )
 
 word-requires : tie.Need-word-requires
@@ -53,11 +49,8 @@ mark-lines-requires : tie.Need-mark-lines-requires
 mark-lines-requires c κs =
     let (b, firsts, owned, H, C, e, n, l) = entry (c .before .before .before .before .before .before) .pre in
     let lines = range H l (c .before .before .word .ensures) (c .before .word2 .ensures) in (
-      (b .rules, b .kernels, item-lines H, lines .within),
+      (b .rules, b .kernels, item-lines H, lines .within, marks-room H C (search needs)),
       lines .ordered,
-      H .rests-in .suffixes-in .nulls-long,
-      H .rests-in .reaches-in .long,
-      search needs,
     )
 
 same-length : tie.Need-same-length
@@ -80,7 +73,7 @@ returns c = λ b firsts owned H C e n l.
     (v .mark-lines .ensures G F R firsts (b .kernels) _ (item-lines H) (range H l first last .within) N T
     (m .mark-fronts .ensures b F R firsts owned _ (closureSets b F (s .args .state)) C (state-looks H l) e N T
     (marks-cleared b F R (s .args .masks .now) n (m .before .before .before .before .clear .ensures)
-    (m .before .before .before .before .clear .kept .0 ∙ C .masks-long))))
+    (omega (arith, m .before .before .before .before .clear .kept .0, C .masks-long)))))
 
 pub masks-spec : {M : Type 1} → statement M
 masks-spec =

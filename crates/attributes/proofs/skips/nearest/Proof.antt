@@ -3,7 +3,7 @@
 use Prim.Native.Nat.{_≤_, _<_}
 use native.Mathlib.Omega.{arith}
 use borrow.Author.Needs.{needs}
-use Rattle.attributes.specs.CheckingLaws.{rule-low, position-low, position-high}
+use Rattle.attributes.specs.CheckingLaws.{rule-there, rule-low, position-low, position-high}
 use Rattle.attributes.specs.Skips.{skip-here, skip-on}
 use Rattle.attributes.proofs.skips.nearest.Statement.{statement}
 use Rattle.attributes.proofs.skips.nearest.Tie as tie
@@ -53,7 +53,10 @@ mul-if1-2 : tie.Need-mul-if1-2
 mul-if1-2 c = omega (arith, rule c, low c, high c)
 
 shared-slice-read-if1 : tie.Need-shared-slice-read-if1
-shared-slice-read-if1 c = omega (arith, rule (c .before), low (c .before), high (c .before), entry (c .before) .pre .3 .masks-long)
+shared-slice-read-if1 c =
+    let w = c .before in
+    let H = entry w .pre .3 in
+    omega (arith, w .before .word .ensures, rule-there H (entry w .pre .4), low w, high w, H .masks-long)
 
 returns : tie.Need-returns
 returns c = λ lines l S.

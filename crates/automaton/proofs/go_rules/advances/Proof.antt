@@ -3,7 +3,7 @@ use Prim.Native.Nat.{_+_, _*_, _<_}
 use native.Mathlib.Omega.{arith}
 use lib.ListN.{length, getD}
 use Rattle.items.specs.GrammarIn.{RuleLow, rule-low}
-use Rattle.automaton.specs.Advances.{advances-complete, advances-nowhere, advances-found, target-range, target-low}
+use Rattle.automaton.specs.Advances.{advances-complete, advances-nowhere, advances-found, target-range, target-within, target-low}
 use Rattle.automaton.proofs.go_rules.advances.Statement.{statement}
 use Rattle.automaton.proofs.go_rules.advances.Tie as tie
 
@@ -38,7 +38,7 @@ target c =
     let s = c .before .before .before .before .before .before .before .before .before in
     omega (
       arith,
-      target-low (s .pre .1) (s .pre .2) (more (c .before .before .before)) (c .before .before .word2 .ensures) (c .if2 .left),
+      target-within (s .pre .1) (s .pre .2) (more (c .before .before .before)) (c .before .before .word2 .ensures) (c .if2 .left),
       s .pre .1 .states-in .starts-in .long,
     )
 
@@ -90,7 +90,8 @@ word-requires-3 c κs = omega (arith, target c)
 add-word-4 : tie.Need-add-word-4
 add-word-4 c =
     let start = c .before .before .before .before .before .before .before .before .before .before in
-    omega (arith, target (c .before), start .pre .1 .states-in .starts-in .long)
+    let at = c .before in
+    omega (arith, target-low (start .pre .1) (start .pre .2) (more (at .before .before .before)) (at .before .before .word2 .ensures) (at .if2 .left))
 
 word-requires-4 : tie.Need-word-requires-4
 word-requires-4 c κs = target (c .before)

@@ -4,7 +4,7 @@ use native.Mathlib.Omega.{arith}
 use Rattle.grammar.specs.Automaton.CoreItems.{coreItems}
 use Rattle.book.specs.Held.{goAt}
 use Rattle.automaton.specs.GoTable.{LineLow}
-use Rattle.automaton.specs.Comes.{go-low, go-declared, state-there, goal-range, goal-bare, goal-comes}
+use Rattle.automaton.specs.Comes.{go-low, go-declared, state-there, goal-there, goal-range, goal-bare, goal-comes}
 use Rattle.automaton.proofs.go_rules.line_comes.Statement.{statement}
 use Rattle.automaton.proofs.go_rules.line_comes.Tie as tie
 
@@ -43,7 +43,7 @@ word-requires-3 c κs = omega (arith, low (c .before .before .before .before .be
 word-requires-4 : tie.Need-word-requires-4
 word-requires-4 c κs =
     let start = c .before .before .before .before .before .before .before .before in
-    omega (arith, low start .target-low, c .word3 .ensures, start .pre .2 .states-in .starts-in .long)
+    omega (arith, goal-there (start .pre .2 .states-in) (start .pre .3) (start .pre .4) (c .word3 .ensures), start .pre .2 .states-in .starts-in .long)
 
 add-word-3 : tie.Need-add-word-3
 add-word-3 c = omega (arith, low (c .before .before .before .before .before .before .before .before .before) .target-low, c .before .word3 .ensures)
@@ -51,7 +51,7 @@ add-word-3 c = omega (arith, low (c .before .before .before .before .before .bef
 word-requires-5 : tie.Need-word-requires-5
 word-requires-5 c κs =
     let start = c .before .before .before .before .before .before .before .before .before in
-    omega (arith, low start .target-low, c .before .word3 .ensures, start .pre .2 .states-in .starts-in .long)
+    omega (arith, goal-there (start .pre .2 .states-in) (start .pre .3) (start .pre .4) (c .before .word3 .ensures), start .pre .2 .states-in .starts-in .long)
 
 returns : tie.Need-returns
 returns c =

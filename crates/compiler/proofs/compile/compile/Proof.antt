@@ -10,11 +10,11 @@ use Rattle.compiler.proofs.compile.compile.Tie as tie
 
 -- from each call back to the one before
 
-abbrev lent-at : tie.After-spelling → tie.After-slice-known13
+abbrev lent-at : tie.After-spelling → tie.After-slice-known14
 lent-at c = c .before .before .before .before .before .before .before .before
 
 abbrev start : tie.After-spelling → tie.Start
-start c = lent-at c .before .before .before .before .before .before .before .before .before .before .before .before .before .before
+start c = lent-at c .before .before .before .before .before .before .before .before .before .before .before .before .before .before .before
 
 abbrev read-of : tie.After-complete → tie.After-spelling
 read-of c = c .before .before .before .before .before .before .before .before .before .before .before .before .before .before .before .before
@@ -23,10 +23,10 @@ abbrev spelling-at : tie.Else1 → tie.After-spelling
 spelling-at c = read-of (c .before .before)
 
 abbrev read-at : tie.After-check → tie.Else1
-read-at c = c .before .before .before .before .before .before .before .before .before .before .before .before .before .before
+read-at c = c .before .before .before .before .before .before .before .before .before .before .before .before .before .before .before
 
-abbrev check-at : tie.After-slice-known27 → tie.After-check
-check-at c = c .before .before .before .before .before .before .before .before .before .before .before .before .before .before
+abbrev check-at : tie.After-slice-known29 → tie.After-check
+check-at c = c .before .before .before .before .before .before .before .before .before .before .before .before .before .before .before .before
 
 spelling-requires : tie.Need-spelling-requires
 spelling-requires c κs = search needs
@@ -60,7 +60,7 @@ returns c = let w = c .before .before .before in
     compiles-unread _ (read-of w .spelling .ensures) (w .complete .ensures) (not-true _ (c .before .if1 .taken))
 
 check-requires : tie.Need-check-requires
-check-requires c κs = let e = c .before .before .before .before .before .before .before .before .before .before .before .before .before in
+check-requires c κs = let e = c .before .before .before .before .before .before .before .before .before .before .before .before .before .before in
     let s = spelling-at e in
     let (spelled, fits) = both-true _ _ (not-false _ (e .if1 .left)) in
     let all = e .before .before .complete .ensures .sound fits in
@@ -103,8 +103,11 @@ same-length-19 : tie.Need-same-length-19
 same-length-19 c = search needs
 
 same-length-20 : tie.Need-same-length-20
-same-length-20 c =
-    let k = check-at c in k .check .kept .1 .1 .1 .1 .1 .1 .1 .1 .1 .1 .1 .1 .1 .0 ∙ spelling-at (read-at k) .spelling .kept .1 .1 .0
+same-length-20 c = search needs
+
+same-length-21 : tie.Need-same-length-21
+same-length-21 c =
+    let k = check-at c in k .check .kept .1 .1 .1 .1 .1 .1 .1 .1 .1 .1 .1 .1 .1 .1 .0 ∙ spelling-at (read-at k) .spelling .kept .1 .1 .0
 
 returns-2 : tie.Need-returns-2
 returns-2 c = let k = check-at c in
@@ -141,4 +144,5 @@ compile-spec =
     same-length-18
     same-length-19
     same-length-20
+    same-length-21
     returns-2)

@@ -2,7 +2,7 @@
 use Prim.Native.Nat.{ℕ, _≤_}
 use mathlib.Core.List.{List}
 use native.Mathlib.Omega.{arith}
-use Rattle.grammar.specs.Limits.{MAX-STATES}
+use Rattle.grammar.specs.Limits.{MAX-RULES, MAX-STATES}
 use Rattle.grammar.specs.Data.Book.{Book}
 use borrow.Author.Needs.{needs}
 use borrow.Author.Tests.{not-true, not-false}
@@ -14,6 +14,10 @@ use Rattle.compiler.proofs.states.tables.Tie as tie
 few : {b : Book} {rules kernels goes : List ℕ} {count items lines terminals states : ℕ}
     → BookHeld b rules count kernels items goes lines terminals states → states ≤ MAX-STATES
 few H = omega (arith, H .kernels-held .states-are, H .kernels-held .limits .states-limit .high)
+
+few-rules : {b : Book} {rules kernels goes : List ℕ} {count items lines terminals states : ℕ}
+    → BookHeld b rules count kernels items goes lines terminals states → count ≤ MAX-RULES
+few-rules H = omega (arith, H .rules-counted, H .kernels-held .rules-in .fits)
 
 -- from each call back to the one before
 
@@ -33,7 +37,10 @@ abbrev moves-at : tie.After-actions → tie.After-moves
 moves-at c = c .before .before .before .before .before .before .before .before
 
 kernel-states-requires : tie.Need-kernel-states-requires
-kernel-states-requires c κs = search needs
+kernel-states-requires c κs =
+    let s = c .before .before .before .before .before .before .before .before .before .before .before .before in
+    let (b, H) = s .pre .0 in
+    ((b, H .kernels-held, H .kernels-counted), s .pre .1 .starts-long (few H))
 
 same-length : tie.Need-same-length
 same-length c = search needs
@@ -46,9 +53,12 @@ fill-items-requires : tie.Need-fill-items-requires
 fill-items-requires c κs =
     let s = c .before .before .before .before .before .before .before .before in
     let (b, H) = start s .pre .0 in
-    let room = start s .pre .1 .0 in
-    let (k, T) = s .kernel-states .ensures b (H .kernels-held) (H .kernels-counted) in
-    ((b, H .kernels-held, H .rules-counted, T), (room .vanishes-long, room .begins-long, room .reached-long, room .closures-blank (few H)))
+    let room = start s .pre .1 in
+    let low = few-rules H in
+    let (k, T) = s .kernel-states .ensures b (H .kernels-held) (H .kernels-counted) in (
+      (b, H .kernels-held, H .rules-counted, T),
+      (room .vanishes-long low, room .begins-long low, room .reached-long low, room .closures-blank (few H)),
+    )
 
 fill-fronts-requires : tie.Need-fill-fronts-requires
 fill-fronts-requires c κs =
@@ -56,7 +66,7 @@ fill-fronts-requires c κs =
     let (b, H) = start (kernels-at i) .pre .0 in
     let (k, T) = kernels-at i .kernel-states .ensures b (H .kernels-held) (H .kernels-counted) in
     let I = i .fill-items .ensures b (H .kernels-held) (H .rules-counted) T in
-    ask-fronts (H .kernels-held) (H .rules-counted) (I .closures-in) (start (kernels-at i) .args .fronts .now) (start (kernels-at i) .pre .1 .1)
+    ask-fronts (H .kernels-held) (H .rules-counted) (I .closures-in) (start (kernels-at i) .args .fronts .now) (start (kernels-at i) .pre .1 .fronts-long (few H))
 
 moves-requires : tie.Need-moves-requires
 moves-requires c κs =
@@ -66,7 +76,7 @@ moves-requires c κs =
     let (k, T) = kernels-at i .kernel-states .ensures b (H .kernels-held) (H .kernels-counted) in
     let I = i .fill-items .ensures b (H .kernels-held) (H .rules-counted) T in
     let W = held-fronts (H .kernels-held) (H .rules-counted) (f .fill-fronts .ensures) in
-    ((b, H .kernels-held, H .goes-in, H .goes-counted, T, I .closures-in, W), start (kernels-at i) .pre .1 .0 .table-long (few H))
+    ((b, H .kernels-held, H .goes-in, H .goes-counted, T, I .closures-in, W), start (kernels-at i) .pre .1 .table-long (few H))
 
 same-length-2 : tie.Need-same-length-2
 same-length-2 c = search needs
@@ -109,7 +119,7 @@ actions-requires c κs =
     let I = i .fill-items .ensures b (H .kernels-held) (H .rules-counted) T in
     let W = held-fronts (H .kernels-held) (H .rules-counted) (f .fill-fronts .ensures) in
     let K = held-closures (H .kernels-held) T (I .closures-in) in
-    (start (kernels-at i) .pre .1 .0 .actions-long (few H), (b, setsOf (b .rules), K, H .terminals-are, H .kernels-held .states-are, W))
+    (start (kernels-at i) .pre .1 .actions-long (few H), (b, setsOf (b .rules), K, H .terminals-are, H .kernels-held .states-are, W))
 
 same-length-9 : tie.Need-same-length-9
 same-length-9 c = search needs

@@ -1,4 +1,5 @@
 -- `evaluating::any_book` meets its contract: the arrays have as much room as is said. Assumes nothing.
+use mathlib.Core.Path.{_∙_}
 use native.Mathlib.Omega.{arith}
 use borrow.Author.Tests.{not-true}
 use Rattle.attempts.specs.Rooms.{full-arrays}
@@ -11,7 +12,7 @@ use Rattle.engine.proofs.evaluating.any_book.Tie as tie
 -- from the call of `attempt` back to the room, to the test of the filling, to the text, and to the entry
 
 abbrev room-at : tie.After-attempt-arg4 → tie.After-full
-room-at c = c .before .before .before .before .before .before .before .before .before
+room-at c = c .before .before .before .before .before .before .before .before .before .before .before .before .before .before
 
 abbrev filled-at : tie.After-attempt-arg4 → tie.Else1
 filled-at c = room-at c .before .before
@@ -52,6 +53,21 @@ slice-aggregate-attempt-5 c = search needs
 slice-aggregate-attempt-6 : tie.Need-slice-aggregate-attempt-6
 slice-aggregate-attempt-6 c = search needs
 
+slice-aggregate-attempt-7 : tie.Need-slice-aggregate-attempt-7
+slice-aggregate-attempt-7 c = search needs
+
+slice-aggregate-attempt-8 : tie.Need-slice-aggregate-attempt-8
+slice-aggregate-attempt-8 c = search needs
+
+slice-aggregate-attempt-9 : tie.Need-slice-aggregate-attempt-9
+slice-aggregate-attempt-9 c = search needs
+
+slice-aggregate-attempt-10 : tie.Need-slice-aggregate-attempt-10
+slice-aggregate-attempt-10 c = search needs
+
+slice-aggregate-attempt-11 : tie.Need-slice-aggregate-attempt-11
+slice-aggregate-attempt-11 c = search needs
+
 attempt-requires : tie.Need-attempt-requires
 attempt-requires c κs =
     let found = found-at c .text-in in (
@@ -63,7 +79,7 @@ attempt-requires c κs =
     )
 
 same-length-2 : tie.Need-same-length-2
-same-length-2 c = search needs
+same-length-2 c = let a = c .before .before .before .before .before .before .before .before .before .before .before .before .before .before .before .before .before in a .attempt .kept .0 ∙ found-at (a .before) .text-in .kept .1 .1 .0
 
 same-length-3 : tie.Need-same-length-3
 same-length-3 c = search needs
@@ -73,7 +89,7 @@ same-length-4 c = search needs
 
 returns-2 : tie.Need-returns-2
 returns-2 c =
-    let a = c .before .before .before .before .before .before .before .before .before .before .before .before in
+    let a = c .before .before .before .before .before .before .before .before .before .before .before .before .before .before .before .before .before in
     let told = a .attempt .ensures in
     let at = a .before in
     told .answers (told .all (room-at at .full .ensures)) _ (filled-found (found-at at .text-in .ensures) (filled-at at .if1 .left))
@@ -92,6 +108,11 @@ any-book-spec =
     slice-aggregate-attempt-4
     slice-aggregate-attempt-5
     slice-aggregate-attempt-6
+    slice-aggregate-attempt-7
+    slice-aggregate-attempt-8
+    slice-aggregate-attempt-9
+    slice-aggregate-attempt-10
+    slice-aggregate-attempt-11
     attempt-requires
     same-length-2
     same-length-3

@@ -26,13 +26,28 @@ slice-aggregate-attempt-5 c = search needs
 slice-aggregate-attempt-6 : tie.Need-slice-aggregate-attempt-6
 slice-aggregate-attempt-6 c = search needs
 
+slice-aggregate-attempt-7 : tie.Need-slice-aggregate-attempt-7
+slice-aggregate-attempt-7 c = search needs
+
+slice-aggregate-attempt-8 : tie.Need-slice-aggregate-attempt-8
+slice-aggregate-attempt-8 c = search needs
+
+slice-aggregate-attempt-9 : tie.Need-slice-aggregate-attempt-9
+slice-aggregate-attempt-9 c = search needs
+
+slice-aggregate-attempt-10 : tie.Need-slice-aggregate-attempt-10
+slice-aggregate-attempt-10 c = search needs
+
+slice-aggregate-attempt-11 : tie.Need-slice-aggregate-attempt-11
+slice-aggregate-attempt-11 c = search needs
+
 attempt-requires : tie.Need-attempt-requires
-attempt-requires c κs = let s = c .before .before .before .before .before .before .before .before .before .before in (
+attempt-requires c κs = let s = c .before .before .before .before .before .before .before .before .before .before .before .before .before .before .before in (
   s .pre .0,
   s .pre .1,
   omega (arith, s .pre .0, zeros 13107),
-  rw (c .before .before .before .before .before .before .before .full .ensures) (omega (arith, zeros 13107)),
-  rw (c .before .before .before .before .before .before .before .full .ensures) (words-lent (s .args .words .now) (s .pre .1) full-arrays),
+  rw (c .before .before .before .before .before .before .before .before .before .before .before .before .full .ensures) (omega (arith, zeros 13107)),
+  rw (c .before .before .before .before .before .before .before .before .before .before .before .before .full .ensures) (words-lent (s .args .words .now) (s .pre .1) full-arrays),
 )
 
 same-length : tie.Need-same-length
@@ -40,8 +55,8 @@ same-length c = search needs
 
 returns : tie.Need-returns
 returns c =
-    let a = c .before .before .before .before .before .before .before .before in
-    a .attempt .ensures .told (a .attempt .ensures .all (a .before .before .before .before .before .before .before .before .full .ensures))
+    let a = c .before .before .before .before .before .before .before .before .before .before .before .before .before in
+    a .attempt .ensures .told (a .attempt .ensures .all (a .before .before .before .before .before .before .before .before .before .before .before .before .before .full .ensures))
 
 pub full-spec : {M : Type 1} → statement M
 full-spec =
@@ -54,6 +69,11 @@ full-spec =
     slice-aggregate-attempt-4
     slice-aggregate-attempt-5
     slice-aggregate-attempt-6
+    slice-aggregate-attempt-7
+    slice-aggregate-attempt-8
+    slice-aggregate-attempt-9
+    slice-aggregate-attempt-10
+    slice-aggregate-attempt-11
     attempt-requires
     same-length
     returns)

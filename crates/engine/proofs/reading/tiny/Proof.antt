@@ -26,20 +26,35 @@ slice-aggregate-attempt-5 c = search needs
 slice-aggregate-attempt-6 : tie.Need-slice-aggregate-attempt-6
 slice-aggregate-attempt-6 c = search needs
 
+slice-aggregate-attempt-7 : tie.Need-slice-aggregate-attempt-7
+slice-aggregate-attempt-7 c = search needs
+
+slice-aggregate-attempt-8 : tie.Need-slice-aggregate-attempt-8
+slice-aggregate-attempt-8 c = search needs
+
+slice-aggregate-attempt-9 : tie.Need-slice-aggregate-attempt-9
+slice-aggregate-attempt-9 c = search needs
+
+slice-aggregate-attempt-10 : tie.Need-slice-aggregate-attempt-10
+slice-aggregate-attempt-10 c = search needs
+
+slice-aggregate-attempt-11 : tie.Need-slice-aggregate-attempt-11
+slice-aggregate-attempt-11 c = search needs
+
 attempt-requires : tie.Need-attempt-requires
-attempt-requires c κs = let s = c .before .before .before .before .before .before .before .before .before .before in (
+attempt-requires c κs = let s = c .before .before .before .before .before .before .before .before .before .before .before .before .before .before .before in (
   omega (arith, s .pre .0),
   s .pre .1,
   omega (arith, s .pre .0, zeros 256),
-  rw (c .before .before .before .before .before .before .before .tiny-room .ensures) (omega (arith, zeros 256)),
-  rw (c .before .before .before .before .before .before .before .tiny-room .ensures) (words-lent (s .args .words .now) (s .pre .1) tiny-arrays),
+  rw (c .before .before .before .before .before .before .before .before .before .before .before .before .tiny-room .ensures) (omega (arith, zeros 256)),
+  rw (c .before .before .before .before .before .before .before .before .before .before .before .before .tiny-room .ensures) (words-lent (s .args .words .now) (s .pre .1) tiny-arrays),
 )
 
 same-length : tie.Need-same-length
 same-length c = search needs
 
 returns : tie.Need-returns
-returns c = c .before .before .before .before .before .before .before .before .attempt .ensures .told
+returns c = c .before .before .before .before .before .before .before .before .before .before .before .before .before .attempt .ensures .told
 
 pub tiny-spec : {M : Type 1} → statement M
 tiny-spec =
@@ -52,6 +67,11 @@ tiny-spec =
     slice-aggregate-attempt-4
     slice-aggregate-attempt-5
     slice-aggregate-attempt-6
+    slice-aggregate-attempt-7
+    slice-aggregate-attempt-8
+    slice-aggregate-attempt-9
+    slice-aggregate-attempt-10
+    slice-aggregate-attempt-11
     attempt-requires
     same-length
     returns)

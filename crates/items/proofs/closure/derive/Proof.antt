@@ -3,7 +3,6 @@
 use Prim.Native.Nat.{_+_, _*_, _<_}
 use native.Mathlib.Omega.{arith}
 use lib.ListN.{length, getD}
-use Rattle.grammar.specs.Limits.{MAX-RULES}
 use Rattle.grammar.specs.Automaton.LeastLaws.{Family}
 use Rattle.items.specs.Derives.{told-none, told-end, told-terminal, told-given, symbol-place, rest-place, rest-within, word-low}
 use borrow.Author.Needs.{needs}
@@ -23,7 +22,8 @@ place c h =
     symbol-place (s .pre .0 .2) (s .args .rule) (s .args .dot) (s .pre .0 .3) (omega (arith, c .word .ensures))
 
 rest : (c : tie.After-word) → c .before .before .before .before .before .before .args .dot < c .word .result
-    → 9 * c .before .before .before .before .before .before .args .rule + (c .before .before .before .before .before .before .args .dot + 1) < 9 * MAX-RULES
+    → 9 * c .before .before .before .before .before .before .args .rule + (c .before .before .before .before .before .before .args .dot + 1)
+    < 9 * length (c .before .before .before .before .before .before .pre .0 .0 .rules)
 rest c h =
     let s = c .before .before .before .before .before .before in
     rest-place (s .pre .0 .2) (s .args .rule) (s .args .dot) (s .pre .0 .3) (omega (arith, c .word .ensures))

@@ -7,7 +7,7 @@ use borrow.Author.Needs.{needs}
 use Rattle.grammar.specs.Automaton.FirstSets.{setsOf}
 use Rattle.grammar.specs.Automaton.ReachSets.{reachIn}
 use Rattle.items.specs.GrammarOf.{grammarOf}
-use Rattle.items.specs.ReachLoops.{nulls-of, rests-in, reaches-done}
+use Rattle.items.specs.ReachLoops.{nulls-of, rests-in, rests-there, reaches-done}
 use Rattle.items.specs.Filling.{RestsFilled, rests-begin, rests-turn}
 use Rattle.items.proofs.reach.fill_reaches.Statement.{statement}
 use Rattle.items.proofs.reach.fill_reaches.Tie as tie
@@ -27,8 +27,8 @@ reach-rests-requires c κs =
     let start = c .before .before .before .before .before .before .before .before in
     let at = c .before .before in
     let S = start .pre .0 in (
-      (S .fits .rule-fits (at .loop .p) (c .before .loop-test .taken), start .pre .1, at .loop .inv .rules .long ∙ start .pre .2),
-      (S .suffixes-are .nulls-long, S .suffixes-are .firsts-long),
+      (S .fits .rule-fits (at .loop .p) (c .before .loop-test .taken), start .pre .1, omega (arith, at .loop .inv .rules .long, start .pre .2, c .before .loop-test .taken)),
+      rests-there S (at .loop .p) (c .before .loop-test .taken),
     )
 
 add-p : tie.Need-add-p Inv-loop μ-loop

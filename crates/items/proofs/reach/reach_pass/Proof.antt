@@ -10,7 +10,7 @@ use Rattle.grammar.specs.Automaton.ReachSets.{reachRule}
 use Rattle.grammar.specs.Automaton.LeastLaws.{Fits}
 use Rattle.items.specs.GrammarOf.{grammarOf}
 use Rattle.items.specs.Passes.{Passing, pass-begins, turn-more, turn-same, pass-ends}
-use Rattle.items.specs.ReachLoops.{nulls-of, rests-in, reach-told}
+use Rattle.items.specs.ReachLoops.{nulls-of, rests-in, rests-there, reach-told}
 use Rattle.items.specs.Searches.{reach-fits}
 use Rattle.items.proofs.reach.reach_pass.Statement.{statement}
 use Rattle.items.proofs.reach.reach_pass.Tie as tie
@@ -38,7 +38,7 @@ reach-rest-requires c κs =
     let at = c .before .before in
     let S = start .pre .0 in (
       (S .fits .rule-fits (at .loop .p) (c .before .loop-test .taken), omega arith, at .loop .inv .family .long ∙ start .pre .1),
-      (S .suffixes-are .nulls-long, S .suffixes-are .firsts-long),
+      rests-there S (at .loop .p) (c .before .loop-test .taken),
     )
 
 left-requires : tie.Need-left-requires Inv-loop μ-loop

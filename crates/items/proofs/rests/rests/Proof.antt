@@ -1,6 +1,7 @@
 -- `items::rests::rests` meets its contract: each call prepares what the next one asks.
 -- Assumes nothing.
-use mathlib.Core.Path.{refl, _∙_}
+use mathlib.Core.Path.{refl}
+use native.Mathlib.Omega.{arith}
 use borrow.Author.Needs.{needs}
 use Rattle.items.specs.GrammarOf.{grammar-fits}
 use Rattle.items.specs.ReachLoops.{SetsIn}
@@ -64,7 +65,7 @@ returns c =
     let alive = copied .before .before .before in
     rest-sets-in (prepared filled)
     (living-reaches-in (prepared filled) (firsts .first-sets .ensures) (filled .suffixes .ensures .1 (alive .if1 .taken))
-    (copied .copy .kept .1 .1 .0 ∙ start filled .pre .1 .2) (copied .copy .ensures))
+    (omega (arith, copied .copy .kept .1 .1 .0, start filled .pre .1 .2)) (copied .copy .ensures))
 
 same-length-4 : tie.Need-same-length-4
 same-length-4 c = search needs

@@ -28,7 +28,10 @@ rule-suffixes-requires c κs =
     let inv = at .loop .inv in
     let pre = start at .pre in (
       (pre .0 .0 .rule-fits (at .loop .p) (c .before .before .loop-test .taken), pre .0 .1),
-      (inv .nulls-filled .rules .long ∙ pre .1 .0, inv .firsts-filled .rules .long ∙ pre .1 .1),
+      (
+        omega (arith, inv .nulls-filled .rules .long, pre .1 .0, c .before .before .loop-test .taken),
+        omega (arith, inv .firsts-filled .rules .long, pre .1 .1, c .before .before .loop-test .taken),
+      ),
     )
 
 add-p : tie.Need-add-p Inv-loop μ-loop

@@ -18,7 +18,7 @@ use Rattle.machine.proofs.run.run.Tie as tie
 abbrev Inv-loop : tie.InvT-loop
 Inv-loop rules count definitions lines owned kernels heads closures nulls reaches places firsts down up table actions tokens =
     λ sets₀ slots₀ lists₀ states₀ inherited₀ synthesized₀ starts₀ rows₀ top₀ sets slots lists states inherited synthesized starts rows top.
-    RoomsLeft (length slots₀) (length lists₀) (length starts₀) states inherited synthesized starts rows sets slots lists
+    RoomsLeft count (length sets₀) (length slots₀) (length lists₀) (length starts₀) states inherited synthesized starts rows sets slots lists
     × ((b : Book) (ks : List Token)
     → RunIn b ks rules count definitions lines owned kernels heads closures nulls reaches places firsts down up table actions tokens → Message b ks
     → PlansIn b slots₀ lists₀ → Underway b ks states inherited synthesized starts rows slots lists top)
@@ -60,9 +60,9 @@ loop-holds : tie.Need-loop-holds Inv-loop μ-loop
 loop-holds c =
     let s = entry (c .before) in
     let (b, ks, R, M, P) = s .pre .1 in
-    let lent : RoomsLeft (length (s .args .slots .now)) (length (s .args .lists .now)) (length (s .args .starts .now)) (s .args .states .now)
-    (s .args .inherited .now) (s .args .synthesized .now) (s .args .starts .now) (s .args .rows .now) (s .args .sets .now) (s .args .slots .now) (s .args .lists .now) =
-    record { rooms = s .pre .0 .0; starts-long = refl; slots-long = refl; lists-long = refl } in
+    let lent : RoomsLeft (s .args .count) (length (s .args .sets .now)) (length (s .args .slots .now)) (length (s .args .lists .now))
+    (length (s .args .starts .now)) (s .args .states .now) (s .args .inherited .now) (s .args .synthesized .now) (s .args .starts .now) (s .args .rows .now) (s .args .sets .now) (s .args .slots .now) (s .args .lists .now) =
+    record { rooms = s .pre .0 .0; words-long = refl; starts-long = refl; slots-long = refl; lists-long = refl } in
     let e = c .empty .ensures in (
       rooms-kept lent (length-set (s .args .states .now) 0 0) refl refl refl refl refl refl refl,
       λ b ks R M P. underway-start (s .args .states .now) P (omega (arith, s .pre .0 .0 .stacks .states-long)) (s .pre .0 .1) (e .0) (e .1) (e .2),
@@ -107,7 +107,7 @@ same-length : tie.Need-same-length Inv-loop μ-loop
 same-length c =
     let a = stopped-at c in
     let l = loop-at a in
-    a .step .kept .1 .1 .1 .1 .1 .1 .1 .1 .1 .1 .1 .1 .1 .1 .1 .1 .1 .1 .0 ∙ l .loop .inv .0 .rooms .sets-long ∙ sym (start l .pre .0 .0 .sets-long)
+    a .step .kept .1 .1 .1 .1 .1 .1 .1 .1 .1 .1 .1 .1 .1 .1 .1 .1 .1 .1 .0 ∙ l .loop .inv .0 .words-long
 
 same-length-2 : tie.Need-same-length-2 Inv-loop μ-loop
 same-length-2 c =

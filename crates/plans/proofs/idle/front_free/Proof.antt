@@ -27,9 +27,6 @@ mul-bits c = search needs
 shared-slice-read-bits : tie.Need-shared-slice-read-bits Inv-loop μ-loop
 shared-slice-read-bits c = search needs
 
-add-bits-2 : tie.Need-add-bits-2 Inv-loop μ-loop
-add-bits-2 c = search needs
-
 mul-bits-2 : tie.Need-mul-bits-2 Inv-loop μ-loop
 mul-bits-2 c = search needs
 
@@ -58,7 +55,6 @@ front-free-spec =
     add-bits
     mul-bits
     shared-slice-read-bits
-    add-bits-2
     mul-bits-2
     shared-slice-read-bits-2
     add-i

@@ -31,11 +31,10 @@ word-requires-2 c κs = search needs
 lines-free-requires : tie.Need-lines-free-requires
 lines-free-requires c κs =
     let s = c .before .before .before .before .before .before .before .before in
-    let g = s .pre .0 in
+    let g = s .pre in
     let range = state-range (g .2 .states-in) (s .args .state) (g .3) in (
-      (g .0, g .1, s .args .starts .now, g .2 .states-in, omega (arith, c .word2 .ensures, range .within)),
+      (g .0, g .1, s .args .starts .now, g .2 .states-in, omega (arith, c .word2 .ensures, range .within), g .4),
       omega (arith, c .before .word .ensures, c .word2 .ensures, range .ordered),
-      s .pre .1,
     )
 
 returns-2 : tie.Need-returns-2

@@ -4,7 +4,7 @@ use Prim.Native.Nat.{_≤_, _<_}
 use native.Mathlib.Omega.{arith}
 use borrow.Author.Tests.{eqb-true}
 use borrow.Author.Needs.{needs}
-use Rattle.automaton.specs.StatesIn.{KernelLow, kernel-low}
+use Rattle.automaton.specs.StatesIn.{KernelLow, kernel-low, kernel-rule}
 use Rattle.plans.proofs.idle.line_free.Statement.{statement}
 use Rattle.plans.proofs.idle.line_free.Tie as tie
 
@@ -15,7 +15,7 @@ entry c = c .before .before .before .before
 -- What is known there
 
 low : (s : tie.Start) → KernelLow (s .args .kernels .now) (s .args .i)
-low s = kernel-low (s .pre .0 .3) (s .args .i) (s .pre .0 .4)
+low s = kernel-low (s .pre .3) (s .args .i) (s .pre .4)
 
 rule : (c : tie.After-word2) → c .before .word .result < 64
 rule c = omega (arith, c .before .word .ensures, low (entry c) .rule-low)
@@ -47,13 +47,19 @@ mul-result : tie.Need-mul-result
 mul-result c = omega (arith, rule c)
 
 add-result : tie.Need-add-result
-add-result c = omega (arith, rule c, dot c)
+add-result c = omega (arith, rule c)
+
+add-result-2 : tie.Need-add-result-2
+add-result-2 c = omega (arith, rule c, dot c)
 
 mul-result-2 : tie.Need-mul-result-2
 mul-result-2 c = omega (arith, rule c, dot c)
 
 shared-slice-read-result : tie.Need-shared-slice-read-result
-shared-slice-read-result c = omega (arith, rule (c .before), dot (c .before), entry (c .before) .pre .1)
+shared-slice-read-result c =
+    let w = c .before in
+    let s = entry w in
+    omega (arith, w .before .word .ensures, kernel-rule (s .pre .3) (s .args .i) (s .pre .4), dot w, s .pre .5)
 
 returns : tie.Need-returns
 returns c = λ e. rw (← c .before .before .word .ensures, ← c .before .word2 .ensures) (eqb-true _ _ e)
@@ -70,6 +76,7 @@ line-free-spec =
     word-requires-2
     mul-result
     add-result
+    add-result-2
     mul-result-2
     shared-slice-read-result
     returns)

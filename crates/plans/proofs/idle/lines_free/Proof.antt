@@ -21,7 +21,7 @@ loop-holds c = (search needs, lines-none)
 
 line-free-requires : tie.Need-line-free-requires Inv-loop μ-loop
 line-free-requires c κs =
-    let s = c .before .before .before .before .pre in ((s .0 .0, s .0 .1, s .0 .2, s .0 .3, omega (arith, c .loop-test .taken, s .0 .4)), s .2)
+    let s = c .before .before .before .before .pre in (s .0 .0, s .0 .1, s .0 .2, s .0 .3, omega (arith, c .loop-test .taken, s .0 .4), s .0 .5)
 
 returns : tie.Need-returns Inv-loop μ-loop
 returns c = λ e. true-false e refl

@@ -2,9 +2,9 @@
 -- Assumes nothing.
 use Prim.Native.Nat.{_-_, _≤_, _<_}
 use native.Mathlib.Omega.{arith}
-use lib.ListN.{length-set}
+use lib.ListN.{length, length-set}
 use borrow.Author.Needs.{needs}
-use Rattle.attributes.specs.CheckingLaws.{rule-low, rule-place, position-low, position-high, left-below}
+use Rattle.attributes.specs.CheckingLaws.{rule-there, rule-low, rule-place, position-high, left-below}
 use Rattle.plans.specs.Idle.{places-behind, places-front}
 use Rattle.plans.proofs.idle.mark_place.Statement.{statement}
 use Rattle.plans.proofs.idle.mark_place.Tie as tie
@@ -15,14 +15,14 @@ entry c = c .before .before .before .before .before
 
 -- What is known there
 
-rule : (c : tie.After-word2) → c .before .word .result < 64
-rule c = omega (arith, c .before .word .ensures, rule-low (entry c .pre .0 .3) (entry c .pre .0 .4))
+there : (c : tie.After-word2) → c .before .word .result < length (entry c .pre .0 .rules)
+there c = omega (arith, c .before .word .ensures, rule-there (entry c .pre .3) (entry c .pre .4))
 
-low : (c : tie.After-word2) → 1 ≤ c .word2 .result
-low c = omega (arith, c .word2 .ensures, position-low (entry c .pre .0 .3) (entry c .pre .0 .4))
+rule : (c : tie.After-word2) → c .before .word .result < 64
+rule c = omega (arith, c .before .word .ensures, rule-low (entry c .pre .3) (entry c .pre .4))
 
 high : (c : tie.After-word2) → c .word2 .result ≤ 8
-high c = omega (arith, c .word2 .ensures, position-high (entry c .pre .0 .3) (entry c .pre .0 .4))
+high c = omega (arith, c .word2 .ensures, position-high (entry c .pre .3) (entry c .pre .4))
 
 -- Needs
 
@@ -45,16 +45,16 @@ mul-places : tie.Need-mul-places
 mul-places c = omega (arith, rule c)
 
 add-places : tie.Need-add-places
-add-places c = omega (arith, rule c, high c)
+add-places c = omega (arith, rule c)
 
-sub-places : tie.Need-sub-places
-sub-places c = omega (arith, low c)
+add-places-2 : tie.Need-add-places-2
+add-places-2 c = omega (arith, rule c, high c)
 
 mul-places-2 : tie.Need-mul-places-2
-mul-places-2 c = omega (arith, rule c, low c, high c)
+mul-places-2 c = omega (arith, rule c, high c)
 
 slice-write-places : tie.Need-slice-write-places
-slice-write-places c = omega (arith, rule c, low c, high c, entry c .pre .1)
+slice-write-places c = omega (arith, there c, high c, entry c .pre .5)
 
 same-length : tie.Need-same-length
 same-length c = search needs
@@ -68,21 +68,18 @@ mul-word-3 c = omega (arith, rule (c .before))
 
 word-requires-3 : tie.Need-word-requires-3
 word-requires-3 c κs =
-    let w = c .before in omega (arith, w .before .word .ensures, rule-place (entry w .pre .0 .3) (entry w .pre .0 .4))
+    let w = c .before in omega (arith, w .before .word .ensures, rule-place (entry w .pre .3) (entry w .pre .4))
 
 left : (c : tie.After-word3) → c .word3 .result < 32
 left c =
     let w = c .before .before in
-    rw (c .word3 .ensures, w .before .word .ensures) (left-below (entry w .pre .0 .3) (entry w .pre .0 .4))
-
-add-places-2 : tie.Need-add-places-2
-add-places-2 c = omega (arith, left c)
+    rw (c .word3 .ensures, w .before .word .ensures) (left-below (entry w .pre .3) (entry w .pre .4))
 
 mul-places-3 : tie.Need-mul-places-3
 mul-places-3 c = omega (arith, left c)
 
 slice-write-places-2 : tie.Need-slice-write-places-2
-slice-write-places-2 c = simp length-set (omega (arith, left c, entry (c .before .before) .pre .1))
+slice-write-places-2 c = simp length-set (omega (arith, left c, entry (c .before .before) .pre .5))
 
 same-length-2 : tie.Need-same-length-2
 same-length-2 c = search needs
@@ -102,14 +99,13 @@ mark-place-spec =
     word-requires-2
     mul-places
     add-places
-    sub-places
+    add-places-2
     mul-places-2
     slice-write-places
     same-length
     returns
     mul-word-3
     word-requires-3
-    add-places-2
     mul-places-3
     slice-write-places-2
     same-length-2

@@ -5,7 +5,7 @@ use native.Mathlib.Omega.{arith}
 use mathlib.Core.Path.{refl}
 use borrow.Author.Needs.{needs}
 use Rattle.grammar.specs.Limits.{MAX-INHERITED}
-use Rattle.plans.specs.MemoryLaws.{row-short, plans-check, plan-filled, slot-filled}
+use Rattle.plans.specs.MemoryLaws.{row-short, plans-check, plans-marked, plan-filled, slot-filled}
 use Rattle.plans.proofs.memory.plan_into.Statement.{statement}
 use Rattle.plans.proofs.memory.plan_into.Tie as tie
 
@@ -27,7 +27,7 @@ few c =
     let (b, places, H, l) = entry m .pre .0 in
     let F = H .formulas-held in
     let marks = m .masks .ensures b (H .firsts) _ (F .marks-held) (plans-check H (entry m .pre .3)) (F .definitions-counted) (F .rules-counted) l in
-    row-short b _ (c .plan .ensures .0 b (plans-check H (marks .long)) (F .definitions-counted))
+    row-short b _ (c .plan .ensures .0 b (plans-marked H marks) (F .definitions-counted))
 
 masks-requires : tie.Need-masks-requires
 masks-requires c κs =
@@ -45,7 +45,7 @@ skip-requires c κs =
     let (b, places, H, l) = entry m .pre .0 in
     let F = H .formulas-held in
     let marks = m .masks .ensures b (H .firsts) _ (F .marks-held) (plans-check H (entry m .pre .3)) (F .definitions-counted) (F .rules-counted) l in
-    ((b, _, _, plans-check H (marks .long), F .definitions-counted), refl)
+    ((b, _, _, plans-marked H marks, F .definitions-counted), refl)
 
 slice-aggregate-plan : tie.Need-slice-aggregate-plan
 slice-aggregate-plan c = search needs
@@ -64,7 +64,7 @@ plan-requires c κs =
     let (b, places, H, l) = s .pre .0 in
     let F = H .formulas-held in
     let marks = m .masks .ensures b (H .firsts) _ (F .marks-held) (plans-check H (s .pre .3)) (F .definitions-counted) (F .rules-counted) l in (
-      (b, plans-check H (marks .long), F .definitions-counted),
+      (b, plans-marked H marks, F .definitions-counted),
       s .pre .1,
       omega (arith, s .pre .2, s .pre .4),
       v .skip .ensures,
@@ -94,7 +94,7 @@ returns c =
           let F = H .formulas-held in
           let marks = m .masks .ensures b (H .firsts) _ (F .marks-held) (plans-check H (s .pre .3)) (F .definitions-counted) (F .rules-counted) l in
           plan-filled H (s .pre .1) (s .args .slot) marks (omega (arith, s .pre .2, s .pre .4, p .plan .ensures .1 .long))
-          (p .plan .ensures .0 b (plans-check H (marks .long)) (F .definitions-counted)),
+          (p .plan .ensures .0 b (plans-marked H marks) (F .definitions-counted)),
       slot-filled (s .args .slot) (p .plan .result) (p .plan .ensures .1),
     )
 

@@ -36,7 +36,7 @@ returns c = λ b H s M. told-known H (entry (c .before) .pre .1) M s (c .if1 .ta
 noted-idle-requires : tie.Need-noted-idle-requires
 noted-idle-requires c κs =
     let (b, H, l, M) = entry (c .before .before) .pre .0 in
-    ((b, _, H .formulas-held .marks-held .items-in, l, M .slots-long), H .places-in .long)
+    (b, _, H .formulas-held .marks-held .items-in, l, M .slots-long, H .places-in .long)
 
 same-length : tie.Need-same-length
 same-length c = search needs

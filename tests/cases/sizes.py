@@ -1,6 +1,6 @@
 """Books and messages whose size is about one at which an engine may go another way: 32 states, 64 kernel or go lines, 48 definitions, 4,096 bytes; 8
-states, 16 lines of each kind, 1,024 bytes; 16 or 32 rules; stacks of 32 and of 128 symbols under 24 tokens or a few more; and 253 partial states with
-definitions."""
+states, 16 lines of each kind, 1,024 bytes; 16 or 32 rules; 256 kernel or go lines, 16,384 bytes; stacks of 32 and of 128 symbols under 24 tokens or a
+few more; 253 partial states with definitions, and 62 in a message of few tokens."""
 
 import grammar as grammars
 import lr
@@ -56,6 +56,11 @@ def counts_of_rules(rng, group, middle, longest):
             add_book(rng, group, grammar, automaton)
 
 
+def forked():
+    """Six rules that differ in their last symbol: six kernel lines in a state."""
+    return shapes.of_rules(6, 1, "n0 n1", *(f"n1 t1 t2 t3 t{which}" for which in range(1, 7)))
+
+
 def lengths(rng, group, shape, shortest, longest, middle):
     """Texts of about so many bytes, by more lookaheads."""
     grammar, automaton, text = random_book(rng, shape(), 1, True)
@@ -63,6 +68,23 @@ def lengths(rng, group, shape, shortest, longest, middle):
         grammar, automaton, text = random_book(rng, shape(), 1, True)
     for more in (-5, -4, -3, -1, 0, 1):
         add_book(rng, group, grammar, full.padded(grammar, automaton, middle + more))
+
+
+def taken(grammar, automaton):
+    """Whether the book is taken."""
+    return compiled(states.book_text(grammar, automaton).encode())[0] == 0
+
+
+def longer(rng, group, shape, middle):
+    """Texts of about so many bytes, by copies of states that nothing reaches and then by a few more lookaheads."""
+    books = []
+    while not (books and all(taken(*book) for book in books)):
+        grammar, automaton, _ = random_book(rng, shape(), 1, True)
+        sized = (full.filled(automaton, all_states=count) for count in range(len(automaton.kernels), 129))
+        near = [other for other in sized if middle - 200 <= full.text_bytes(grammar, other) <= middle - 20]
+        books = [(grammar, full.padded(grammar, other, middle + more)) for other in near[:1] for more in (-5, -4, -3, -1, 0, 1)]
+    for book in books:
+        add_book(rng, group, *book)
 
 
 # A token t1 stands on the stack with six empty symbols, t3 alone: few tokens need a stack of any depth.
@@ -116,17 +138,22 @@ def empties():
     return grammar
 
 
-def many_partial_states(group):
-    """Messages that meet more than 253 partial states with definitions, and then some of them again."""
+def walk(length):
+    """Letters of which no two that follow one another are met again, as long as there are such."""
+    follows, letters = [LETTERS] * LETTERS, [0]
+    while len(letters) < length:
+        follows[letters[-1]] -= 1
+        letters.append(follows[letters[-1]])
+    return letters
+
+
+def many_partial_states(group, messages):
+    """Messages that meet many partial states with definitions, three for each token."""
     grammar = empties()
     text = states.book_text(grammar, lr.canonical(grammar, 128)).encode()
     assert compiled(text)[0] == 0
     group.base(text)
-    follows, letters = [LETTERS] * LETTERS, [0]
-    while len(letters) < 103:
-        follows[letters[-1]] -= 1
-        letters.append(follows[letters[-1]])
-    for kinds in (letters[:84], letters[:85], letters[:102], letters, letters[:96] + letters[:6], letters[:90] + [7] * 12):
+    for kinds in messages:
         group.add(text + lists.spelled([(kind + 1, 5 * place) for place, kind in enumerate(kinds)]).encode())
 
 
@@ -139,6 +166,11 @@ def fill(rng, group):
     counts_of_definitions(rng, group, (shapes.right_list, shapes.left_list, shapes.right_list_of_tokens), 16, 1000)
     lengths(rng, group, lambda: grown(rng, 31, 3, 5, 30, True), 600, 900, 1024)
     depths(group)
-    many_partial_states(group)
+    letters = walk(103)
+    many_partial_states(group, (letters[:84], letters[:85], letters[:102], letters, letters[:96] + letters[:6], letters[:90] + [7] * 12))
     counts_of_rules(rng, group, 16, 800)
     counts_of_rules(rng, group, 32, 2000)
+    counts_of_states(rng, group, forked, {"all_kernels": 256})
+    counts_of_states(rng, group, shapes.sums, {"all_goes": 256})
+    longer(rng, group, lambda: grown(rng, 31, 14, 40, 30, True), 16384)
+    many_partial_states(group, [letters[:count] for count in range(19, 26)] + [letters[:21] + letters[:3], letters[:22] + letters[:2]])

@@ -126,9 +126,9 @@ module _ {states inherited synthesized starts : List ℕ} where
     result-in = P .result-in;
   }
 
-  -- n symbols more, where cs were popped before
+  -- n symbols more, where cs were popped before. The cell above the symbols is read where n is 0 alone
   pops : (n h m : ℕ) (cs : List Result) {S p : ℕ} {i : Values} {st : List Frame} → FramesIn states inherited synthesized starts st
-      → h + n ≡ length st → length cs + n ≡ m → getD states (length st) 0 ≡ S → i ≡ cellValue inherited (length st)
+      → h + n ≡ length st → length cs + n ≡ m → getD states (length st) 0 ≡ S → (n ≡ 0 → i ≡ cellValue inherited (length st))
       → (1 ≤ length cs → getD starts (length st) 0 ≡ p)
       → ((J : ℕ) → 1 ≤ J → J ≤ length cs → ResultIn (childAt cs J) synthesized (length st + J - 1))
       → PoppedIn states inherited synthesized starts h m p (pop n S i p st cs)
@@ -143,7 +143,7 @@ module _ {states inherited synthesized starts : List ℕ} where
         results = cs;
         popped-is = refl;
         state-is = rw e s;
-        cell-is = rw e c;
+        cell-is = rw e (c refl);
         start-same = λ z. refl;
         start-is = λ z. rw e (q (omega arith));
         below-in = F;
@@ -153,7 +153,7 @@ module _ {states inherited synthesized starts : List ℕ} where
       }
   pops (suc n) h m cs no-frames e l s c q r = absurd (let z : ⊥ = omega arith in z)
   pops (suc n) h m cs (a-frame {c = a} {st = st} F below) e l s c q r =
-      from-any (omega arith) (pops n h m (a ∷ cs) below (omega arith) (omega arith) (F .state-is) (F .cell-is) (λ z. F .start-is) more)
+      from-any (omega arith) (pops n h m (a ∷ cs) below (omega arith) (omega arith) (F .state-is) (λ z. F .cell-is) (λ z. F .start-is) more)
     where
       more : (J : ℕ) → 1 ≤ J → J ≤ suc (length cs) → ResultIn (childAt (a ∷ cs) J) synthesized (length st + J - 1)
       more zero low high = absurd (let z : ⊥ = omega arith in z)
@@ -166,7 +166,7 @@ module _ {states inherited synthesized starts : List ℕ} where
 
   -- n symbols off, down to height h
   pub pops-in : (n h : ℕ) {S p : ℕ} {i : Values} {st : List Frame} → FramesIn states inherited synthesized starts st → h + n ≡ length st
-      → getD states (length st) 0 ≡ S → i ≡ cellValue inherited (length st)
+      → getD states (length st) 0 ≡ S → (n ≡ 0 → i ≡ cellValue inherited (length st))
       → PoppedIn states inherited synthesized starts h n p (pop n S i p st [])
   pops-in n h F e s c =
       pops n h n [] F e (omega arith) s c (λ z. absurd (let u : ⊥ = omega arith in u)) (λ J low high. absurd (let u : ⊥ = omega arith in u))

@@ -1,7 +1,6 @@
 -- The words that leaves read: "A formula leaf names a stack, and with it an offset and an attribute" (01), over the stacks in arrays.
 -- Assumes nothing.
 use Prim.Native.Nat.{ℕ, _+_, _*_, _-_, _≤_, _<_}
-use mathlib.Core.Path.{_≡_}
 use mathlib.Core.List.{List}
 use lib.ListN.{length, getD, take, drop}
 use Rattle.formulas.specs.declared.nodes.Stack.{Stack}

@@ -1,4 +1,5 @@
 pub mod Answers
+pub mod CellReads
 pub mod Moving
 pub mod MovingLaws
 pub mod Owners

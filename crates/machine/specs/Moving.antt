@@ -13,9 +13,10 @@ use Rattle.plans.specs.Plans.{PlansHeld}
 use Rattle.machine.specs.declared.moves.Moved.{Moved}
 use Rattle.machine.specs.declared.moves.Moved.the-variants.{On, Stopped}
 use Rattle.machine.specs.declared.run.Outcome.{Outcome}
+use Rattle.machine.specs.CellReads.{ReadsCell}
 use Rattle.stack.specs.declared.top.Top.{Top}
 use Rattle.stack.specs.Pushes.{Stacks}
-use Rattle.stack.specs.Standing.{BookIn, Message, ConfigIn, CellIn, rowsOf, GoesOn}
+use Rattle.stack.specs.Standing.{BookIn, Message, ConfigIn, CellIn, rowsOf, actionOf, GoesOn}
 
 -- the arrays that moves change, as they are lent for a book of `count` rules
 pub record Rooms (count : ℕ) (states inherited synthesized starts rows sets : List ℕ) : Type 0 where
@@ -29,10 +30,10 @@ pub record Driven (b : Book) (rules : List ℕ) (count : ℕ) (definitions : Lis
   pub book-in : BookIn b rules definitions table
   pub plans-held : PlansHeld b rules count definitions lines owned kernels heads closures nulls reaches places
 
--- a configuration over a message, in the arrays that moves change, with its top cell set
+-- a configuration over a message, in the arrays that moves change, with its top cell set if its move reads it
 pub record Poised (b : Book) (ks : List Token) (c : Config) (states inherited synthesized starts rows : List ℕ) (top : Top) : Type 0 where
   pub config-in : ConfigIn b ks states inherited synthesized starts rows top c
-  pub cell-in : CellIn b inherited c
+  pub cell-in : ReadsCell b (actionOf b c) → CellIn b inherited c
   pub message : Message b ks
 
 -- the machine accepts, and its rows stand in the lent words

@@ -17,7 +17,7 @@ use Rattle.stack.specs.declared.action.Move.the-variants.{Shift, Reduce, Accept
 use Rattle.stack.specs.declared.action.Action.{Action}
 use Rattle.stack.specs.declared.action.Action.the-variants.{Due, None}
 use Rattle.stack.specs.declared.top.Top.{Top}
-use Rattle.stack.specs.Action.{actionAt, meant, action-means}
+use Rattle.stack.specs.Action.{actionAt, meant, reduced, action-means}
 use Rattle.machine.specs.Moving.{Driven, Poised, Accepts}
 use Rattle.machine.specs.MovingLaws.{none-refused, accept-stops}
 use Rattle.machine.specs.ReduceMove.{Reduces}
@@ -32,11 +32,10 @@ pub record RunIn (b : Book) (ks : List Token) (rules : List ℕ) (count : ℕ) (
   pub actions-in : ActionsIn b (setsOf (b .rules)) actions
   pub tokens-in : tokensOf tokens ≡ some ks
 
--- the same, in the arrays that its moves read where the top cell is set
-pub record MovesIn (b : Book) (rules definitions firsts down up table actions : List ℕ) : Type 0 where
+-- the same, in the arrays that its moves read where the action is found
+pub record MovesIn (b : Book) (rules definitions firsts down up table : List ℕ) : Type 0 where
   pub book-in : BookIn b rules definitions table
   pub left-in : LeftIn b definitions firsts down up
-  pub actions-in : ActionsIn b (setsOf (b .rules)) actions
 
 -- ---- the next token
 
@@ -132,16 +131,30 @@ rows-in : {b : Book} {ks : List Token} {c : Config} {states inherited synthesize
     → ConfigIn b ks states inherited synthesized starts rows top c → rows ≡ page (rowsOf c)
 rows-in (stands C) = C .rows-are
 
--- the action, by the byte of the state and the kind
-module _ {b : Book} {ks : List Token} {c : Config} {rules definitions firsts down up table actions : List ℕ}
-    {states inherited synthesized starts rows : List ℕ} {top : Top} {state kind value : ℕ}
-    (R : MovesIn b rules definitions firsts down up table actions) (H : Poised b ks c states inherited synthesized starts rows top)
-    (F : Facing b c state kind value) {x : Action} (action-is : x ≡ actionAt (getD actions (32 * state + kind) 0)) where
+-- a byte of the action table names the action
+pub record Names (b : Book) (c : Config) (code : ℕ) : Type 0 where
+  pub action-is : meant (actionAt code) ≡ actionOf b c
+
+-- that of the state and the kind does
+pub names-action : {b : Book} {c : Config} {rules definitions table actions : List ℕ} {state kind value : ℕ} → BookIn b rules definitions table
+    → ActionsIn b (setsOf (b .rules)) actions → Facing b c state kind value → Names b c (getD actions (32 * state + kind) 0)
+names-action {b} {c} {state = state} {kind = kind} B A F = record {
+  action-is = action-means (B .spelled) (B .sound) A state kind (F .state-there) (F .kind-there)
+      ∙ ap (λ s. tablesOf b .act s kind) (F .state-is) ∙ ap (tablesOf b .act (stateOf c)) (F .kind-is);
+}
+
+-- a rule that it names is one of the book's
+pub names-rule : {b : Book} {c : Config} {rules definitions table : List ℕ} {code : ℕ} → BookIn b rules definitions table → Names b c code → (P : ℕ)
+    → actionAt code ≡ Due (Reduce P) → P < length (b .rules)
+unfolding meant
+names-rule {c = c} B N P e = reduced (B .spelled) (B .sound) (stateOf c) (kindOf c) P (sym (N .action-is) ∙ ap meant e) .there
+
+-- the action, by its byte
+module _ {b : Book} {ks : List Token} {c : Config} {states inherited synthesized starts rows : List ℕ} {top : Top} {state kind value code : ℕ}
+    (H : Poised b ks c states inherited synthesized starts rows top) (F : Facing b c state kind value) (N : Names b c code) {x : Action}
+    (action-is : x ≡ actionAt code) where
   means : meant x ≡ actionOf b c
-  means =
-      let B = R .book-in in
-      ap meant action-is ∙ action-means (B .spelled) (B .sound) (R .actions-in) state kind (F .state-there) (F .kind-there)
-      ∙ ap (λ s. tablesOf b .act s kind) (F .state-is) ∙ ap (tablesOf b .act (stateOf c)) (F .kind-is)
+  means = ap meant action-is ∙ N .action-is
 
   pub due-none : x ≡ None → step b (tablesOf b) c ≡ stop (refused 15)
   unfolding meant

@@ -1,6 +1,7 @@
 -- The moves of a run come to the machine's answer: from the start, move by move, to the move that stops. Assumes that the book is taken.
 use Prim.Native.Nat.{ℕ, _+_, _*_, _-_, _≤_, _<_}
 use mathlib.Core.Path.{_≡_, refl, _∙_}
+use mathlib.Core.Bool.{false}
 use mathlib.Core.List.{List, []}
 use native.Mathlib.Omega.{arith}
 use lib.ListN.{length, getD, set, replicate}
@@ -17,9 +18,13 @@ use Rattle.cells.specs.Frames.{no-frames}
 use Rattle.machine.specs.declared.moves.Moved.{Moved}
 use Rattle.machine.specs.declared.moves.Moved.the-variants.{On, Stopped}
 use Rattle.machine.specs.declared.run.Outcome.{Outcome}
+use Rattle.stack.specs.declared.action.Move.the-variants.{Reduce}
+use Rattle.stack.specs.declared.action.Action.the-variants.{Due}
 use Rattle.stack.specs.declared.top.Top.{Top}
+use Rattle.stack.specs.Action.{actionAt}
+use Rattle.machine.specs.CellReads.{readsCell, not-read}
 use Rattle.machine.specs.Moving.{Rooms, Final, Poised, Told, told-on, told-accepted, told-refused}
-use Rattle.machine.specs.Running.{RunIn, MovesIn, Facing, facing-of, TopLow, top-low, rows-count}
+use Rattle.machine.specs.Running.{RunIn, MovesIn, Facing, facing-of, TopLow, top-low, rows-count, Names, names-action, names-rule}
 use Rattle.machine.specs.Setting.{TopAsked, TopSet, config-asked, config-set, config-cell}
 use Rattle.stack.specs.Path.{bottom}
 use Rattle.stack.specs.Standing.{Message, ConfigIn, stands, framesOf, GoesOn}
@@ -130,6 +135,11 @@ stepped {b} U P (told-refused {r = r} e z) = answers {r = r} λ f. rw (ends-stop
 
 -- ---- a step
 
+-- a configuration whose top cell is set if its move reads it, with the plans that are worked out
+pub record Ready (b : Book) (ks : List Token) (c : Config) (states inherited synthesized starts rows slots lists : List ℕ) (top : Top) : Type 0 where
+  pub poised : Poised b ks c states inherited synthesized starts rows top
+  pub plans-in : PlansIn b slots lists
+
 module _ {b : Book} {ks : List Token} {rules : List ℕ} {count : ℕ} {definitions : List ℕ} {lines : ℕ}
     {owned kernels heads closures nulls reaches places firsts down up table actions tokens : List ℕ}
     {states inherited synthesized starts rows slots lists : List ℕ} {top : Top}
@@ -138,8 +148,8 @@ module _ {b : Book} {ks : List Token} {rules : List ℕ} {count : ℕ} {definiti
   pub run-low : TopLow starts top
   run-low = top-low M (U .config-in)
 
-  pub run-moves : MovesIn b rules definitions firsts down up table actions
-  run-moves = record { book-in = R .driven .book-in; left-in = R .left-in; actions-in = R .actions-in }
+  pub run-moves : MovesIn b rules definitions firsts down up table
+  run-moves = record { book-in = R .driven .book-in; left-in = R .left-in }
 
   module _ {state kind : ℕ} (state-is : state ≡ getD states (top .depth) 0) (kind-is : kind ≡ getD tokens (2 * top .position) 0) where
     pub run-facing : {value : ℕ} → value ≡ getD tokens (2 * top .position + 1) 0 → Facing b (U .at) state kind value
@@ -157,22 +167,49 @@ module _ {b : Book} {ks : List Token} {rules : List ℕ} {count : ℕ} {definiti
       cell-set : TopSet b slots′ lists′ inherited inherited′ synthesized state kind states starts (framesOf (U .at))
       cell-set = sets b states starts (framesOf (U .at)) run-asked (run-facing refl .state-there) (R .driven .plans-held) (U .plans-in)
 
-      pub run-poised : Poised b ks (U .at) states inherited′ synthesized starts rows top
-      run-poised =
+      pub run-set : {slots″ lists″ inherited″ : List ℕ} → slots″ ≡ slots′ → lists″ ≡ lists′ → inherited″ ≡ inherited′
+          → Ready b ks (U .at) states inherited″ synthesized starts rows slots″ lists″ top
+      run-set s l i =
+          let B = R .driven .book-in in
           let F = run-facing refl in
-          record {
-            config-in = config-set (R .driven .book-in) (U .config-in) (F .state-is) (F .kind-is) cell-set;
-            cell-in = config-cell (R .driven .book-in) (U .config-in) (F .state-is) (F .kind-is) cell-set;
-            message = M;
-          }
+          rw (s, l, i) (record {
+            poised = record {
+              config-in = config-set B (U .config-in) (F .state-is) (F .kind-is) cell-set;
+              cell-in = λ r. config-cell B (U .config-in) (F .state-is) (F .kind-is) cell-set;
+              message = M;
+            };
+            plans-in = cell-set .plans-in;
+          })
+
+    -- with the byte of the action
+    module _ {code : ℕ} (code-is : code ≡ getD actions (32 * state + kind) 0) where
+      pub run-names : Names b (U .at) code
+      run-names = rw code-is (names-action (R .driven .book-in) (R .actions-in) (run-facing refl))
+
+      pub run-sized : (P : ℕ) → actionAt code ≡ Due (Reduce P) → 10 * P + 1 < length rules
+      run-sized P e =
+          let B = R .driven .book-in in
+          omega (arith, names-rule B run-names P e, B .sound .limits .rules-limit .high, B .rules-in .long)
+
+      -- where the move does not read the top cell
+      pub run-unread : {slots′ lists′ inherited′ : List ℕ} → readsCell rules (actionAt code) ≡ false → slots′ ≡ slots → lists′ ≡ lists
+          → inherited′ ≡ inherited → Ready b ks (U .at) states inherited′ synthesized starts rows slots′ lists′ top
+      run-unread unread s l i =
+          let B = R .driven .book-in in
+          let never = not-read b rules (actionAt code) (λ P e. B .rules-in .size-is P (names-rule B run-names P e)) unread in
+          rw (s, l, i) (record {
+            poised = record { config-in = U .config-in; cell-in = λ r. absurd (never (rw (run-names .action-is) r)); message = M };
+            plans-in = U .plans-in;
+          })
 
       -- and what `advance` ensures
-      module _ {value : ℕ} (value-is : value ≡ getD tokens (2 * top .position + 1) 0) {m : Moved} {states′ synthesized′ starts′ rows′ : List ℕ}
-          (moved : (b : Book) (ks : List Token) (c : Config) → MovesIn b rules definitions firsts down up table actions
-          → Poised b ks c states inherited′ synthesized starts rows top → Facing b c state kind value
+      module _ {value : ℕ} (value-is : value ≡ getD tokens (2 * top .position + 1) 0) {slots′ lists′ inherited′ : List ℕ}
+          (Q : Ready b ks (U .at) states inherited′ synthesized starts rows slots′ lists′ top) {m : Moved} {states′ synthesized′ starts′ rows′ : List ℕ}
+          (moved : (b : Book) (ks : List Token) (c : Config) → MovesIn b rules definitions firsts down up table
+          → Poised b ks c states inherited′ synthesized starts rows top → Facing b c state kind value → Names b c code
           → Told b ks c states′ inherited′ synthesized′ starts′ rows′ m) where
         pub run-stepped : Stepped b ks top states′ inherited′ synthesized′ starts′ rows′ slots′ lists′ m
-        run-stepped = stepped U (cell-set .plans-in) (moved b ks (U .at) run-moves run-poised (run-facing value-is))
+        run-stepped = stepped U (Q .plans-in) (moved b ks (U .at) run-moves (Q .poised) (run-facing value-is) run-names)
 
 -- the arrays as they are lent, after a step
 pub record RoomsLeft (count words room bytes symbols : ℕ) (states inherited synthesized starts rows sets slots lists : List ℕ) : Type 0 where

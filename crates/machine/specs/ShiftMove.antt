@@ -59,5 +59,5 @@ module _ {b : Book} {ks : List Token} {c : Config} {rules definitions table stat
       → top .depth ≢ length starts → TokenPushed top target kind value states synthesized starts rows states′ synthesized′ starts′ rows′ next
       → target ≡ getD table (64 * state + kind) 0 → GoesOn b ks c states′ inherited synthesized′ starts′ rows′ next
   shift-told L n m push t =
-      shift-on B L push (H .config-in) (H .cell-in) (X .action-is) (X .state-is) (X .kind-is) (X .value-is) (omega (arith, shift-low .depth-low))
-      (room-left B (H .config-in) n) t
+      shift-on B L push (H .config-in) (H .cell-in (rw (X .action-is) tt)) (X .action-is) (X .state-is) (X .kind-is) (X .value-is)
+      (omega (arith, shift-low .depth-low)) (room-left B (H .config-in) n) t

@@ -1,6 +1,5 @@
 // The top cell of a move.
 // A contract asks that the arrays hold some book, and says its statement of every book that they hold.
-ghost use mathlib.Core.Path.{_≡_};
 ghost use mathlib.Core.List.{List};
 ghost use Prim.Native.Nat.{ℕ, _*_, _<_, _≤_};
 ghost use lib.ListN.{length};

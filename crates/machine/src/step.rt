@@ -2,14 +2,18 @@
 // A contract asks that the arrays hold some book and a list of its tokens, and says its statement of all that they hold.
 ghost use mathlib.Core.Path.{_≡_};
 ghost use mathlib.Core.List.{List};
-ghost use Prim.Native.Nat.{_+_, _*_};
+ghost use Prim.Native.Nat.{ℕ, _+_, _*_, _<_};
 ghost use lib.ListN.{length, getD};
 ghost use Rattle.grammar.specs.Data.Book.{Book};
 ghost use Rattle.grammar.specs.Evaluator.Tree.{Token};
 ghost use Rattle.grammar.specs.Evaluator.Machine.{Config};
+ghost use Rattle.machine.specs.CellReads.{readsCell};
 ghost use Rattle.machine.specs.Moving.{Rooms, Poised, Told};
-ghost use Rattle.machine.specs.Running.{RunIn, MovesIn, Facing};
+ghost use Rattle.machine.specs.Running.{RunIn, MovesIn, Facing, Names};
 ghost use Rattle.machine.specs.RunningLaws.{Underway, Stepped};
+ghost use Rattle.stack.specs.declared.action.Move.the-variants.{Reduce};
+ghost use Rattle.stack.specs.declared.action.Action.the-variants.{Due};
+ghost use Rattle.stack.specs.Action.{actionAt};
 ghost use Rattle.stack.specs.Pushes.{Stacks};
 ghost use Rattle.stack.specs.Standing.{Message};
 use super::moves::Moved;
@@ -33,7 +37,23 @@ fn number(tokens: &[u32], i: usize) -> u32
     0
 }
 
-// One move, where the top cell is set: "find the action. None: 15. Accept: done."
+// Whether the move that a byte of the action table names reads the top cell.
+fn reads_cell(rules: &[u32], code: u8) -> bool
+    requires { ⌜ ((P : ℕ) → actionAt code ≡ Due (Reduce P) → 10 * P + 1 < length (now rules)) ⌝ }
+    ensures { λ r. ⌜ r ≡ readsCell (now (rules .entry)) (actionAt code) ⌝ }
+{
+    let action = action_of(code);
+    let Action::Due(due) = action else {
+        return false;
+    };
+    match due {
+        Move::Shift => true,
+        Move::Reduce(rule) => word(rules, 10 * rule as usize + 1) == 0,
+        Move::Accept => false,
+    }
+}
+
+// One move, where the top cell is set if the move reads it: "find the action. None: 15. Accept: done."
 pub fn advance(
     top: Top,
     state: usize,
@@ -45,7 +65,7 @@ pub fn advance(
     down: &[u32],
     up: &[u32],
     table: &[u8],
-    actions: &[u8],
+    code: u8,
     states: &mut [u32],
     inherited: &[u32],
     synthesized: &mut [u32],
@@ -54,16 +74,15 @@ pub fn advance(
 ) -> Moved
     requires { ⌜ Stacks (now states) (now synthesized) (now starts) (now rows) × (length (now inherited) ≡ 16 * length (now starts) + 16) ⌝ }
     requires { ⌜ ((b : Book) × (ks : List Token) × (c : Config)
-        × MovesIn b (now rules) (now definitions) (now firsts) (now down) (now up) (now table) (now actions)
-        × Poised b ks c (now states) (now inherited) (now synthesized) (now starts) (now rows) top × Facing b c state kind value) ⌝ }
+        × MovesIn b (now rules) (now definitions) (now firsts) (now down) (now up) (now table)
+        × Poised b ks c (now states) (now inherited) (now synthesized) (now starts) (now rows) top × Facing b c state kind value × Names b c code) ⌝ }
     ensures { λ r. ⌜ ((b : Book) (ks : List Token) (c : Config)
         → MovesIn b (now (rules .entry)) (now (definitions .entry)) (now (firsts .entry)) (now (down .entry)) (now (up .entry)) (now (table .entry))
-        (now (actions .entry))
         → Poised b ks c (now (states .entry)) (now (inherited .entry)) (now (synthesized .entry)) (now (starts .entry)) (now (rows .entry)) top
-        → Facing b c state kind value
+        → Facing b c state kind value → Names b c code
         → Told b ks c (now (states .exit)) (now (inherited .entry)) (now (synthesized .exit)) (now (starts .exit)) (now (rows .exit)) r) ⌝ }
 {
-    let action = action_of(actions[32 * state + kind as usize]);
+    let action = action_of(code);
     let Action::Due(due) = action else {
         return Moved::Stopped(Outcome {
             number: 15,
@@ -104,7 +123,8 @@ pub fn advance(
     }
 }
 
-// One step of the machine: the top cell is set, then the move. A move that stops does not read the cell.
+// One step of the machine: the top cell is set if the move reads it, then the move is made. A reduce of a rule that is not empty pops the cell, and a move
+// that stops leaves it.
 pub fn step(
     top: Top,
     rules: &[u32],
@@ -153,27 +173,30 @@ pub fn step(
     let at = 2 * top.position;
     let state = word(states, depth);
     let kind = number(tokens, at);
-    set_top(
-        rules,
-        count,
-        definitions,
-        lines,
-        owned,
-        kernels,
-        heads,
-        closures,
-        nulls,
-        reaches,
-        places,
-        state,
-        kind,
-        depth,
-        sets,
-        slots,
-        lists,
-        inherited,
-        synthesized,
-    );
+    let code = actions[32 * state + kind as usize];
+    if reads_cell(rules, code) {
+        set_top(
+            rules,
+            count,
+            definitions,
+            lines,
+            owned,
+            kernels,
+            heads,
+            closures,
+            nulls,
+            reaches,
+            places,
+            state,
+            kind,
+            depth,
+            sets,
+            slots,
+            lists,
+            inherited,
+            synthesized,
+        );
+    }
     advance(
         top,
         state,
@@ -185,7 +208,7 @@ pub fn step(
         down,
         up,
         table,
-        actions,
+        code,
         states,
         inherited,
         synthesized,

@@ -1,4 +1,5 @@
--- A reduce in arrays is a reduce of the machine. Assumes that the book is taken and that the top cell is set.
+-- A reduce in arrays is a reduce of the machine: the cell above what it pops is not read. Assumes that the book is taken and that the top cell is set
+-- where the rule is empty.
 use Prim.Native.Nat.{ℕ, zero, suc, _+_, _*_, _-_, _≤_, _<_}
 use mathlib.Core.Path.{_≡_, refl, sym, ap, _∙_}
 use mathlib.Core.Option.{some}
@@ -79,7 +80,7 @@ module _ {b : Book} {rules definitions table firsts down up : List ℕ} (B : Boo
 
   module _ {ks : List Token} {states inherited synthesized starts rows : List ℕ} {top : Top} {st : List Frame} {S p : ℕ}
       {z : List Token} {rs : List Row} (C : Standing b ks states inherited synthesized starts rows top st S z p rs)
-      (e : tablesOf b .act S (kind z) ≡ some (reduce P)) (set-cell : cell (tablesOf b) S (kind z) st ≡ cellValue inherited (length st)) where
+      (e : tablesOf b .act S (kind z) ≡ some (reduce P)) (set-cell : size ≡ 0 → cell (tablesOf b) S (kind z) st ≡ cellValue inherited (length st)) where
     -- the rule is complete, and its right side stands on the stacks
     complete : Reduced (B .spelled) (B .sound) S (kind z) P
     complete = reduced (B .spelled) (B .sound) S (kind z) P e
@@ -223,8 +224,8 @@ module _ {b : Book} {rules definitions table firsts down up : List ℕ} (B : Boo
     pub asked : NodeAsked b definitions firsts P (getD rules (10 * P + 1) 0)
 
   module _ {ks : List Token} {states inherited synthesized starts rows : List ℕ} {top : Top} where
-    pub rule-ready : {c : Config} → ConfigIn b ks states inherited synthesized starts rows top c → CellIn b inherited c → actionOf b c ≡ some (reduce P)
-        → RuleReady ks states starts top
+    pub rule-ready : {c : Config} → ConfigIn b ks states inherited synthesized starts rows top c → (size ≡ 0 → CellIn b inherited c)
+        → actionOf b c ≡ some (reduce P) → RuleReady ks states starts top
     unfolding low
     rule-ready (stands {S = S} {z = z} C) s e =
         let x : Reduced (B .spelled) (B .sound) S (kind z) P = reduced (B .spelled) (B .sound) S (kind z) P e in
@@ -261,7 +262,7 @@ module _ {b : Book} {rules definitions table firsts down up : List ℕ} (B : Boo
       (owner-is : owner ≡ leftOf (b .rules) P) (start-of : StartOf starts (top .depth - size) size (top .position) start)
       (fresh-in : NodeValues b P (top .depth - size) inherited synthesized fresh)
       (target-is : target ≡ getD table (64 * getD states (top .depth - size) 0 + (32 + owner)) 0) where
-    pub reduce-on : {c : Config} → ConfigIn b ks states inherited synthesized starts rows top c → CellIn b inherited c
+    pub reduce-on : {c : Config} → ConfigIn b ks states inherited synthesized starts rows top c → (size ≡ 0 → CellIn b inherited c)
         → actionOf b c ≡ some (reduce P) → top .depth < length starts + size → top .rows < 512 → GoesOn b ks c states′ inherited synthesized′ starts′ rows′ next
     unfolding low
     reduce-on (stands {st = st} {S = S} {p = p} {z = z} {rs = rs} C) s e h l =

@@ -12,18 +12,7 @@ use Rattle.machine.proofs.step.advance.Tie as tie
 
 abbrev start : tie.After-action-of → tie.Start
 start c =
-    c .before .before .before .before .before .before .before .before .before .before .before .before .before .before
-
-mul-action-of : tie.Need-mul-action-of
-mul-action-of c = omega (arith, c .before .before .before .before .before .before .before .before .before .before .before .before .pre .1 .5 .state-low)
-
-add-action-of : tie.Need-add-action-of
-add-action-of c =
-    let F = c .before .before .before .before .before .before .before .before .before .before .before .before .pre .1 .5 in
-    omega (arith, F .state-low, F .kind-low)
-
-shared-slice-read-action-of : tie.Need-shared-slice-read-action-of
-shared-slice-read-action-of c = search needs
+    c .before .before .before .before .before .before .before .before .before .before .before .before
 
 action-of-requires : tie.Need-action-of-requires
 action-of-requires c κs = search needs
@@ -35,7 +24,7 @@ enum-told : tie.Need-enum-told
 enum-told c = search needs
 
 returns : tie.Need-returns
-returns c = λ b ks k R H F. told-refused (λ f. due-none R H F (c .before .before .action-of .ensures) (c .enum-told .given .1)) refl
+returns c = λ b ks k R H F N. told-refused (λ f. due-none H F N (c .before .before .action-of .ensures) (c .enum-told .given .1)) refl
 
 enum-told-2 : tie.Need-enum-told-2
 enum-told-2 c = search needs
@@ -45,8 +34,8 @@ shift-requires c κs =
     let v = c .before .before .before .before in
     let d = v .before .before .before in
     let a = d .before .before in
-    let (b, ks, k, R, H, F) = start a .pre .1 in
-    let X = due-shift R H F (a .action-of .ensures) (d .action .given .1 ∙ ap Due (v .enum-told2 .given .1)) in
+    let (b, ks, k, R, H, F, N) = start a .pre .1 in
+    let X = due-shift H F N (a .action-of .ensures) (d .action .given .1 ∙ ap Due (v .enum-told2 .given .1)) in
     (start a .pre .0 .0, (b, ks, k, _, _, _, R .book-in, H, X))
 
 enum-known-due : tie.Need-enum-known-due
@@ -57,15 +46,15 @@ reduce-requires c κs =
     let v = c .before .before .before .before .before in
     let d = v .before .before .before in
     let a = d .before .before in
-    let (b, ks, k, R, H, F) = start a .pre .1 in
-    let X = due-reduce R H F (a .action-of .ensures) (d .action .given .1 ∙ ap Due (v .due .given .1)) in
+    let (b, ks, k, R, H, F, N) = start a .pre .1 in
+    let X = due-reduce H F N (a .action-of .ensures) (d .action .given .1 ∙ ap Due (v .due .given .1)) in
     (start a .pre .0, (b, ks, k, R .book-in, R .left-in, H, X))
 
 enum-told-3 : tie.Need-enum-told-3
 enum-told-3 c = search needs
 
-cast-t43 : tie.Need-cast-t43
-cast-t43 c = let (e, l) = rows-count (start (c .before .before .before .before .before .before) .pre .1 .4 .config-in) in omega (arith, e, l)
+cast-t38 : tie.Need-cast-t38
+cast-t38 c = let (e, l) = rows-count (start (c .before .before .before .before .before .before) .pre .1 .4 .config-in) in omega (arith, e, l)
 
 same-length : tie.Need-same-length
 same-length c = c .before .before .before .before .before .before .before .before .shift .kept .1 .1 .1 .1 .1 .0
@@ -80,11 +69,11 @@ same-length-4 : tie.Need-same-length-4
 same-length-4 c = c .before .before .before .before .before .before .before .before .shift .kept .1 .1 .1 .1 .1 .1 .1 .1 .0
 
 returns-2 : tie.Need-returns-2
-returns-2 c = λ b ks k R H F.
+returns-2 c = λ b ks k R H F N.
     let s = c .before .before .before .before .before .before .before .before in
     let v = s .before .before .before .before .before in
     let d = v .before .before .before in
-    let X = due-shift R H F (d .before .before .action-of .ensures) (d .action .given .1 ∙ ap Due (v .enum-told2 .given .1)) in
+    let X = due-shift H F N (d .before .before .action-of .ensures) (d .action .given .1 ∙ ap Due (v .enum-told2 .given .1)) in
     s .shift .ensures b ks k _ _ _ (R .book-in) H X
 
 same-length-5 : tie.Need-same-length-5
@@ -100,26 +89,23 @@ same-length-8 : tie.Need-same-length-8
 same-length-8 c = c .before .before .before .before .before .before .before .before .reduce .kept .1 .1 .1 .1 .1 .1 .1 .1 .1 .1 .1 .1 .0
 
 returns-3 : tie.Need-returns-3
-returns-3 c = λ b ks k R H F.
+returns-3 c = λ b ks k R H F N.
     let s = c .before .before .before .before .before .before .before .before in
     let v = s .before .before .before .before .before .before in
     let d = v .before .before .before in
-    let X = due-reduce R H F (d .before .before .action-of .ensures) (d .action .given .1 ∙ ap Due (v .due .given .1)) in
+    let X = due-reduce H F N (d .before .before .action-of .ensures) (d .action .given .1 ∙ ap Due (v .due .given .1)) in
     s .reduce .ensures b ks k (R .book-in) (R .left-in) H X
 
 returns-4 : tie.Need-returns-4
-returns-4 c = λ b ks k R H F.
+returns-4 c = λ b ks k R H F N.
     let d = c .before .before .before .before in
     let e = d .action .given .1 ∙ ap Due (c .before .enum-told3 .given .1) in
-    told-accepted (due-accept R H F (d .before .before .action-of .ensures) e) refl (rows-count (H .config-in) .0)
+    told-accepted (due-accept H F N (d .before .before .action-of .ensures) e) refl (rows-count (H .config-in) .0)
 
 pub advance-spec : {M : Type 1} → statement M
 advance-spec =
     tie.close
     (tie.spec
-    mul-action-of
-    add-action-of
-    shared-slice-read-action-of
     action-of-requires
     enum-known-action
     enum-told
@@ -129,7 +115,7 @@ advance-spec =
     enum-known-due
     reduce-requires
     enum-told-3
-    cast-t43
+    cast-t38
     same-length
     same-length-2
     same-length-3

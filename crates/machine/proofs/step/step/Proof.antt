@@ -1,8 +1,10 @@
--- `machine::step::step` meets its contract: the cell that is set is the machine's, and the move is told as it is made. Assumes nothing.
-use mathlib.Core.Path.{refl, _∙_}
+-- `machine::step::step` meets its contract: a cell that the move reads is the machine's, and the move is told as it is made. Assumes nothing.
+use mathlib.Core.Path.{_≡_, refl, sym, ap, _∙_}
+use mathlib.Core.Logic.{⊎-elim}
 use native.Mathlib.Omega.{arith}
+use lib.ListN.{length}
 use borrow.Author.Needs.{needs}
-use Rattle.machine.specs.RunningLaws.{run-low, run-moves, run-facing, run-asked, run-poised, run-stepped}
+use Rattle.machine.specs.RunningLaws.{run-low, run-moves, run-facing, run-asked, run-names, run-sized, run-set, run-unread, run-stepped}
 use Rattle.machine.proofs.step.step.Statement.{statement}
 use Rattle.machine.proofs.step.step.Tie as tie
 
@@ -16,14 +18,32 @@ start c =
 abbrev entry : tie.After-number → tie.Start
 entry c = start (c .before .before .before)
 
-abbrev number-at : tie.After-set-top → tie.After-number
-number-at c = c .before .before .before .before .before .before
-
-abbrev value-at : tie.After-number2 → tie.After-set-top
-value-at c = c .before .before .before .before .before .before .before .before .before
+abbrev number-at : tie.Joined1 → tie.After-number
+number-at c = c .before .before .before
 
 abbrev advanced : tie.After-slice-known16 → tie.After-advance
 advanced c = c .before .before .before .before .before .before .before .before
+
+abbrev value-at : tie.After-advance → tie.After-number2
+value-at c = c .before .before .before .before .before .before
+
+abbrev joined : tie.After-slice-known16 → tie.Joined1
+joined c = value-at (advanced c) .before
+
+-- no length is changed where the cell may be set
+
+sets-kept : (c : tie.Joined1) → length (c .if1 .sets) ≡ length (entry (number-at c) .args .sets .now)
+sets-kept c = ⊎-elim (λ w. ap length (w .15) ∙ w .6 .kept .1 .1 .1 .1 .1 .1 .1 .1 .1 .1 .1 .1 .1 .1 .0) (λ w. ap length (w .1)) (c .if1 .came)
+
+slots-kept : (c : tie.Joined1) → length (c .if1 .slots) ≡ length (entry (number-at c) .args .slots .now)
+slots-kept c = ⊎-elim (λ w. ap length (w .16) ∙ w .6 .kept .1 .1 .1 .1 .1 .1 .1 .1 .1 .1 .1 .1 .1 .1 .1 .0) (λ w. ap length (w .2)) (c .if1 .came)
+
+lists-kept : (c : tie.Joined1) → length (c .if1 .lists) ≡ length (entry (number-at c) .args .lists .now)
+lists-kept c = ⊎-elim (λ w. ap length (w .17) ∙ w .6 .kept .1 .1 .1 .1 .1 .1 .1 .1 .1 .1 .1 .1 .1 .1 .1 .1 .0) (λ w. ap length (w .3)) (c .if1 .came)
+
+inherited-kept : (c : tie.Joined1) → length (c .if1 .inherited) ≡ length (entry (number-at c) .args .inherited .now)
+inherited-kept c =
+    ⊎-elim (λ w. ap length (w .18) ∙ w .6 .kept .1 .1 .1 .1 .1 .1 .1 .1 .1 .1 .1 .1 .1 .1 .1 .1 .1 .0) (λ w. ap length (w .4)) (c .if1 .came)
 
 mul-at : tie.Need-mul-at
 mul-at c = let (b, ks, R, M, U) = start c .pre .1 in omega (arith, run-low R M U .position-low)
@@ -37,9 +57,36 @@ word-requires c κs =
 number-requires : tie.Need-number-requires
 number-requires c κs = search needs
 
+mul-code : tie.Need-mul-code
+mul-code c =
+    let (b, ks, R, M, U) = entry c .pre .1 in
+    omega (arith, run-facing R M U (c .before .word .ensures) (c .number .ensures) refl .state-low)
+
+cast-code : tie.Need-cast-code
+cast-code c = search needs
+
+add-code : tie.Need-add-code
+add-code c =
+    let (b, ks, R, M, U) = entry c .pre .1 in
+    let F = run-facing R M U (c .before .word .ensures) (c .number .ensures) refl in
+    omega (arith, F .state-low, F .kind-low)
+
+shared-slice-read-code : tie.Need-shared-slice-read-code
+shared-slice-read-code c =
+    let n = c .before in
+    let (b, ks, R, M, U) = entry n .pre .1 in
+    let F = run-facing R M U (n .before .word .ensures) (n .number .ensures) refl in
+    omega (arith, F .state-there, F .kind-low, R .actions-in .long)
+
+reads-cell-requires : tie.Need-reads-cell-requires
+reads-cell-requires c κs =
+    let n = c .before in
+    let (b, ks, R, M, U) = entry n .pre .1 in
+    run-sized R M U (n .before .word .ensures) (n .number .ensures) refl
+
 set-top-requires : tie.Need-set-top-requires
 set-top-requires c κs =
-    let n = c .before .before .before .before .before in
+    let n = c .before .before .before .before .before .before .before .before in
     let L = entry n .pre .0 in
     let (b, ks, R, M, U) = entry n .pre .1 in
     let s = n .before .word .ensures in
@@ -57,7 +104,7 @@ set-top-requires c κs =
 
 add-number : tie.Need-add-number
 add-number c =
-    let (b, ks, R, M, U) = entry (number-at (c .before .before .before .before .before .before .before .before)) .pre .1 in
+    let (b, ks, R, M, U) = entry (number-at c) .pre .1 in
     omega (arith, run-low R M U .position-low)
 
 number-requires-2 : tie.Need-number-requires-2
@@ -66,30 +113,33 @@ number-requires-2 c κs = search needs
 advance-requires : tie.Need-advance-requires
 advance-requires c κs =
     let v = c .before .before .before .before .before in
-    let t = value-at v in
-    let n = number-at t in
+    let j = v .before in
+    let n = number-at j in
     let L = entry n .pre .0 in
     let (b, ks, R, M, U) = entry n .pre .1 in
     let s = n .before .word .ensures in
-    let k = n .number .ensures in (
-      (L .stacks, t .set-top .kept .1 .1 .1 .1 .1 .1 .1 .1 .1 .1 .1 .1 .1 .1 .1 .1 .1 .0 ∙ L .cells-long),
-      (b, ks, U .at, run-moves R M U, run-poised R M U s k (t .set-top .ensures), run-facing R M U s k (v .number2 .ensures)),
+    let k = n .number .ensures in
+    let Q =
+    ⊎-elim (λ w. run-set R M U s k (w .6 .ensures) (w .16) (w .17) (w .18))
+    (λ w. run-unread R M U s k refl (sym (j .before .reads-cell .ensures) ∙ w .0 .left) (w .2) (w .3) (w .4)) (j .if1 .came) in (
+      (L .stacks, inherited-kept j ∙ L .cells-long),
+      (b, ks, U .at, run-moves R M U, Q .poised, run-facing R M U s k (v .number2 .ensures), run-names R M U s k refl),
     )
 
 same-length : tie.Need-same-length
-same-length c = value-at (advanced c .before .before .before .before .before .before) .set-top .kept .1 .1 .1 .1 .1 .1 .1 .1 .1 .1 .1 .1 .1 .1 .0
+same-length c = sets-kept (joined c)
 
 same-length-2 : tie.Need-same-length-2
-same-length-2 c = value-at (advanced c .before .before .before .before .before .before) .set-top .kept .1 .1 .1 .1 .1 .1 .1 .1 .1 .1 .1 .1 .1 .1 .1 .0
+same-length-2 c = slots-kept (joined c)
 
 same-length-3 : tie.Need-same-length-3
-same-length-3 c = value-at (advanced c .before .before .before .before .before .before) .set-top .kept .1 .1 .1 .1 .1 .1 .1 .1 .1 .1 .1 .1 .1 .1 .1 .1 .0
+same-length-3 c = lists-kept (joined c)
 
 same-length-4 : tie.Need-same-length-4
 same-length-4 c = advanced c .advance .kept .1 .1 .1 .1 .1 .1 .1 .1 .1 .1 .1 .0
 
 same-length-5 : tie.Need-same-length-5
-same-length-5 c = value-at (advanced c .before .before .before .before .before .before) .set-top .kept .1 .1 .1 .1 .1 .1 .1 .1 .1 .1 .1 .1 .1 .1 .1 .1 .1 .0
+same-length-5 c = inherited-kept (joined c)
 
 same-length-6 : tie.Need-same-length-6
 same-length-6 c = advanced c .advance .kept .1 .1 .1 .1 .1 .1 .1 .1 .1 .1 .1 .1 .1 .0
@@ -103,10 +153,15 @@ same-length-8 c = advanced c .advance .kept .1 .1 .1 .1 .1 .1 .1 .1 .1 .1 .1 .1 
 returns : tie.Need-returns
 returns c = λ b ks R M U.
     let a = advanced c in
-    let v = a .before .before .before .before .before .before in
-    let t = value-at v in
-    let n = number-at t in
-    run-stepped R M U (n .before .word .ensures) (n .number .ensures) (t .set-top .ensures) (v .number2 .ensures) (a .advance .ensures)
+    let v = value-at a in
+    let j = v .before in
+    let n = number-at j in
+    let s = n .before .word .ensures in
+    let k = n .number .ensures in
+    let Q =
+    ⊎-elim (λ w. run-set R M U s k (w .6 .ensures) (w .16) (w .17) (w .18))
+    (λ w. run-unread R M U s k refl (sym (j .before .reads-cell .ensures) ∙ w .0 .left) (w .2) (w .3) (w .4)) (j .if1 .came) in
+    run-stepped R M U s k refl (v .number2 .ensures) Q (a .advance .ensures)
 
 pub step-spec : {M : Type 1} → statement M
 step-spec =
@@ -115,6 +170,11 @@ step-spec =
     mul-at
     word-requires
     number-requires
+    mul-code
+    cast-code
+    add-code
+    shared-slice-read-code
+    reads-cell-requires
     set-top-requires
     add-number
     number-requires-2

@@ -27,14 +27,14 @@ use Rattle.attempts.specs.Evaluations.{Asked, Answers, Message, answers-
 pub record Read (room : Room) (n : ℕ) (text : List ℕ) (complete : Bool) (r : ℕ) (numbers : Book) (inherited synthesized rules definitions kernels goes : List ℕ)
     (vanishes reached starts closures table actions : List ℕ) : Type 0 where
   pub words : List ℕ
-  pub found : Found words text true n
+  pub found : Found words text n
   pub compiles : Compiles room (take n text) complete r numbers inherited synthesized rules definitions kernels goes vanishes reached starts closures
       table actions
 
 -- the answer to a message under the book in such words, where arrays have room for what it has; where there is room for all, they have
 pub record Attempts (room : Room) (text : List ℕ) (n : ℕ) (tokens : List ℕ) (lent : ℕ) (complete : Bool) (number : ℕ) (rows : List ℕ) (count : ℕ) : Type 0 where
   pub all : room ≡ fullRoom → complete ≡ true
-  pub answers : complete ≡ true → (words : List ℕ) → Found words text true n → Answers (evaluateWords words tokens lent) lent number rows count
+  pub answers : complete ≡ true → (words : List ℕ) → Found words text n → Answers (evaluateWords words tokens lent) lent number rows count
 
 -- where it is not refused, the book is taken
 module _ {room : Room} {n : ℕ} {text : List ℕ} {complete : Bool} {r : ℕ} {numbers : Book} {inherited synthesized rules definitions kernels goes : List ℕ}
@@ -43,7 +43,7 @@ module _ {room : Room} {n : ℕ} {text : List ℕ} {complete : Bool} {r : ℕ} {
     (whole : complete ≡ true) (taken : r ≡ 0) where
   pub book-taken : (b : Lines)
       × TakenBook numbers inherited synthesized rules definitions kernels goes vanishes reached starts closures table actions b
-  book-taken = let (b, q, t) = found-book (R .found) refl whole (R .compiles) taken in (b, t)
+  book-taken = let (b, q, t) = found-book (R .found) whole (R .compiles) taken in (b, t)
 
   -- and has no more states than the room
   pub states-within : numbers .states ≤ room .states
@@ -81,7 +81,7 @@ module _ {room : Room} {n : ℕ} {text : List ℕ} {complete : Bool} {r : ℕ} {
     pub attempts-none : {count : ℕ} {rows : List ℕ} → (r ≡ 0 → ⊥) → Attempts room text n tokens lent true 11 rows count
     attempts-none refused = record {
       all = λ _. refl;
-      answers = λ _ words F. answers-none words tokens lent (found-none F refl whole (R .compiles) refused);
+      answers = λ _ words F. answers-none words tokens lent (found-none F whole (R .compiles) refused);
     }
 
     module _ (taken : r ≡ 0) {first : ℕ} (asked : Asked (numbers .terminals) tokens lent first) where
@@ -90,7 +90,7 @@ module _ {room : Room} {n : ℕ} {text : List ℕ} {complete : Bool} {r : ℕ} {
       attempts-asked refused = record {
         all = λ _. refl;
         answers = λ _ words F.
-            let (b, q, t) = found-book F refl whole (R .compiles) taken in
+            let (b, q, t) = found-book F whole (R .compiles) taken in
             answers-asked words tokens lent b q (counted b (t .ready .numbers-are) .terminals-are) asked refused;
       }
 
@@ -102,6 +102,6 @@ module _ {room : Room} {n : ℕ} {text : List ℕ} {complete : Bool} {r : ℕ} {
       attempts-run passed ran = record {
         all = λ _. refl;
         answers = λ _ words F.
-            let (b, q, t) = found-book F refl whole (R .compiles) taken in
+            let (b, q, t) = found-book F whole (R .compiles) taken in
             answers-run words tokens lent b q (counted b (t .ready .numbers-are) .terminals-are) asked passed (ran b t (asked .passed passed));
       }

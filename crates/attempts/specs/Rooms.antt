@@ -20,6 +20,9 @@ tinyRoom = record { definitions = 16; kernels = 16; goes = 16; states = 8; rules
 abbrev pub shortRoom : Room
 shortRoom = record { definitions = 48; kernels = 64; goes = 64; states = 32; rules = 32 }
 
+abbrev pub mediumRoom : Room
+mediumRoom = record { definitions = MAX-DEFINITIONS; kernels = 256; goes = 256; states = MAX-STATES; rules = MAX-RULES }
+
 pub zeros : (n : ℕ) → length {A = ℕ} (replicate n 0) ≡ n
 zeros n = length-replicate n 0
 
@@ -75,9 +78,59 @@ pub short-arrays : ArraysLent shortRoom (replicate 320 0) (replicate 2352 0) (re
     (replicate 288 0) (replicate 33 0) (replicate 1024 0) (replicate 32 0) (replicate 2048 0)
 short-arrays = arrays-lent shortRoom (omega arith) (omega arith) (omega arith) (omega arith) (omega arith)
 
-pub full-arrays : ArraysLent fullRoom (replicate 640 0) (replicate 6272 0) (replicate 2560 0) (replicate 3072 0) (replicate 576 0) (replicate 576 0)
-    (replicate 576 0) (replicate 129 0) (replicate 4096 0) (replicate 128 0) (replicate 8192 0)
-full-arrays = arrays-lent fullRoom (omega arith) (omega arith) (omega arith) (omega arith) (omega arith)
+-- room for all that the limits allow but for kernel and go lines, of which there is room for some
+pub record LinesLent (room : Room) (kernels goes : List ℕ) : Type 0 where
+  pub kernels-long : length kernels ≡ 5 * room .kernels
+  pub goes-long : length goes ≡ 3 * room .goes
+  pub kernels-few : room .kernels ≤ MAX-KERNELS
+  pub goes-few : room .goes ≤ MAX-GOES
+  pub rules-all : room .rules ≡ MAX-RULES
+  pub definitions-all : room .definitions ≡ MAX-DEFINITIONS
+  pub states-all : room .states ≡ MAX-STATES
+
+pub medium-lines : LinesLent mediumRoom (replicate 1280 0) (replicate 768 0)
+medium-lines = record {
+  kernels-long = zeros 1280;
+  goes-long = zeros 768;
+  kernels-few = omega arith;
+  goes-few = omega arith;
+  rules-all = refl;
+  definitions-all = refl;
+  states-all = refl;
+}
+
+pub full-lines : LinesLent fullRoom (replicate 2560 0) (replicate 3072 0)
+full-lines = record {
+  kernels-long = zeros 2560;
+  goes-long = zeros 3072;
+  kernels-few = omega arith;
+  goes-few = omega arith;
+  rules-all = refl;
+  definitions-all = refl;
+  states-all = refl;
+}
+
+pub wide-arrays : {room : Room} {kernels goes : List ℕ} → LinesLent room kernels goes
+    → ArraysLent room (replicate 640 0) (replicate 6272 0) kernels goes (replicate 576 0) (replicate 576 0) (replicate 576 0) (replicate 129 0)
+    (replicate 4096 0) (replicate 128 0) (replicate 8192 0)
+wide-arrays lent = record {
+  rules-long = rw (lent .rules-all) (zeros 640);
+  definitions-long = rw (lent .definitions-all) (zeros 6272);
+  kernels-long = lent .kernels-long;
+  goes-long = lent .goes-long;
+  vanishes-long = rw (lent .rules-all) (zeros 576);
+  begins-long = rw (lent .rules-all) (zeros 576);
+  reached-long = rw (lent .rules-all) (zeros 576);
+  starts-long = rw (lent .states-all) (zeros 129);
+  closures-none = rw (lent .states-all) refl;
+  fronts-long = rw (lent .states-all) (zeros 128);
+  table-long = rw (lent .states-all) (zeros 8192);
+  rules-few = omega (arith, lent .rules-all);
+  definitions-few = omega (arith, lent .definitions-all);
+  kernels-few = lent .kernels-few;
+  goes-few = lent .goes-few;
+  states-few = omega (arith, lent .states-all);
+}
 
 -- where there is room for all that the limits allow, nothing is left out
 full-complete : (numbers : Book) → Complete fullRoom numbers

@@ -1,5 +1,4 @@
 // A message under a stored book, by arrays of a room.
-ghost use mathlib.Core.Bool.{true};
 ghost use mathlib.Core.List.{List};
 ghost use Prim.Native.Nat.{ℕ, _+_, _*_, _≤_};
 ghost use lib.ListN.{length};
@@ -147,7 +146,7 @@ pub fn attempt(
     rows: &mut [u32],
     count: &mut u32,
 ) -> Answer
-    requires { ⌜ ((words : List ℕ) × Found words (now text) true n) × (n ≤ 5 * length (now actions) + 3) × (32 * room .states ≤ length (now actions))
+    requires { ⌜ ((words : List ℕ) × Found words (now text) n) × (n ≤ 5 * length (now actions) + 3) × (32 * room .states ≤ length (now actions))
         × (32 * room .states ≤ length (now text))
         × ArraysLent room (now rules) (now definitions) (now kernels) (now goes) (now vanishes) (now begins) (now reached) (now starts) (now lookaheads)
         (now fronts) (now table) ⌝ }

@@ -4,5 +4,4 @@ pub mod messages;
 pub mod reading;
 pub mod rooms;
 pub mod sides;
-pub mod stored;
 pub mod tokens;

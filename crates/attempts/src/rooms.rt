@@ -1,6 +1,6 @@
-// How much room a short book has, and a tiny one.
+// How much room tiny, short and medium books have.
 ghost use mathlib.Core.Path.{_≡_};
-ghost use Rattle.attempts.specs.Rooms.{tinyRoom, shortRoom};
+ghost use Rattle.attempts.specs.Rooms.{tinyRoom, shortRoom, mediumRoom};
 use book::Room;
 
 // Room for a few lines of each kind.
@@ -26,5 +26,18 @@ pub fn short_room() -> Room
         goes: 64,
         states: 32,
         rules: 32,
+    }
+}
+
+// Room for all that the limits allow, but for fewer kernel and go lines.
+pub fn medium_room() -> Room
+    ensures { λ r. ⌜ r ≡ mediumRoom ⌝ }
+{
+    Room {
+        definitions: 128,
+        kernels: 256,
+        goes: 256,
+        states: 128,
+        rules: 64,
     }
 }

@@ -1,7 +1,6 @@
 -- What the one-formula check asks of a book, from conditions 2 to 6. Assumes nothing.
 use Prim.Native.Nat.{ℕ, zero, suc, _*_, _<_, _≤_}
 use native.Mathlib.Omega.{arith}
-use mathlib.Core.Path.{_≡_}
 use mathlib.Core.List.{List}
 use lib.ListN.{length}
 use Rattle.grammar.specs.Data.Symbol.{leftOf, rightOf}

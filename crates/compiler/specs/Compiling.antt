@@ -4,7 +4,7 @@ use Prim.Native.Nat.{ℕ, zero, suc, _≤_}
 use mathlib.Core.Path.{_≡_, refl, sym, ap, _∙_}
 use mathlib.Core.Bool.{Bool, true, false, not, _&&_, false≢true}
 use mathlib.Core.List.{List}
-use mathlib.Core.Option.{Option, none, some}
+use mathlib.Core.Option.{none, some}
 use native.Mathlib.Omega.{arith}
 use lib.ListN.{length}
 use Rattle.grammar.specs.Limits.{MAX-RULES}
@@ -147,21 +147,13 @@ module _ {numbers : Book} {inherited synthesized rules definitions kernels goes 
 
 -- ---- the refusal of a text
 
-pub misspelt-refused : (text : List ℕ) → parseBook text ≡ none → refusal text ≡ 2
+misspelt-refused : (text : List ℕ) → parseBook text ≡ none → refusal text ≡ 2
 unfolding refusal
 misspelt-refused text e = rw (e, refusal)
 
-pub book-refused : (text : List ℕ) (b : Lines) → parseBook text ≡ some b → refusal text ≡ bookRefusal b
+book-refused : (text : List ℕ) (b : Lines) → parseBook text ≡ some b → refusal text ≡ bookRefusal b
 unfolding refusal
 book-refused text b e = rw (e, refusal)
-
--- a text that is taken has a book
-pub taken-got : {C : Type 0} (text : List ℕ) → refusal text ≡ 0 → ((b : Lines) → parseBook text ≡ some b → C) → C
-taken-got {C} text z k = go (parseBook text) refl
-  where
-    go : (o : Option Lines) → parseBook text ≡ o → C
-    go none e = absurd (omega (arith, sym (misspelt-refused text e) ∙ z))
-    go (some b) e = k b e
 
 -- ---- what was read
 

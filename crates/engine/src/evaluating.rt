@@ -1,42 +1,40 @@
 // Evaluating: a stored book and the tokens of a message to rows.
 ghost use mathlib.Core.Path.{_≡_};
 ghost use mathlib.Core.Bool.{true};
-ghost use Prim.Native.Nat.{_+_, _*_, _≤_};
-ghost use lib.ListN.{length, getD, take};
+ghost use Prim.Native.Nat.{_+_, _*_, _%_, _≤_};
+ghost use lib.ListN.{length};
 ghost use Rattle.grammar.specs.Limits.{MAX-TEXT, BOOK-WORDS};
-ghost use Rattle.grammar.specs.Format.Packing.{unpack};
 ghost use Rattle.grammar.specs.Engine.{evaluateWords};
+ghost use Rattle.book.specs.Rooms.{fullRoom};
+ghost use Rattle.packing.specs.Words.{Holds};
+ghost use Rattle.attempts.specs.Rooms.{LinesLent};
 ghost use Rattle.attempts.specs.Evaluations.{Answers, Evaluates};
 use attempts::evaluating::Answer;
 use attempts::evaluating::attempt;
+use attempts::rooms::medium_room;
 use attempts::rooms::short_room;
 use attempts::rooms::tiny_room;
-use attempts::stored::text_in;
 use book::Book;
 use book::Room;
 use packing::packing::clear;
+use packing::unpacking::text_length;
+use packing::unpacking::unpack;
 
-// The first words, in which the text of a tiny book, of a short one, and of most others stands.
-const TINY_WORDS: usize = 256;
+// The most bytes of the text of a tiny book, of a short one and of a medium one.
+const TINY_TEXT: usize = 1024;
 
-const SHORT_WORDS: usize = 1024;
+const SHORT_TEXT: usize = 4096;
 
-const MEDIUM_WORDS: usize = 4096;
+const MEDIUM_TEXT: usize = 16384;
 
-// By arrays for a tiny book, where the text ends before the last of the first words.
-fn tiny(words: &[u32], tokens: &[u32], rows: &mut [u32], count: &mut u32) -> Answer
-    requires { ⌜ (length (now words) ≡ BOOK-WORDS) × (getD (now words) 255 0 ≡ 0) ⌝ }
+// By arrays for a tiny book, whose text has `n` bytes.
+fn tiny(words: &[u32], n: usize, tokens: &[u32], rows: &mut [u32], count: &mut u32) -> Answer
+    requires { ⌜ (length (now words) ≡ BOOK-WORDS) × Holds (now words) n × (n ≤ 1024) ⌝ }
     ensures { λ r. ⌜ (r .complete ≡ true → Answers (evaluateWords (now (words .entry)) (now (tokens .entry)) (length (now (rows .entry))))
         (length (now (rows .entry))) (r .number) (now (rows .exit)) (now (count .exit))) ⌝ }
 {
     let mut text = [0u8; 1024];
-    let found = text_in(words, TINY_WORDS, &mut text);
-    if !found.filled {
-        return Answer {
-            complete: true,
-            number: 11,
-        };
-    }
+    unpack(words, n, &mut text);
     let mut rules = [0u32; 160];
     let mut definitions = [0u32; 784];
     let mut kernels = [0u32; 80];
@@ -51,7 +49,7 @@ fn tiny(words: &[u32], tokens: &[u32], rows: &mut [u32], count: &mut u32) -> Ans
     let mut actions = [0u8; 256];
     attempt(
         &mut text,
-        found.count,
+        n,
         tiny_room(),
         &mut rules,
         &mut definitions,
@@ -71,20 +69,14 @@ fn tiny(words: &[u32], tokens: &[u32], rows: &mut [u32], count: &mut u32) -> Ans
     )
 }
 
-// By arrays for a short book, where the text ends before the last of the first words.
-fn short(words: &[u32], tokens: &[u32], rows: &mut [u32], count: &mut u32) -> Answer
-    requires { ⌜ (length (now words) ≡ BOOK-WORDS) × (getD (now words) 1023 0 ≡ 0) ⌝ }
+// By arrays for a short book, whose text has `n` bytes.
+fn short(words: &[u32], n: usize, tokens: &[u32], rows: &mut [u32], count: &mut u32) -> Answer
+    requires { ⌜ (length (now words) ≡ BOOK-WORDS) × Holds (now words) n × (n ≤ 4096) ⌝ }
     ensures { λ r. ⌜ (r .complete ≡ true → Answers (evaluateWords (now (words .entry)) (now (tokens .entry)) (length (now (rows .entry))))
         (length (now (rows .entry))) (r .number) (now (rows .exit)) (now (count .exit))) ⌝ }
 {
     let mut text = [0u8; 4096];
-    let found = text_in(words, SHORT_WORDS, &mut text);
-    if !found.filled {
-        return Answer {
-            complete: true,
-            number: 11,
-        };
-    }
+    unpack(words, n, &mut text);
     let mut rules = [0u32; 320];
     let mut definitions = [0u32; 2352];
     let mut kernels = [0u32; 320];
@@ -99,7 +91,7 @@ fn short(words: &[u32], tokens: &[u32], rows: &mut [u32], count: &mut u32) -> An
     let mut actions = [0u8; 1024];
     attempt(
         &mut text,
-        found.count,
+        n,
         short_room(),
         &mut rules,
         &mut definitions,
@@ -119,45 +111,45 @@ fn short(words: &[u32], tokens: &[u32], rows: &mut [u32], count: &mut u32) -> An
     )
 }
 
-// By arrays for any book, where the text stands in so many of the first words. `text` is room for it, `actions` for the actions.
+// By arrays for all that the limits allow but for kernel and go lines, for a book whose text has `n` bytes. `text`, `kernels`, `goes` and `actions` are
+// room for it, for those lines and for the actions. What is used first is made last.
 fn any_book(
     words: &[u32],
-    front: usize,
+    n: usize,
+    room: Room,
     text: &mut [u8],
+    kernels: &mut [u32],
+    goes: &mut [u32],
     actions: &mut [u8],
     tokens: &[u32],
     rows: &mut [u32],
     count: &mut u32,
-) -> u32
-    requires { ⌜ (length (now words) ≡ BOOK-WORDS) × (front ≤ BOOK-WORDS) × (unpack (take front (now words)) ≡ unpack (now words))
-        × (4 * front ≤ length (now text)) × (length (now text) ≤ MAX-TEXT) × (length (now text) ≤ 5 * length (now actions) + 3)
-        × (4096 ≤ length (now actions)) × (4096 ≤ length (now text)) ⌝ }
-    ensures { λ r. ⌜ Answers (evaluateWords (now (words .entry)) (now (tokens .entry)) (length (now (rows .entry)))) (length (now (rows .entry))) r
-        (now (rows .exit)) (now (count .exit)) ⌝ }
+) -> Answer
+    requires { ⌜ (length (now words) ≡ BOOK-WORDS) × Holds (now words) n × (n ≤ length (now text)) × (length (now text) % 16 ≡ 0)
+        × (length (now text) ≤ MAX-TEXT) × (length (now text) ≤ 5 * length (now actions) + 3) × (4096 ≤ length (now actions))
+        × (4096 ≤ length (now text)) × LinesLent room (now kernels) (now goes) ⌝ }
+    ensures { λ r. ⌜ (r .complete ≡ true → Answers (evaluateWords (now (words .entry)) (now (tokens .entry)) (length (now (rows .entry))))
+        (length (now (rows .entry))) (r .number) (now (rows .exit)) (now (count .exit)))
+        × (room ≡ fullRoom → r .complete ≡ true) ⌝ }
 {
-    let found = text_in(words, front, text);
-    if !found.filled {
-        return 11;
-    }
-    let mut rules = [0u32; 640];
-    let mut definitions = [0u32; 6272];
-    let mut kernels = [0u32; 2560];
-    let mut goes = [0u32; 3072];
-    let mut vanishes = [0u32; 576];
-    let mut begins = [0u32; 576];
-    let mut reached = [0u32; 576];
+    unpack(words, n, text);
     let mut starts = [0u32; 129];
     let mut lookaheads = [0u32; 4096];
     let mut fronts = [0u64; 128];
     let mut table = [0u8; 8192];
+    let mut vanishes = [0u32; 576];
+    let mut begins = [0u32; 576];
+    let mut reached = [0u32; 576];
+    let mut rules = [0u32; 640];
+    let mut definitions = [0u32; 6272];
     attempt(
         text,
-        found.count,
-        Room::full(),
+        n,
+        room,
         &mut rules,
         &mut definitions,
-        &mut kernels,
-        &mut goes,
+        kernels,
+        goes,
         &mut vanishes,
         &mut begins,
         &mut reached,
@@ -169,21 +161,26 @@ fn any_book(
         tokens,
         rows,
         count,
-    ).number
+    )
 }
 
-// Any book, where the text ends before the last of the first words.
-fn medium(words: &[u32], tokens: &[u32], rows: &mut [u32], count: &mut u32) -> u32
-    requires { ⌜ (length (now words) ≡ BOOK-WORDS) × (getD (now words) 4095 0 ≡ 0) ⌝ }
-    ensures { λ r. ⌜ Answers (evaluateWords (now (words .entry)) (now (tokens .entry)) (length (now (rows .entry)))) (length (now (rows .entry))) r
-        (now (rows .exit)) (now (count .exit)) ⌝ }
+// By arrays for a medium book, whose text has `n` bytes.
+fn medium(words: &[u32], n: usize, tokens: &[u32], rows: &mut [u32], count: &mut u32) -> Answer
+    requires { ⌜ (length (now words) ≡ BOOK-WORDS) × Holds (now words) n × (n ≤ 16384) ⌝ }
+    ensures { λ r. ⌜ (r .complete ≡ true → Answers (evaluateWords (now (words .entry)) (now (tokens .entry)) (length (now (rows .entry))))
+        (length (now (rows .entry))) (r .number) (now (rows .exit)) (now (count .exit))) ⌝ }
 {
     let mut text = [0u8; 16384];
+    let mut kernels = [0u32; 1280];
+    let mut goes = [0u32; 768];
     let mut actions = [0u8; 4096];
     any_book(
         words,
-        MEDIUM_WORDS,
+        n,
+        medium_room(),
         &mut text,
+        &mut kernels,
+        &mut goes,
         &mut actions,
         tokens,
         rows,
@@ -191,51 +188,60 @@ fn medium(words: &[u32], tokens: &[u32], rows: &mut [u32], count: &mut u32) -> u
     )
 }
 
-// Any book, where the text may stand in all words.
-fn long(words: &[u32], tokens: &[u32], rows: &mut [u32], count: &mut u32) -> u32
-    requires { ⌜ length (now words) ≡ BOOK-WORDS ⌝ }
+// By arrays for any book; its text has `n` bytes, and may stand in all words.
+fn long(words: &[u32], n: usize, tokens: &[u32], rows: &mut [u32], count: &mut u32) -> u32
+    requires { ⌜ (length (now words) ≡ BOOK-WORDS) × Holds (now words) n ⌝ }
     ensures { λ r. ⌜ Answers (evaluateWords (now (words .entry)) (now (tokens .entry)) (length (now (rows .entry)))) (length (now (rows .entry))) r
         (now (rows .exit)) (now (count .exit)) ⌝ }
 {
     let mut text = [0u8; 65536];
+    let mut kernels = [0u32; 2560];
+    let mut goes = [0u32; 3072];
     let mut actions = [0u8; 13107];
     any_book(
         words,
-        words.len(),
+        n,
+        Room::full(),
         &mut text,
+        &mut kernels,
+        &mut goes,
         &mut actions,
         tokens,
         rows,
         count,
-    )
+    ).number
 }
 
-// Any book; the room for its text goes by where that ends.
-fn full(words: &[u32], tokens: &[u32], rows: &mut [u32], count: &mut u32) -> u32
-    requires { ⌜ length (now words) ≡ BOOK-WORDS ⌝ }
+// By arrays for a medium book, or for any where those have no room.
+fn full(words: &[u32], n: usize, tokens: &[u32], rows: &mut [u32], count: &mut u32) -> u32
+    requires { ⌜ (length (now words) ≡ BOOK-WORDS) × Holds (now words) n ⌝ }
     ensures { λ r. ⌜ Answers (evaluateWords (now (words .entry)) (now (tokens .entry)) (length (now (rows .entry)))) (length (now (rows .entry))) r
         (now (rows .exit)) (now (count .exit)) ⌝ }
 {
-    if words[MEDIUM_WORDS - 1] != 0 {
-        return long(words, tokens, rows, count);
+    if MEDIUM_TEXT < n {
+        return long(words, n, tokens, rows, count);
     }
-    medium(words, tokens, rows, count)
-}
-
-// By arrays for a short book, or for any where those have no room.
-fn longer(words: &[u32], tokens: &[u32], rows: &mut [u32], count: &mut u32) -> u32
-    requires { ⌜ length (now words) ≡ BOOK-WORDS ⌝ }
-    ensures { λ r. ⌜ Answers (evaluateWords (now (words .entry)) (now (tokens .entry)) (length (now (rows .entry)))) (length (now (rows .entry))) r
-        (now (rows .exit)) (now (count .exit)) ⌝ }
-{
-    if words[SHORT_WORDS - 1] != 0 {
-        return full(words, tokens, rows, count);
-    }
-    let first = short(words, tokens, rows, count);
+    let first = medium(words, n, tokens, rows, count);
     if first.complete {
         return first.number;
     }
-    full(words, tokens, rows, count)
+    long(words, n, tokens, rows, count)
+}
+
+// By arrays for a short book, or by longer ones where those have no room.
+fn longer(words: &[u32], n: usize, tokens: &[u32], rows: &mut [u32], count: &mut u32) -> u32
+    requires { ⌜ (length (now words) ≡ BOOK-WORDS) × Holds (now words) n ⌝ }
+    ensures { λ r. ⌜ Answers (evaluateWords (now (words .entry)) (now (tokens .entry)) (length (now (rows .entry)))) (length (now (rows .entry))) r
+        (now (rows .exit)) (now (count .exit)) ⌝ }
+{
+    if SHORT_TEXT < n {
+        return full(words, n, tokens, rows, count);
+    }
+    let first = short(words, n, tokens, rows, count);
+    if first.complete {
+        return first.number;
+    }
+    full(words, n, tokens, rows, count)
 }
 
 // The number that is answered, by the shortest arrays that have room; where it is 0, the rows and their count are in place.
@@ -246,14 +252,15 @@ fn number(words: &[u32], tokens: &[u32], rows: &mut [u32], count: &mut u32) -> u
     if words.len() != Book::BOOK_WORDS {
         return 11;
     }
-    if words[TINY_WORDS - 1] != 0 {
-        return longer(words, tokens, rows, count);
+    let n = text_length(words);
+    if TINY_TEXT < n {
+        return longer(words, n, tokens, rows, count);
     }
-    let first = tiny(words, tokens, rows, count);
+    let first = tiny(words, n, tokens, rows, count);
     if first.complete {
         return first.number;
     }
-    longer(words, tokens, rows, count)
+    longer(words, n, tokens, rows, count)
 }
 
 // 0 where the message is accepted, and its rows and their count; else the refusal, and zeros.

@@ -1,14 +1,17 @@
 // Reading: the text of a book to the words of a stored book.
 ghost use mathlib.Core.Path.{_≡_};
 ghost use mathlib.Core.Bool.{true};
-ghost use Prim.Native.Nat.{_≤_};
+ghost use Prim.Native.Nat.{_+_, _*_, _≤_};
 ghost use lib.ListN.{length};
 ghost use Rattle.grammar.specs.Limits.{MAX-TEXT, BOOK-WORDS};
 ghost use Rattle.grammar.specs.Refusal.{refusal};
 ghost use Rattle.grammar.specs.Engine.{readBook};
+ghost use Rattle.book.specs.Rooms.{fullRoom};
+ghost use Rattle.attempts.specs.Rooms.{LinesLent};
 ghost use Rattle.attempts.specs.Readings.{Reads, readNumber};
 use attempts::reading::Answer;
 use attempts::reading::attempt;
+use attempts::rooms::medium_room;
 use attempts::rooms::short_room;
 use attempts::rooms::tiny_room;
 use book::Book;
@@ -16,10 +19,12 @@ use book::Room;
 use packing::packing::clear;
 use packing::packing::pack;
 
-// The longest texts for which arrays for a tiny book, and for a short one, are tried.
+// The longest texts for which arrays for a tiny book, for a short one and for a medium one are tried.
 const TINY_TEXT: usize = 1024;
 
 const SHORT_TEXT: usize = 4096;
+
+const MEDIUM_TEXT: usize = 16384;
 
 // By arrays for a tiny book.
 fn tiny(text: &[u8], words: &mut [u32]) -> Answer
@@ -89,28 +94,33 @@ fn short(text: &[u8], words: &mut [u32]) -> Answer
     )
 }
 
-// By arrays for any book.
-fn full(text: &[u8], words: &mut [u32]) -> u32
-    requires { ⌜ (length (now text) ≤ MAX-TEXT) × (length (now words) ≡ BOOK-WORDS) ⌝ }
-    ensures { λ r. ⌜ r ≡ refusal (now (text .entry)) ⌝ }
+// By arrays for all that the limits allow but for kernel and go lines, for which `kernels` and `goes` are room; `actions` is room for the actions.
+fn any_text(
+    text: &[u8],
+    room: Room,
+    kernels: &mut [u32],
+    goes: &mut [u32],
+    actions: &mut [u8],
+    words: &mut [u32],
+) -> Answer
+    requires { ⌜ (length (now text) ≤ MAX-TEXT) × (length (now words) ≡ BOOK-WORDS) × (length (now text) ≤ 5 * length (now actions) + 3)
+        × (4096 ≤ length (now actions)) × LinesLent room (now kernels) (now goes) ⌝ }
+    ensures { λ r. ⌜ (r .complete ≡ true → r .refusal ≡ refusal (now (text .entry))) × (room ≡ fullRoom → r .complete ≡ true) ⌝ }
 {
-    let mut rules = [0u32; 640];
-    let mut kernels = [0u32; 2560];
-    let mut goes = [0u32; 3072];
-    let mut vanishes = [0u32; 576];
-    let mut begins = [0u32; 576];
-    let mut reached = [0u32; 576];
     let mut starts = [0u32; 129];
     let mut lookaheads = [0u32; 4096];
     let mut fronts = [0u64; 128];
     let mut table = [0u8; 8192];
-    let mut actions = [0u8; 13107];
+    let mut vanishes = [0u32; 576];
+    let mut begins = [0u32; 576];
+    let mut reached = [0u32; 576];
+    let mut rules = [0u32; 640];
     attempt(
         text,
-        Room::full(),
+        room,
         &mut rules,
-        &mut kernels,
-        &mut goes,
+        kernels,
+        goes,
         &mut vanishes,
         &mut begins,
         &mut reached,
@@ -118,12 +128,63 @@ fn full(text: &[u8], words: &mut [u32]) -> u32
         &mut lookaheads,
         &mut fronts,
         &mut table,
+        actions,
+        words,
+    )
+}
+
+// By arrays for a medium book.
+fn medium(text: &[u8], words: &mut [u32]) -> Answer
+    requires { ⌜ (length (now text) ≤ 16384) × (length (now words) ≡ BOOK-WORDS) ⌝ }
+    ensures { λ r. ⌜ (r .complete ≡ true → r .refusal ≡ refusal (now (text .entry))) ⌝ }
+{
+    let mut kernels = [0u32; 1280];
+    let mut goes = [0u32; 768];
+    let mut actions = [0u8; 4096];
+    any_text(
+        text,
+        medium_room(),
+        &mut kernels,
+        &mut goes,
+        &mut actions,
+        words,
+    )
+}
+
+// By arrays for any book.
+fn long(text: &[u8], words: &mut [u32]) -> u32
+    requires { ⌜ (length (now text) ≤ MAX-TEXT) × (length (now words) ≡ BOOK-WORDS) ⌝ }
+    ensures { λ r. ⌜ r ≡ refusal (now (text .entry)) ⌝ }
+{
+    let mut kernels = [0u32; 2560];
+    let mut goes = [0u32; 3072];
+    let mut actions = [0u8; 13107];
+    any_text(
+        text,
+        Room::full(),
+        &mut kernels,
+        &mut goes,
         &mut actions,
         words,
     ).refusal
 }
 
-// The first of 2 to 10 that applies to a text, or 0, by arrays for a short book, or for any where those have no room.
+// The first of 2 to 10 that applies to a text, or 0, by arrays for a medium book, or for any where those have no room.
+fn full(text: &[u8], words: &mut [u32]) -> u32
+    requires { ⌜ (length (now text) ≤ MAX-TEXT) × (length (now words) ≡ BOOK-WORDS) ⌝ }
+    ensures { λ r. ⌜ r ≡ refusal (now (text .entry)) ⌝ }
+{
+    if MEDIUM_TEXT < text.len() {
+        return long(text, words);
+    }
+    let first = medium(text, words);
+    if first.complete {
+        return first.refusal;
+    }
+    long(text, words)
+}
+
+// The first of 2 to 10 that applies to a text, or 0, by arrays for a short book, or by longer ones where those have no room.
 fn longer(text: &[u8], words: &mut [u32]) -> u32
     requires { ⌜ (length (now text) ≤ MAX-TEXT) × (length (now words) ≡ BOOK-WORDS) ⌝ }
     ensures { λ r. ⌜ r ≡ refusal (now (text .entry)) ⌝ }

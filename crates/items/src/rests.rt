@@ -1,5 +1,4 @@
 // The sets of every rest of every rule, of a grammar in an array: whether it vanishes, what can begin it, what is reached before it ends.
-ghost use mathlib.Core.Path.{_≡_};
 ghost use mathlib.Core.List.{List};
 ghost use Prim.Native.Nat.{_*_, _≤_};
 ghost use lib.ListN.{length};

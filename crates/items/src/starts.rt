@@ -1,6 +1,5 @@
 // Where the kernel lines of each state begin. The lines ascend by their states, so one pass over them finds all.
 // The contract asks that the array holds some kernel lines, and says what it says of all lines that it holds.
-ghost use mathlib.Core.Path.{_≡_};
 ghost use Prim.Native.Nat.{_+_, _≤_};
 ghost use lib.ListN.{length};
 ghost use mathlib.Core.List.{List};

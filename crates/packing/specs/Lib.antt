@@ -1,6 +1,5 @@
-pub mod FrontLaws
-pub mod LowWords
 pub mod PackingLoops
 pub mod PlacedLaws
+pub mod UnpackingLoops
 pub mod Words
 pub mod WordsLaws

@@ -1,33 +1,8 @@
-// The text in the words of a stored book, up to the first zero byte, and whether the words are its filling.
+// The text in the words of a stored book: their bytes up to the last one that is not 0.
 ghost use mathlib.Core.Path.{_≡_};
-ghost use mathlib.Core.Bool.{true};
-ghost use mathlib.Core.List.{List, _∷_, []};
-ghost use Prim.Native.Nat.{ℕ, _+_, _*_, _/_, _≤_};
-ghost use lib.ListN.{length, drop, replicate};
-ghost use Rattle.grammar.specs.Automaton.Fixpoint.{sameSets};
-ghost use Rattle.grammar.specs.Format.Packing.{pack, unpack};
-ghost use Rattle.packing.specs.Words.{bytesOf, full, gathered, Placed};
-ghost use Rattle.packing.specs.LowWords.{AllFull};
-ghost use Rattle.packing.specs.PackingLoops.{Unpacking};
-
-// Whether no byte of a word is 0.
-fn full(word: u32) -> bool
-    ensures { λ r. ⌜ r ≡ full word ⌝ }
-{
-    if word % 256 == 0 {
-        return false;
-    }
-    if word / 256 % 256 == 0 {
-        return false;
-    }
-    if word / 65536 % 256 == 0 {
-        return false;
-    }
-    if word / 16777216 % 256 == 0 {
-        return false;
-    }
-    true
-}
+ghost use Prim.Native.Nat.{_+_, _*_, _%_, _<_, _≤_};
+ghost use lib.ListN.{length, take};
+ghost use Rattle.packing.specs.Words.{bytesOf, bytes, Placed, Copied, Zeros, Ends, Holds};
 
 // The four bytes of a word.
 fn put_whole(text: &mut [u8], at: usize, word: u32)
@@ -40,60 +15,10 @@ fn put_whole(text: &mut [u8], at: usize, word: u32)
     text[at + 3] = (word / 16777216 % 256) as u8;
 }
 
-// The bytes of a word up to its first zero byte, and where they end.
-fn put_last(text: &mut [u8], at: usize, word: u32) -> usize
-    requires { ⌜ at + 4 ≤ length (now text) ⌝ }
-    ensures { λ r. ⌜ Placed (unpack (word ∷ [])) at (now (text .entry)) (now (text .exit)) r ⌝ }
-{
-    if word % 256 == 0 {
-        return at;
-    }
-    text[at] = (word % 256) as u8;
-    if word / 256 % 256 == 0 {
-        return at + 1;
-    }
-    text[at + 1] = (word / 256 % 256) as u8;
-    if word / 65536 % 256 == 0 {
-        return at + 2;
-    }
-    text[at + 2] = (word / 65536 % 256) as u8;
-    if word / 16777216 % 256 == 0 {
-        return at + 3;
-    }
-    text[at + 3] = (word / 16777216 % 256) as u8;
-    at + 4
-}
-
-// How many words are looked at together.
-const BLOCK: usize = 32;
-
-// The highest bits of the four bytes of a word, and all of the others.
-const HIGH: u32 = 2155905152;
-
-const LOW: u32 = 2139062143;
-
-// True only if all words of a block are full: where their bytes are below 128, 127 more in each byte sets the highest bit of those that are not 0. The bits
-// are gathered, with no way out of the loop.
-fn block_full(words: &[u32], from: usize) -> bool
-    requires { ⌜ from + 32 ≤ length (now words) ⌝ }
-    ensures { λ r. ⌜ (r ≡ true → AllFull (now (words .entry)) from 32) ⌝ }
-{
-    let mut some = 0u32;
-    let mut all = 4294967295u32;
-    let mut i = 0;
-    while i < BLOCK {
-        some |= words[from + i];
-        all &= std::num::wrapping_add_u32(words[from + i], LOW);
-        i += 1;
-    }
-    (some & HIGH == 0) & (all & HIGH == HIGH)
-}
-
-// The bytes of four words that are full. All are loaded before the first is put, so that compilers move them as one.
+// The bytes of four words. All are loaded before the first is put, so that compilers move them as one.
 fn put_four(words: &[u32], at: usize, text: &mut [u8])
-    requires { ⌜ (at + 4 ≤ length (now words)) × (4 * length (now words) ≤ length (now text)) × AllFull (now words) at 4 ⌝ }
-    ensures { λ _. ⌜ ((old : List ℕ) → Unpacking (now (words .entry)) old (now (text .entry)) at
-        → Unpacking (now (words .entry)) old (now (text .exit)) (at + 4)) ⌝ }
+    requires { ⌜ (at + 4 ≤ length (now words)) × (4 * at + 16 ≤ length (now text)) ⌝ }
+    ensures { λ _. ⌜ (Copied (now (words .entry)) at (now (text .entry)) → Copied (now (words .entry)) (at + 4) (now (text .exit))) ⌝ }
 {
     let first = words[at];
     let second = words[at + 1];
@@ -106,111 +31,77 @@ fn put_four(words: &[u32], at: usize, text: &mut [u8])
     put_whole(text, from + 12, fourth);
 }
 
-// The bytes of a block whose words are full, by fours.
-fn put_block(words: &[u32], from: usize, text: &mut [u8])
-    requires { ⌜ (from + 32 ≤ length (now words)) × (4 * length (now words) ≤ length (now text)) × AllFull (now words) from 32 ⌝ }
-    ensures { λ _. ⌜ ((old : List ℕ) → Unpacking (now (words .entry)) old (now (text .entry)) from
-        → Unpacking (now (words .entry)) old (now (text .exit)) (from + 32)) ⌝ }
+// Copies the first `n` bytes of the words, sixteen at a time: up to 15 bytes behind them may change.
+pub fn unpack(words: &[u32], n: usize, text: &mut [u8])
+    requires { ⌜ (n ≤ length (now text)) × (length (now text) % 16 ≡ 0) × (length (now text) ≤ 4 * length (now words)) ⌝ }
+    ensures { λ _. ⌜ take n (now (text .exit)) ≡ take n (bytes (now (words .entry))) ⌝ }
 {
     let mut k = 0;
-    while k < 8 {
-        put_four(words, from + 4 * k, text);
+    while 16 * k < n {
+        put_four(words, 4 * k, text);
         k += 1;
     }
 }
 
-// The blocks in front whose words are full, and how many words they have.
-fn unpack_blocks(words: &[u32], text: &mut [u8]) -> usize
-    requires { ⌜ 4 * length (now words) ≤ length (now text) ⌝ }
-    ensures { λ r. ⌜ Unpacking (now (words .entry)) (now (text .entry)) (now (text .exit)) r ⌝ }
-{
-    let n = words.len() / BLOCK;
-    let mut block = 0;
-    while block < n {
-        if !block_full(words, BLOCK * block) {
-            return BLOCK * block;
-        }
-        put_block(words, BLOCK * block, text);
-        block += 1;
-    }
-    BLOCK * block
-}
-
-// The bytes of the words up to the first zero byte, and their number; what lies behind them stays.
-pub fn unpack(words: &[u32], text: &mut [u8]) -> usize
-    requires { ⌜ 4 * length (now words) ≤ length (now text) ⌝ }
-    ensures { λ r. ⌜ Placed (unpack (now (words .entry))) 0 (now (text .entry)) (now (text .exit)) r ⌝ }
-{
-    let n = words.len();
-    let mut i = unpack_blocks(words, text);
-    while i < n {
-        let word = words[i];
-        if !full(word) {
-            return put_last(text, 4 * i, word);
-        }
-        put_whole(text, 4 * i, word);
-        i += 1;
-    }
-    4 * i
-}
-
 // How many words are looked at together where all should be 0.
-const ZEROS: usize = 64;
+const BLOCK: usize = 128;
 
-// Some bits, with those of a block of words.
-fn block_bits(words: &[u32], from: usize, some: u32) -> u32
-    requires { ⌜ from + 64 ≤ length (now words) ⌝ }
-    ensures { λ r. ⌜ gathered r (drop (from + 64) (now (words .entry))) ≡ gathered some (drop from (now (words .entry))) ⌝ }
+// The bits of a block of words, gathered with no way out of the loop.
+fn block_bits(words: &[u32], from: usize) -> u32
+    requires { ⌜ from + 128 ≤ length (now words) ⌝ }
+    ensures { λ r. ⌜ (r ≡ 0 → Zeros (now (words .entry)) from (from + 128)) ⌝ }
 {
-    let mut bits = some;
+    let mut bits = 0u32;
     let mut i = 0;
-    while i < ZEROS {
+    while i < BLOCK {
         bits |= words[from + i];
         i += 1;
     }
     bits
 }
 
-// Some bits, with those of all words from a place on.
-fn rest_bits(words: &[u32], from: usize, some: u32) -> u32
-    ensures { λ r. ⌜ r ≡ gathered some (drop from (now (words .entry))) ⌝ }
+// As many words in front as leave none but zeros behind them, by blocks from the end.
+fn before_zeros(words: &[u32]) -> usize
+    ensures { λ r. ⌜ (r ≤ length (now (words .entry))) × Zeros (now (words .entry)) r (length (now (words .entry))) ⌝ }
 {
-    let mut bits = some;
-    let mut i = from;
-    while i < words.len() {
-        bits |= words[i];
-        i += 1;
+    let mut end = words.len();
+    while BLOCK <= end {
+        if block_bits(words, end - BLOCK) != 0 {
+            return end;
+        }
+        end -= BLOCK;
     }
-    bits
+    end
 }
 
-// Whether every word is 0: their bits are gathered, with no way out of the loops.
-fn zeros(words: &[u32]) -> bool
-    ensures { λ r. ⌜ r ≡ sameSets (now (words .entry)) (replicate (length (now (words .entry))) 0) ⌝ }
+// The bytes of a word up to the last one that is not 0.
+fn word_length(word: u32) -> usize
+    requires { ⌜ (word ≡ 0 → ⊥) ⌝ }
+    ensures { λ r. ⌜ (0 < r) × Ends (bytesOf word) r ⌝ }
 {
-    let n = words.len() / ZEROS;
-    let mut bits = 0u32;
-    let mut block = 0;
-    while block < n {
-        bits = block_bits(words, ZEROS * block, bits);
-        block += 1;
+    if 16777216 <= word {
+        return 4;
     }
-    rest_bits(words, ZEROS * block, bits) == 0
+    if 65536 <= word {
+        return 3;
+    }
+    if 256 <= word {
+        return 2;
+    }
+    1
 }
 
-// Whether words that hold a text of `n` bytes are that text's filling: there are only zeros after it.
-pub fn filled(words: &[u32], n: usize) -> bool
-    requires { ⌜ n ≡ length (unpack (now words)) ⌝ }
-    ensures { λ r. ⌜ r ≡ sameSets (now (words .entry)) (pack (length (now (words .entry))) (unpack (now (words .entry)))) ⌝ }
+// How many bytes the text in the words has.
+pub fn text_length(words: &[u32]) -> usize
+    ensures { λ r. ⌜ Holds (now (words .entry)) r ⌝ }
 {
-    let last = n / 4;
-    if words.len() <= last {
-        return true;
+    let mut end = before_zeros(words);
+    while 0 < end {
+        let word = words[end - 1];
+        if word != 0 {
+            return 4 * (end - 1) + word_length(word);
+        }
+        end -= 1;
     }
-    let word = words[last];
-    if (word >> (8 * (n % 4))) != 0 {
-        return false;
-    }
-    let next = last + 1;
-    zeros(&words[next..])
+    0
 }

@@ -1,6 +1,5 @@
 // The plans of partial states, each worked out when it is first asked for; those of a state at whose items nothing is defined are then noted all at once.
 // A contract asks that the arrays hold some book, and says its statement of every book that they hold.
-ghost use mathlib.Core.Path.{_≡_};
 ghost use mathlib.Core.List.{List};
 ghost use Prim.Native.Nat.{ℕ, _+_, _*_, _<_, _≤_};
 ghost use lib.ListN.{length};

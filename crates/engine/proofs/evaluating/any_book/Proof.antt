@@ -1,39 +1,22 @@
 -- `evaluating::any_book` meets its contract: the arrays have as much room as is said. Assumes nothing.
 use mathlib.Core.Path.{_∙_}
 use native.Mathlib.Omega.{arith}
-use borrow.Author.Tests.{not-true}
-use Rattle.attempts.specs.Rooms.{full-arrays}
-use Rattle.attempts.specs.Stored.{unfilled, filled-found}
-use Rattle.attempts.specs.Evaluations.{answers-none}
+use Rattle.attempts.specs.Rooms.{wide-arrays}
+use Rattle.attempts.specs.Stored.{found-text}
 use borrow.Author.Needs.{needs}
 use Rattle.engine.proofs.evaluating.any_book.Statement.{statement}
 use Rattle.engine.proofs.evaluating.any_book.Tie as tie
 
--- from the call of `attempt` back to the room, to the test of the filling, to the text, and to the entry
+-- from the call of `attempt` back to the text, and to the entry
 
-abbrev room-at : tie.After-attempt-arg4 → tie.After-full
-room-at c = c .before .before .before .before .before .before .before .before .before .before .before .before .before .before
+abbrev unpacked-at : tie.After-attempt-arg6 → tie.After-unpack
+unpacked-at c = c .before .before .before .before .before .before .before .before .before .before .before .before .before .before .before .before .before
 
-abbrev filled-at : tie.After-attempt-arg4 → tie.Else1
-filled-at c = room-at c .before .before
+abbrev start : tie.After-unpack → tie.Start
+start c = c .before .before .before .before .before .before .before .before .before
 
-abbrev found-at : tie.After-attempt-arg4 → tie.After-text-in
-found-at c = filled-at c .before .before .before .before
-
-abbrev start : tie.After-text-in → tie.Start
-start c = c .before .before .before .before .before .before .before
-
-text-in-requires : tie.Need-text-in-requires
-text-in-requires c κs = search needs
-
-same-length : tie.Need-same-length
-same-length c = search needs
-
-returns : tie.Need-returns
-returns c = answers-none _ _ _ (unfilled (c .before .before .before .before .text-in .ensures) (not-true _ (c .if1 .taken)))
-
-full-requires : tie.Need-full-requires
-full-requires c κs = search needs
+unpack-requires : tie.Need-unpack-requires
+unpack-requires c κs = search needs
 
 slice-aggregate-attempt : tie.Need-slice-aggregate-attempt
 slice-aggregate-attempt c = search needs
@@ -62,24 +45,24 @@ slice-aggregate-attempt-8 c = search needs
 slice-aggregate-attempt-9 : tie.Need-slice-aggregate-attempt-9
 slice-aggregate-attempt-9 c = search needs
 
-slice-aggregate-attempt-10 : tie.Need-slice-aggregate-attempt-10
-slice-aggregate-attempt-10 c = search needs
-
-slice-aggregate-attempt-11 : tie.Need-slice-aggregate-attempt-11
-slice-aggregate-attempt-11 c = search needs
-
 attempt-requires : tie.Need-attempt-requires
 attempt-requires c κs =
-    let found = found-at c .text-in in (
-      (_, filled-found (found .ensures) (filled-at c .if1 .left)),
-      omega (arith, found .ensures .inside, found .kept .1 .1 .0, start (found-at c) .pre .5),
-      rw (room-at c .full .ensures) (omega (arith, start (found-at c) .pre .6)),
-      rw (room-at c .full .ensures) (omega (arith, start (found-at c) .pre .7, found .kept .1 .1 .0)),
-      rw (room-at c .full .ensures) full-arrays,
+    let u = unpacked-at c in
+    let s = start u in (
+      (_, found-text (s .pre .0) (s .pre .1) (u .unpack .ensures) (omega (arith, s .pre .2, u .unpack .kept .1 .1 .0))),
+      omega (arith, s .pre .2, s .pre .5),
+      omega (arith, s .pre .6, s .pre .8 .states-all),
+      omega (arith, s .pre .7, u .unpack .kept .1 .1 .0, s .pre .8 .states-all),
+      wide-arrays (s .pre .8),
     )
 
+same-length : tie.Need-same-length
+same-length c =
+    let a = c .before .before .before .before .before .before .before .before .before .before .before .before .before .before .before .before .before .before .before in
+    a .attempt .kept .0 ∙ unpacked-at (a .before) .unpack .kept .1 .1 .0
+
 same-length-2 : tie.Need-same-length-2
-same-length-2 c = let a = c .before .before .before .before .before .before .before .before .before .before .before .before .before .before .before .before .before in a .attempt .kept .0 ∙ found-at (a .before) .text-in .kept .1 .1 .0
+same-length-2 c = search needs
 
 same-length-3 : tie.Need-same-length-3
 same-length-3 c = search needs
@@ -87,21 +70,25 @@ same-length-3 c = search needs
 same-length-4 : tie.Need-same-length-4
 same-length-4 c = search needs
 
-returns-2 : tie.Need-returns-2
-returns-2 c =
-    let a = c .before .before .before .before .before .before .before .before .before .before .before .before .before .before .before .before .before in
-    let told = a .attempt .ensures in
-    let at = a .before in
-    told .answers (told .all (room-at at .full .ensures)) _ (filled-found (found-at at .text-in .ensures) (filled-at at .if1 .left))
+same-length-5 : tie.Need-same-length-5
+same-length-5 c = search needs
+
+returns : tie.Need-returns
+returns c =
+    let a = c .before .before .before .before .before .before .before .before .before .before .before .before .before .before .before .before .before .before .before in
+    let u = unpacked-at (a .before) in
+    let s = start u in
+    let told = a .attempt .ensures in (
+      λ whole. told .answers whole _
+          (found-text (s .pre .0) (s .pre .1) (u .unpack .ensures) (omega (arith, s .pre .2, u .unpack .kept .1 .1 .0))),
+      told .all,
+    )
 
 pub any-book-spec : {M : Type 1} → statement M
 any-book-spec =
     tie.close
     (tie.spec
-    text-in-requires
-    same-length
-    returns
-    full-requires
+    unpack-requires
     slice-aggregate-attempt
     slice-aggregate-attempt-2
     slice-aggregate-attempt-3
@@ -111,10 +98,10 @@ any-book-spec =
     slice-aggregate-attempt-7
     slice-aggregate-attempt-8
     slice-aggregate-attempt-9
-    slice-aggregate-attempt-10
-    slice-aggregate-attempt-11
     attempt-requires
+    same-length
     same-length-2
     same-length-3
     same-length-4
-    returns-2)
+    same-length-5
+    returns)

@@ -1,13 +1,13 @@
--- `evaluating::long` meets its contract: the text stands in the words, and there is room for it. Assumes nothing.
-use mathlib.Core.Path.{ap}
+-- `evaluating::long` meets its contract: there is room for the text. Assumes nothing.
 use native.Mathlib.Omega.{arith}
-use lib.ListN.{length}
-use lib.Seq.{take-all}
-use Rattle.grammar.specs.Format.Packing.{unpack}
-use Rattle.attempts.specs.Rooms.{zeros}
+use Rattle.packing.specs.WordsLaws.{bytes-length}
+use Rattle.attempts.specs.Rooms.{zeros, full-lines}
 use borrow.Author.Needs.{needs}
 use Rattle.engine.proofs.evaluating.long.Statement.{statement}
 use Rattle.engine.proofs.evaluating.long.Tie as tie
+
+full-requires : tie.Need-full-requires
+full-requires c κs = search needs
 
 slice-aggregate-any-book : tie.Need-slice-aggregate-any-book
 slice-aggregate-any-book c = search needs
@@ -15,18 +15,43 @@ slice-aggregate-any-book c = search needs
 slice-aggregate-any-book-2 : tie.Need-slice-aggregate-any-book-2
 slice-aggregate-any-book-2 c = search needs
 
+slice-aggregate-any-book-3 : tie.Need-slice-aggregate-any-book-3
+slice-aggregate-any-book-3 c = search needs
+
+slice-aggregate-any-book-4 : tie.Need-slice-aggregate-any-book-4
+slice-aggregate-any-book-4 c = search needs
+
 any-book-requires : tie.Need-any-book-requires
 any-book-requires c κs =
-    let s = c .before .before .before .before .before .before .before in
-    let words = s .args .words .now in
-    let all = ap unpack (take-all (length words) words (omega arith)) in
-    (s .pre, omega (arith, s .pre), all, omega (arith, s .pre, zeros 65536), omega (arith, zeros 65536), omega (arith, zeros 65536, zeros 13107), omega (arith, zeros 13107), omega (arith, zeros 65536))
+    let s = c .before .before .before .before .before .before .before .before .before .before in (
+      s .pre .0,
+      s .pre .1,
+      omega (arith, s .pre .0, s .pre .1 .ends .within, bytes-length (s .args .words .now), zeros 65536),
+      omega (arith, zeros 65536),
+      omega (arith, zeros 65536),
+      omega (arith, zeros 65536, zeros 13107),
+      omega (arith, zeros 13107),
+      omega (arith, zeros 65536),
+      rw (c .before .before .before .before .before .before .full .ensures) full-lines,
+    )
 
 same-length : tie.Need-same-length
 same-length c = search needs
 
 returns : tie.Need-returns
-returns c = search needs
+returns c =
+    let told = c .before .before .before .before .before .before .any-book .ensures in
+    told .0 (told .1 (c .before .before .before .before .before .before .before .before .before .before .before .before .before .full .ensures))
 
 pub long-spec : {M : Type 1} → statement M
-long-spec = tie.close (tie.spec slice-aggregate-any-book slice-aggregate-any-book-2 any-book-requires same-length returns)
+long-spec =
+    tie.close
+    (tie.spec
+    full-requires
+    slice-aggregate-any-book
+    slice-aggregate-any-book-2
+    slice-aggregate-any-book-3
+    slice-aggregate-any-book-4
+    any-book-requires
+    same-length
+    returns)

@@ -3,15 +3,6 @@ use borrow.Author.Needs.{needs}
 use Rattle.engine.proofs.evaluating.longer.Statement.{statement}
 use Rattle.engine.proofs.evaluating.longer.Tie as tie
 
-sub-if1 : tie.Need-sub-if1
-sub-if1 c = search needs
-
-mul-if1 : tie.Need-mul-if1
-mul-if1 c = search needs
-
-shared-slice-read-if1 : tie.Need-shared-slice-read-if1
-shared-slice-read-if1 c = search needs
-
 full-requires : tie.Need-full-requires
 full-requires c κs = search needs
 
@@ -37,15 +28,12 @@ same-length-3 : tie.Need-same-length-3
 same-length-3 c = search needs
 
 returns-3 : tie.Need-returns-3
-returns-3 c = rw (c .before .before .before .before .before .before .before .before .short .kept .1 .1 .0) at (c .before .before .full2 .ensures)
+returns-3 c = rw (c .before .before .before .before .before .before .before .before .short .kept .1 .1 .1 .0) at (c .before .before .full2 .ensures)
 
 pub longer-spec : {M : Type 1} → statement M
 longer-spec =
     tie.close
     (tie.spec
-    sub-if1
-    mul-if1
-    shared-slice-read-if1
     full-requires
     same-length
     returns

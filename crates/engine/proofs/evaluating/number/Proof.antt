@@ -8,14 +8,8 @@ use Rattle.engine.proofs.evaluating.number.Tie as tie
 returns : tie.Need-returns
 returns c = answers-none _ _ _ (unfit-none _ (c .if1 .taken))
 
-sub-if2 : tie.Need-sub-if2
-sub-if2 c = search needs
-
-mul-if2 : tie.Need-mul-if2
-mul-if2 c = search needs
-
-shared-slice-read-if2 : tie.Need-shared-slice-read-if2
-shared-slice-read-if2 c = search needs
+text-length-requires : tie.Need-text-length-requires
+text-length-requires c κs = search needs
 
 longer-requires : tie.Need-longer-requires
 longer-requires c κs = search needs
@@ -42,16 +36,14 @@ same-length-3 : tie.Need-same-length-3
 same-length-3 c = search needs
 
 returns-4 : tie.Need-returns-4
-returns-4 c = rw (c .before .before .before .before .before .before .before .before .tiny .kept .1 .1 .0) at (c .before .before .longer2 .ensures)
+returns-4 c = rw (c .before .before .before .before .before .before .before .before .tiny .kept .1 .1 .1 .0) at (c .before .before .longer2 .ensures)
 
 pub number-spec : {M : Type 1} → statement M
 number-spec =
     tie.close
     (tie.spec
     returns
-    sub-if2
-    mul-if2
-    shared-slice-read-if2
+    text-length-requires
     longer-requires
     same-length
     returns-2

@@ -1,79 +1,45 @@
--- `reading::full` meets its contract: the arrays have as much room as is said. Assumes nothing.
-use native.Mathlib.Omega.{arith}
-use Rattle.attempts.specs.Rooms.{zeros, full-arrays, words-lent}
+-- `reading::full` meets its contract: arrays for any book are taken where those for a medium one have no room. Assumes nothing.
 use borrow.Author.Needs.{needs}
 use Rattle.engine.proofs.reading.full.Statement.{statement}
 use Rattle.engine.proofs.reading.full.Tie as tie
 
-slice-aggregate-attempt : tie.Need-slice-aggregate-attempt
-slice-aggregate-attempt c = search needs
-
-full-requires : tie.Need-full-requires
-full-requires c κs = search needs
-
-slice-aggregate-attempt-2 : tie.Need-slice-aggregate-attempt-2
-slice-aggregate-attempt-2 c = search needs
-
-slice-aggregate-attempt-3 : tie.Need-slice-aggregate-attempt-3
-slice-aggregate-attempt-3 c = search needs
-
-slice-aggregate-attempt-4 : tie.Need-slice-aggregate-attempt-4
-slice-aggregate-attempt-4 c = search needs
-
-slice-aggregate-attempt-5 : tie.Need-slice-aggregate-attempt-5
-slice-aggregate-attempt-5 c = search needs
-
-slice-aggregate-attempt-6 : tie.Need-slice-aggregate-attempt-6
-slice-aggregate-attempt-6 c = search needs
-
-slice-aggregate-attempt-7 : tie.Need-slice-aggregate-attempt-7
-slice-aggregate-attempt-7 c = search needs
-
-slice-aggregate-attempt-8 : tie.Need-slice-aggregate-attempt-8
-slice-aggregate-attempt-8 c = search needs
-
-slice-aggregate-attempt-9 : tie.Need-slice-aggregate-attempt-9
-slice-aggregate-attempt-9 c = search needs
-
-slice-aggregate-attempt-10 : tie.Need-slice-aggregate-attempt-10
-slice-aggregate-attempt-10 c = search needs
-
-slice-aggregate-attempt-11 : tie.Need-slice-aggregate-attempt-11
-slice-aggregate-attempt-11 c = search needs
-
-attempt-requires : tie.Need-attempt-requires
-attempt-requires c κs = let s = c .before .before .before .before .before .before .before .before .before .before .before .before .before .before .before in (
-  s .pre .0,
-  s .pre .1,
-  omega (arith, s .pre .0, zeros 13107),
-  rw (c .before .before .before .before .before .before .before .before .before .before .before .before .full .ensures) (omega (arith, zeros 13107)),
-  rw (c .before .before .before .before .before .before .before .before .before .before .before .before .full .ensures) (words-lent (s .args .words .now) (s .pre .1) full-arrays),
-)
+long-requires : tie.Need-long-requires
+long-requires c κs = search needs
 
 same-length : tie.Need-same-length
 same-length c = search needs
 
 returns : tie.Need-returns
-returns c =
-    let a = c .before .before .before .before .before .before .before .before .before .before .before .before .before in
-    a .attempt .ensures .told (a .attempt .ensures .all (a .before .before .before .before .before .before .before .before .before .before .before .before .before .full .ensures))
+returns c = search needs
+
+medium-requires : tie.Need-medium-requires
+medium-requires c κs = search needs
+
+same-length-2 : tie.Need-same-length-2
+same-length-2 c = search needs
+
+returns-2 : tie.Need-returns-2
+returns-2 c = c .before .before .before .medium .ensures (c .if2 .taken)
+
+long-requires-2 : tie.Need-long-requires-2
+long-requires-2 c κs = search needs
+
+same-length-3 : tie.Need-same-length-3
+same-length-3 c = search needs
+
+returns-3 : tie.Need-returns-3
+returns-3 c = search needs
 
 pub full-spec : {M : Type 1} → statement M
 full-spec =
     tie.close
     (tie.spec
-    full-requires
-    slice-aggregate-attempt
-    slice-aggregate-attempt-2
-    slice-aggregate-attempt-3
-    slice-aggregate-attempt-4
-    slice-aggregate-attempt-5
-    slice-aggregate-attempt-6
-    slice-aggregate-attempt-7
-    slice-aggregate-attempt-8
-    slice-aggregate-attempt-9
-    slice-aggregate-attempt-10
-    slice-aggregate-attempt-11
-    attempt-requires
+    long-requires
     same-length
-    returns)
+    returns
+    medium-requires
+    same-length-2
+    returns-2
+    long-requires-2
+    same-length-3
+    returns-3)

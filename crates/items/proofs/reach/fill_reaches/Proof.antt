@@ -1,7 +1,6 @@
 -- `items::reach::fill_reaches` meets its contract: the words of the rules below p are right.
 -- Assumes nothing.
 use Prim.Native.Nat.{_-_}
-use mathlib.Core.Path.{_∙_}
 use native.Mathlib.Omega.{arith}
 use borrow.Author.Needs.{needs}
 use Rattle.grammar.specs.Automaton.FirstSets.{setsOf}

@@ -1,7 +1,7 @@
 -- `items::suffixes::suffixes` meets its contract: the words of the rules below p are right in both arrays.
 -- Assumes nothing.
 use Prim.Native.Nat.{_-_}
-use mathlib.Core.Path.{refl, _∙_}
+use mathlib.Core.Path.{refl}
 use native.Mathlib.Omega.{arith}
 use borrow.Author.Needs.{needs}
 use Rattle.items.specs.SuffixLoops.{SuffixesFilled, suffixes-begin, suffixes-turn, suffixes-end, living-end}

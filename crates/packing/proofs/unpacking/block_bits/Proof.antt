@@ -1,23 +1,21 @@
--- `unpacking::block_bits` meets its contract: the loop keeps the bits of all words from the block on.
--- Assumes nothing.
+-- `unpacking::block_bits` meets its contract: where no bit was gathered, the words so far are 0. Assumes nothing.
 use Prim.Native.Nat.{_+_, _-_, _≤_}
 use mathlib.Core.Path.{_≡_}
 use native.Mathlib.Omega.{arith}
-use lib.ListN.{drop}
-use Rattle.packing.specs.Words.{gathered}
-use Rattle.packing.specs.PackingLoops.{gathering-turn}
+use Rattle.packing.specs.Words.{Zeros}
+use Rattle.packing.specs.UnpackingLoops.{zeros-none, zeros-more}
 use borrow.Author.Needs.{needs}
 use Rattle.packing.proofs.unpacking.block_bits.Statement.{statement}
 use Rattle.packing.proofs.unpacking.block_bits.Tie as tie
 
 abbrev Inv-loop : tie.InvT-loop
-Inv-loop words from some bits₀ i₀ bits i = (i ≤ 64) × (gathered bits (drop (from + i) words) ≡ gathered some (drop from words))
+Inv-loop words from bits₀ i₀ bits i = (i ≤ 128) × (bits ≡ 0 → Zeros words from (from + i))
 
 abbrev μ-loop : tie.MeasureT-loop
-μ-loop words from some bits₀ i₀ bits i = 64 - i
+μ-loop words from bits₀ i₀ bits i = 128 - i
 
 loop-holds : tie.Need-loop-holds Inv-loop μ-loop
-loop-holds c = let e : c .args .from + 0 ≡ c .args .from = omega arith in (omega arith, rw e)
+loop-holds c = let e : c .args .from + 0 ≡ c .args .from = omega arith in (omega arith, λ _. rw e (zeros-none _ _))
 
 add-bits : tie.Need-add-bits Inv-loop μ-loop
 add-bits c = search needs
@@ -41,15 +39,15 @@ loop-again c =
     let s = t .before .before in
     let next : s .args .from + (loop .i + 1) ≡ s .args .from + loop .i + 1 = omega arith in (
       omega (arith, t .loop-test .taken),
-      rw next (gathering-turn (s .args .words .now) (s .args .from + loop .i) (loop .bits) (omega (arith, s .pre, t .loop-test .taken)) (loop .inv .1)),
+      λ e. rw next (zeros-more (loop .bits) (loop .inv .1) e),
     )
 
 returns : tie.Need-returns Inv-loop μ-loop
-returns c =
+returns c = λ e.
     let loop = c .before .loop in
     let s = c .before .before in
-    let end : s .args .from + loop .i ≡ s .args .from + 64 = omega (arith, c .loop-test .left, loop .inv .0) in
-    rw end at (loop .inv .1)
+    let end : s .args .from + loop .i ≡ s .args .from + 128 = omega (arith, c .loop-test .left, loop .inv .0) in
+    rw end at (loop .inv .1 e)
 
 pub block-bits-spec : {M : Type 1} → statement M
 block-bits-spec =

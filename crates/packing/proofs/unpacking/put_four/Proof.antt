@@ -1,7 +1,7 @@
 -- `unpacking::put_four` meets its contract: four words, one after the other.
 -- Assumes nothing.
 use mathlib.Core.Path.{refl}
-use Rattle.packing.specs.PackingLoops.{unpacking-four}
+use Rattle.packing.specs.UnpackingLoops.{copied-four}
 use borrow.Author.Needs.{needs}
 use Rattle.packing.proofs.unpacking.put_four.Statement.{statement}
 use Rattle.packing.proofs.unpacking.put_four.Tie as tie
@@ -67,14 +67,14 @@ same-length : tie.Need-same-length
 same-length c = search needs
 
 returns : tie.Need-returns
-returns c = λ old u.
+returns c = λ copied.
     let fourth = c .before .before in
     let third = fourth .before .before .before .before in
     let second = third .before .before .before .before in
     let first = second .before .before .before .before in
     let s = first .before .before .before .before .before .before .before .before in
-    unpacking-four (s .pre .0) (s .pre .1) (s .pre .2) refl (first .put-whole .ensures) (second .put-whole2 .ensures) (third .put-whole3 .ensures)
-    (fourth .put-whole4 .ensures) u
+    copied-four (s .pre .0) (s .pre .1) refl (first .put-whole .ensures) (second .put-whole2 .ensures) (third .put-whole3 .ensures)
+    (fourth .put-whole4 .ensures) copied
 
 pub put-four-spec : {M : Type 1} → statement M
 put-four-spec =

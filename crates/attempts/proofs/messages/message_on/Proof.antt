@@ -1,5 +1,6 @@
 -- `messages::message_on` meets its contract: the machine is asked with no plans, in slots that are cleared, and the places of the definitions. Assumes nothing.
 use mathlib.Core.Path.{refl}
+use native.Mathlib.Omega.{arith}
 use Rattle.compiler.specs.Compiling.{asked-formulas}
 use Rattle.attempts.specs.Sides.{asked-sides}
 use Rattle.attempts.specs.Driving.{places-asked, places-room, run-in, tokens-of, plans-of}
@@ -58,7 +59,7 @@ mul-fill : tie.Need-mul-fill
 mul-fill c = search needs
 
 fill-requires : tie.Need-fill-requires
-fill-requires c κs = sides-start (sides-at (marked-at c .before) .before) .pre .1 .3
+fill-requires c κs = omega (arith, sides-start (sides-at (marked-at c .before) .before) .pre .1 .3)
 
 slice-aggregate-run : tie.Need-slice-aggregate-run
 slice-aggregate-run c = search needs

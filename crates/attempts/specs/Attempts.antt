@@ -1,14 +1,11 @@
 -- A message under a book whose text is read into arrays that may have no room for it (01, "Turned-back input"): what was read, and what is answered.
 -- Assumes nothing.
-use Prim.Native.Nat.{ℕ, _<_, _≤_}
+use Prim.Native.Nat.{ℕ, _≤_}
 use native.Mathlib.Omega.{arith}
-use native.Mathlib.Decide.{decLt}
 use mathlib.Core.Path.{_≡_, refl, sym, _∙_}
 use mathlib.Core.Bool.{Bool, true, false, false≢true}
 use mathlib.Core.List.{List}
 use lib.ListN.{take}
-use Rattle.text.specs.Positional.{by-less}
-use Rattle.grammar.specs.Limits.{MAX-RULES, MAX-STATES}
 use Rattle.grammar.specs.Data.Book.{Book as Lines}
 use Rattle.grammar.specs.Evaluator.Machine.{evaluate}
 use Rattle.grammar.specs.Engine.{tablesOf, evaluateWords}
@@ -16,6 +13,7 @@ use Rattle.book.specs.declared.Book.{Book}
 use Rattle.book.specs.declared.Room.{Room}
 use Rattle.book.specs.Rooms.{fullRoom}
 use Rattle.conditions.specs.AskedLaws.{counted}
+use Rattle.compiler.specs.States.{states-enough, rules-enough}
 use Rattle.compiler.specs.Compiling.{Compiles, rules-few}
 use Rattle.machine.specs.declared.run.Outcome.{Outcome}
 use Rattle.machine.specs.RunningLaws.{Answered}
@@ -49,21 +47,12 @@ module _ {room : Room} {n : ℕ} {text : List ℕ} {complete : Bool} {r : ℕ} {
   pub states-within : numbers .states ≤ room .states
   states-within =
       let (b, t) = book-taken in
-      let few = t .ready .conditions-met .limits .states-limit .high in
-      let same = counted b (t .ready .numbers-are) .states-are in
-      go (decLt (room .states) MAX-STATES) (R .compiles .fits whole taken .states-fit) (omega (arith, few, same))
-    where
-      go : Dec (room .states < MAX-STATES) → (room .states < MAX-STATES → numbers .states ≤ room .states) → numbers .states ≤ MAX-STATES
-          → numbers .states ≤ room .states
-      go (yes less) fits few = fits less
-      go (no more) fits few = omega arith
+      states-enough (R .compiles .fits whole taken)
+      (omega (arith, t .ready .conditions-met .limits .states-limit .high, counted b (t .ready .numbers-are) .states-are))
 
   -- and no more rules
   pub rules-within : numbers .rules ≤ room .rules
-  rules-within =
-      let (b, t) = book-taken in
-      let few = rules-few (t .ready) in
-      by-less (room .rules) MAX-RULES (λ less. R .compiles .fits whole taken .rules-fit less) (λ all. omega (arith, few))
+  rules-within = let (b, t) = book-taken in rules-enough (R .compiles .fits whole taken) (rules-few (t .ready))
 
 module _ {room : Room} {n : ℕ} {text : List ℕ} {complete : Bool} {r : ℕ} {numbers : Book} {inherited synthesized rules definitions kernels goes : List ℕ}
     {vanishes reached starts closures table actions : List ℕ}

@@ -43,15 +43,13 @@ pub record ArraysLent (room : Room) (rules definitions kernels goes vanishes beg
   pub definitions-few : room .definitions ≤ MAX-DEFINITIONS
   pub kernels-few : room .kernels ≤ MAX-KERNELS
   pub goes-few : room .goes ≤ MAX-GOES
-  pub states-few : room .states ≤ MAX-STATES
 
 -- arrays of zeros
 arrays-lent : (room : Room) → room .rules ≤ MAX-RULES → room .definitions ≤ MAX-DEFINITIONS → room .kernels ≤ MAX-KERNELS → room .goes ≤ MAX-GOES
-    → room .states ≤ MAX-STATES
     → ArraysLent room (replicate (10 * room .rules) 0) (replicate (49 * room .definitions) 0) (replicate (5 * room .kernels) 0)
     (replicate (3 * room .goes) 0) (replicate (9 * room .rules) 0) (replicate (9 * room .rules) 0) (replicate (9 * room .rules) 0)
     (replicate (room .states + 1) 0) (replicate (32 * room .states) 0) (replicate (room .states) 0) (replicate (64 * room .states) 0)
-arrays-lent room rules definitions kernels goes states = record {
+arrays-lent room rules definitions kernels goes = record {
   rules-long = zeros (10 * room .rules);
   definitions-long = zeros (49 * room .definitions);
   kernels-long = zeros (5 * room .kernels);
@@ -67,16 +65,15 @@ arrays-lent room rules definitions kernels goes states = record {
   definitions-few = definitions;
   kernels-few = kernels;
   goes-few = goes;
-  states-few = states;
 }
 
 pub tiny-arrays : ArraysLent tinyRoom (replicate 160 0) (replicate 784 0) (replicate 80 0) (replicate 48 0) (replicate 144 0) (replicate 144 0)
     (replicate 144 0) (replicate 9 0) (replicate 256 0) (replicate 8 0) (replicate 512 0)
-tiny-arrays = arrays-lent tinyRoom (omega arith) (omega arith) (omega arith) (omega arith) (omega arith)
+tiny-arrays = arrays-lent tinyRoom (omega arith) (omega arith) (omega arith) (omega arith)
 
 pub short-arrays : ArraysLent shortRoom (replicate 320 0) (replicate 2352 0) (replicate 320 0) (replicate 192 0) (replicate 288 0) (replicate 288 0)
     (replicate 288 0) (replicate 33 0) (replicate 1024 0) (replicate 32 0) (replicate 2048 0)
-short-arrays = arrays-lent shortRoom (omega arith) (omega arith) (omega arith) (omega arith) (omega arith)
+short-arrays = arrays-lent shortRoom (omega arith) (omega arith) (omega arith) (omega arith)
 
 -- room for all that the limits allow but for kernel and go lines, of which there is room for some
 pub record LinesLent (room : Room) (kernels goes : List ℕ) : Type 0 where
@@ -88,27 +85,24 @@ pub record LinesLent (room : Room) (kernels goes : List ℕ) : Type 0 where
   pub definitions-all : room .definitions ≡ MAX-DEFINITIONS
   pub states-all : room .states ≡ MAX-STATES
 
-pub medium-lines : LinesLent mediumRoom (replicate 1280 0) (replicate 768 0)
-medium-lines = record {
-  kernels-long = zeros 1280;
-  goes-long = zeros 768;
-  kernels-few = omega arith;
-  goes-few = omega arith;
+lines-lent : (k g : ℕ) → k ≤ MAX-KERNELS → g ≤ MAX-GOES
+    → LinesLent (record { definitions = MAX-DEFINITIONS; kernels = k; goes = g; states = MAX-STATES; rules = MAX-RULES }) (replicate (5 * k) 0)
+    (replicate (3 * g) 0)
+lines-lent k g kernels goes = record {
+  kernels-long = zeros (5 * k);
+  goes-long = zeros (3 * g);
+  kernels-few = kernels;
+  goes-few = goes;
   rules-all = refl;
   definitions-all = refl;
   states-all = refl;
 }
 
+pub medium-lines : LinesLent mediumRoom (replicate 1280 0) (replicate 768 0)
+medium-lines = lines-lent 256 256 (omega arith) (omega arith)
+
 pub full-lines : LinesLent fullRoom (replicate 2560 0) (replicate 3072 0)
-full-lines = record {
-  kernels-long = zeros 2560;
-  goes-long = zeros 3072;
-  kernels-few = omega arith;
-  goes-few = omega arith;
-  rules-all = refl;
-  definitions-all = refl;
-  states-all = refl;
-}
+full-lines = lines-lent MAX-KERNELS MAX-GOES (omega arith) (omega arith)
 
 pub wide-arrays : {room : Room} {kernels goes : List ℕ} → LinesLent room kernels goes
     → ArraysLent room (replicate 640 0) (replicate 6272 0) kernels goes (replicate 576 0) (replicate 576 0) (replicate 576 0) (replicate 129 0)
@@ -129,7 +123,6 @@ wide-arrays lent = record {
   definitions-few = omega (arith, lent .definitions-all);
   kernels-few = lent .kernels-few;
   goes-few = lent .goes-few;
-  states-few = omega (arith, lent .states-all);
 }
 
 -- where there is room for all that the limits allow, nothing is left out
@@ -173,7 +166,6 @@ words-lent {room} words e lent = record {
   definitions-few = lent .definitions-few;
   kernels-few = lent .kernels-few;
   goes-few = lent .goes-few;
-  states-few = lent .states-few;
 }
 
 module _ {room : Room} {rules definitions kernels goes vanishes begins reached starts closures fronts table : List ℕ}
@@ -203,6 +195,4 @@ module _ {room : Room} {rules definitions kernels goes vanishes begins reached s
     fronts-long = omega (arith, lent .fronts-long);
     table-long = lent .table-long;
     actions-long = long;
-    rules-few = lent .rules-few;
-    states-few = lent .states-few;
   }

@@ -99,8 +99,6 @@ pub record TablesLent (room : Room) (vanishes begins reached starts closures fro
   pub fronts-long : room .states ≤ length fronts
   pub table-long : length table ≡ 64 * room .states
   pub actions-long : 32 * room .states ≤ length actions
-  pub rules-few : room .rules ≤ MAX-RULES
-  pub states-few : room .states ≤ MAX-STATES
 
 -- actions may be written over before they are filled
 pub actions-kept : {room : Room} {vanishes begins reached starts closures fronts table actions new : List ℕ} → length new ≡ length actions
@@ -115,28 +113,26 @@ actions-kept e t = record {
   fronts-long = t .fronts-long;
   table-long = t .table-long;
   actions-long = omega (arith, t .actions-long);
-  rules-few = t .rules-few;
-  states-few = t .states-few;
 }
 
 -- the states of a book within the limits have room
-pub states-enough : {room : Room} {numbers : Counts} → Complete room numbers → room .states ≤ MAX-STATES → numbers .states ≤ MAX-STATES
+pub states-enough : {room : Room} {numbers : Counts} → Complete room numbers → numbers .states ≤ MAX-STATES
     → numbers .states ≤ room .states
-states-enough {room} fit few low = by-less (room .states) MAX-STATES (λ less. fit .states-fit less) (λ all. omega arith)
+states-enough {room} fit low = by-less (room .states) MAX-STATES (λ less. fit .states-fit less) (λ all. omega arith)
 
 -- so have its rules
-pub rules-enough : {room : Room} {numbers : Counts} → Complete room numbers → room .rules ≤ MAX-RULES → numbers .rules ≤ MAX-RULES
+pub rules-enough : {room : Room} {numbers : Counts} → Complete room numbers → numbers .rules ≤ MAX-RULES
     → numbers .rules ≤ room .rules
-rules-enough {room} fit few low = by-less (room .rules) MAX-RULES (λ less. fit .rules-fit less) (λ all. omega arith)
+rules-enough {room} fit low = by-less (room .rules) MAX-RULES (λ less. fit .rules-fit less) (λ all. omega arith)
 
 pub tables-room : {room : Room} {numbers : Counts} {vanishes begins reached starts closures fronts table actions : List ℕ} → Complete room numbers
     → TablesLent room vanishes begins reached starts closures fronts table actions
     → TablesRoom (numbers .rules) (numbers .states) vanishes begins reached starts closures fronts table actions
 tables-room {room} {numbers} {closures = closures} fit t =
     record {
-      vanishes-long = λ few. omega (arith, t .vanishes-long, rules-enough fit (t .rules-few) few);
-      begins-long = λ few. omega (arith, t .begins-long, rules-enough fit (t .rules-few) few);
-      reached-long = λ few. omega (arith, t .reached-long, rules-enough fit (t .rules-few) few);
+      vanishes-long = λ few. omega (arith, t .vanishes-long, rules-enough fit few);
+      begins-long = λ few. omega (arith, t .begins-long, rules-enough fit few);
+      reached-long = λ few. omega (arith, t .reached-long, rules-enough fit few);
       starts-long = λ few. omega (arith, t .starts-long, enough few);
       closures-blank = λ few. record {
         long = omega (arith, closures-long, enough few);
@@ -151,7 +147,7 @@ tables-room {room} {numbers} {closures = closures} fit t =
     closures-long = ap length (t .closures-none) ∙ length-replicate {A = ℕ} (32 * room .states) 0
 
     enough : numbers .states ≤ MAX-STATES → numbers .states ≤ room .states
-    enough = states-enough fit (t .states-few)
+    enough = states-enough fit
 
 -- the refusal r is told, and the arrays are filled where there is none, with the rules of each state's closure
 pub record Tabled (b : Book) (r : ℕ) (rules vanishes begins reached starts closures fronts table actions : List ℕ) : Type 0 where

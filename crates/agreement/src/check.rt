@@ -114,7 +114,7 @@ fn visit(
     enter(slots, attribute, r.number, r.used, p.known, p.count + 1)
 }
 
-// One pass over the definitions whose items are in the state, up to a split.
+// One pass over the definitions whose items have a terminal that is wanted, up to a split.
 fn pass(
     definitions: &[u32],
     lines: usize,
@@ -133,7 +133,7 @@ fn pass(
     requires { ⌜ ((b : Book) × (s : Slots) × (d : List Bool) × CheckHeld b (now definitions) (now rules) (now owned) (now masks)
         × (lines ≡ grammar.definitions b)
         × ProgressIn s d (now slots) (now done) (now table) (now heads) (now nexts) (p .used) (p .known) (p .count))
-        × Skips (now definitions) (now masks) lines (now skips) × (p .split ≡ false) × (MAX-NODES * lines ≤ length (now nexts)) ⌝ }
+        × Skips (now definitions) (now masks) wanted lines (now skips) × (p .split ≡ false) × (MAX-NODES * lines ≤ length (now nexts)) ⌝ }
     ensures { λ r. ⌜ ((b : Book) (s : Slots) (d : List Bool)
         → CheckHeld b (now (definitions .entry)) (now (rules .entry)) (now (owned .entry)) (now (masks .entry))
         → lines ≡ grammar.definitions b
@@ -184,7 +184,7 @@ fn passes(
     requires { ⌜ ((b : Book) × (s : Slots) × (d : List Bool) × CheckHeld b (now definitions) (now rules) (now owned) (now masks)
         × (lines ≡ grammar.definitions b)
         × ProgressIn s d (now slots) (now done) (now table) (now heads) (now nexts) (p .used) (p .known) (p .count))
-        × Skips (now definitions) (now masks) lines (now skips) × (p .split ≡ false) × (MAX-NODES * lines ≤ length (now nexts)) ⌝ }
+        × Skips (now definitions) (now masks) wanted lines (now skips) × (p .split ≡ false) × (MAX-NODES * lines ≤ length (now nexts)) ⌝ }
     ensures { λ r. ⌜ ((b : Book) (s : Slots) (d : List Bool)
         → CheckHeld b (now (definitions .entry)) (now (rules .entry)) (now (owned .entry)) (now (masks .entry))
         → lines ≡ grammar.definitions b
@@ -234,7 +234,6 @@ fn check(
     definitions: &[u32],
     lines: usize,
     wanted: u32,
-    skips: &[u8],
     masks: &[u32],
     rules: &[u32],
     owned: &[u32],
@@ -245,10 +244,12 @@ fn check(
     nexts: &mut [u32],
 ) -> bool
     requires { ⌜ ((b : Book) × CheckHeld b (now definitions) (now rules) (now owned) (now masks) × (lines ≡ grammar.definitions b))
-        × Skips (now definitions) (now masks) lines (now skips) × Room lines (now slots) (now done) (now table) (now heads) (now nexts) ⌝ }
+        × Room lines (now slots) (now done) (now table) (now heads) (now nexts) ⌝ }
     ensures { λ r. ⌜ ((b : Book) → CheckHeld b (now (definitions .entry)) (now (rules .entry)) (now (owned .entry)) (now (masks .entry))
         → lines ≡ grammar.definitions b → r ≡ grammar.check b (memberIn (now (masks .entry)) wanted)) ⌝ }
 {
+    let mut skips = [0u8; 129];
+    skip(definitions, lines, masks, wanted, &mut skips);
     clear_slots(slots);
     fill(done, 128, 0);
     clear(heads);
@@ -262,7 +263,7 @@ fn check(
         definitions,
         lines,
         wanted,
-        skips,
+        &skips,
         masks,
         rules,
         owned,
@@ -280,7 +281,6 @@ fn parts_right(
     definitions: &[u32],
     lines: usize,
     terminals: u32,
-    skips: &[u8],
     masks: &[u32],
     rules: &[u32],
     owned: &[u32],
@@ -291,7 +291,7 @@ fn parts_right(
     nexts: &mut [u32],
 ) -> bool
     requires { ⌜ ((b : Book) × CheckHeld b (now definitions) (now rules) (now owned) (now masks) × (lines ≡ grammar.definitions b))
-        × (terminals < 32) × Skips (now definitions) (now masks) lines (now skips) × Room lines (now slots) (now done) (now table) (now heads) (now nexts) ⌝ }
+        × (terminals < 32) × Room lines (now slots) (now done) (now table) (now heads) (now nexts) ⌝ }
     ensures { λ r. ⌜ ((b : Book) → CheckHeld b (now (definitions .entry)) (now (rules .entry)) (now (owned .entry)) (now (masks .entry))
         → lines ≡ grammar.definitions b → terminals ≡ b .terminals
         → r ≡ allBelow (suc (b .terminals)) (λ a. grammar.check b (memberOf (now (masks .entry)) a))) ⌝ }
@@ -307,7 +307,6 @@ fn parts_right(
             definitions,
             lines,
             sets::single(a),
-            skips,
             masks,
             rules,
             owned,
@@ -346,13 +345,10 @@ pub fn check_state(
         → lines ≡ grammar.definitions b → terminals ≡ b .terminals
         → r ≡ allBelow (suc (b .terminals)) (λ a. grammar.check b (memberOf (now (masks .entry)) a))) ⌝ }
 {
-    let mut skips = [0u8; 129];
-    skip(definitions, lines, masks, &mut skips);
     if check(
         definitions,
         lines,
         ALL,
-        &skips,
         masks,
         rules,
         owned,
@@ -368,7 +364,6 @@ pub fn check_state(
         definitions,
         lines,
         terminals,
-        &skips,
         masks,
         rules,
         owned,

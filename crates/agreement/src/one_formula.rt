@@ -60,7 +60,6 @@ fn state_right(
         definitions,
         lines as usize,
         rules,
-        count,
         kernels,
         starts,
         closures,

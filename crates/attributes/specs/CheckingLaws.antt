@@ -31,7 +31,7 @@ use Rattle.attributes.specs.Owned.{isFilled, KnownIn, settled-is}
 use Rattle.attributes.specs.Checking.{memberIn, CheckHeld, markOf, ProgressIn, Reached, going, apart}
 
 -- a test that failed, or held, as a branch over its negation tells it
-failed : {t : Bool} → not t ≡ true → t ≡ false
+pub failed : {t : Bool} → not t ≡ true → t ≡ false
 failed {t = true} e = absurd (true-false e refl)
 failed {t = false} e = refl
 

@@ -16,7 +16,7 @@ use Rattle.grammar.specs.Formulas.FormulaCheckLaws.{check-part}
 use Rattle.grammar.specs.Formulas.FormulaCheckAll.{check-same}
 use Rattle.attributes.specs.Checking.{memberOf, memberIn, CheckHeld}
 
-meets-single : (s a : ℕ) → a < 32 → meets s (single a) ≡ bit s a
+pub meets-single : (s a : ℕ) → a < 32 → meets s (single a) ≡ bit s a
 meets-single s a h = by (meets s (single a)) refl (bit s a) refl
   where
     by : (t : Bool) → meets s (single a) ≡ t → (u : Bool) → bit s a ≡ u → t ≡ u

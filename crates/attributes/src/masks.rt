@@ -1,24 +1,22 @@
 // The partial states of a state: for each item the set of the terminals with which it is in one.
 ghost use mathlib.Core.Path.{_≡_};
-ghost use mathlib.Core.List.{List, [], _∷_, _++_};
+ghost use mathlib.Core.List.{List, _∷_, _++_};
 ghost use Prim.Native.Nat.{ℕ, _+_, _*_, _≤_, _<_};
 ghost use lib.ListN.{length, getD, set, drop, replicate};
 ghost use lib.Seq.{slice};
 ghost use Rattle.sets.specs.Sets.{union};
-ghost use Rattle.grammar.specs.Data.Symbol.{Rule, leftOf, rightOf, after};
-ghost use Rattle.grammar.specs.Automaton.Fixpoint.{setAt};
+ghost use Rattle.grammar.specs.Data.Symbol.{Rule, rightOf, after};
 ghost use Rattle.grammar.specs.Automaton.FirstSets.{Sets};
 ghost use Rattle.grammar.specs.Automaton.ReachSets.{reachWith};
-ghost use Rattle.grammar.specs.Data.Book.{Book, Kernel};
-ghost use Rattle.grammar.specs.Automaton.CoreItems.{Core, entered, ofKernels};
+ghost use Rattle.grammar.specs.Data.Book.{Book};
+ghost use Rattle.grammar.specs.Automaton.CoreItems.{Core, ofKernels};
 ghost use Rattle.grammar.specs.Formulas.FormulaCheck as grammar;
 ghost use Rattle.items.specs.Arrays.{SuffixesIn, ReachesIn};
 ghost use Rattle.attributes.specs.Checking.{CheckHeld};
 ghost use Rattle.attributes.specs.Marks.{MarksIn, MarksRoom};
-ghost use Rattle.attributes.specs.MarkFronts.{LooksIn, fronts};
+ghost use Rattle.attributes.specs.MarkFronts.{LooksIn, FrontsMarked, frontWord};
 ghost use Rattle.attributes.specs.MarkLines.{ItemLinesIn, itemOf};
 ghost use Rattle.attributes.specs.StateMarks.{MarksHeld, StateMarksIn};
-use items::words::nothing;
 use items::words::word;
 
 // What is reached by items of a rule, with the dot after `dot` symbols and the lookaheads `own`.
@@ -48,31 +46,29 @@ fn mark_item(nulls: &[u32], reaches: &[u32], rule: usize, dot: usize, own: u32, 
     masks[place] = sets::union(masks[place], reach);
 }
 
-// The items of a rule with the dot in front, where the closure, from word `first` of `looks` on, has lookaheads of its left side.
-fn mark_rule(
+// The set of a rule's item with the dot in front: nothing where the closure, from word `first` of `looks` on, has no lookaheads of its left side.
+fn front_set(
     rules: &[u32],
     looks: &[u32],
     first: usize,
     nulls: &[u32],
     reaches: &[u32],
     rule: usize,
-    masks: &mut [u32],
-)
+) -> u32
     requires { ⌜ ((G : List Rule) × (L : List ℕ) × LooksIn G (now rules) L (now looks) first × (rule < length G)) × (first + 32 ≤ length (now looks))
-        × (9 * rule < length (now nulls)) × (9 * rule < length (now reaches)) × (9 * rule < length (now masks)) ⌝ }
-    ensures { λ _. ⌜ ((G : List Rule) (F : Sets) (R firsts L : List ℕ) (items : List Core) → LooksIn G (now (rules .entry)) L (now (looks .entry)) first
-        → rule < length G → SuffixesIn G F (now (nulls .entry)) firsts → ReachesIn G F R (now (reaches .entry)) → MarksIn G F R items (now (masks .entry))
-        → MarksIn G F R (entered rule (setAt L (leftOf G rule)) items) (now (masks .exit))) ⌝ }
+        × (9 * rule < length (now nulls)) × (9 * rule < length (now reaches)) ⌝ }
+    ensures { λ r. ⌜ ((G : List Rule) (F : Sets) (R firsts L : List ℕ) → LooksIn G (now (rules .entry)) L (now (looks .entry)) first
+        → rule < length G → SuffixesIn G F (now (nulls .entry)) firsts → ReachesIn G F R (now (reaches .entry)) → r ≡ frontWord G F R L rule 0) ⌝ }
 {
     let left = word(rules, 10 * rule);
     let own = looks[first + left];
     if own == 0 {
-        return;
+        return 0;
     }
-    mark_item(nulls, reaches, rule, 0, own, masks);
+    reach_with(nulls, reaches, rule, 0, own)
 }
 
-// The item of the definition in a line, if its dot is in front.
+// The item of the definition in a line: its set, if the dot is in front, and nothing, if it is not.
 fn mark_front(
     definitions: &[u32],
     line: usize,
@@ -89,16 +85,18 @@ fn mark_front(
     ensures { λ _. ⌜ ((b : Book) (F : Sets) (R firsts owned cleared L : List ℕ) → CheckHeld b (now (definitions .entry)) (now (rules .entry)) owned cleared
         → LooksIn (b .rules) (now (rules .entry)) L (now (looks .entry)) first → line < grammar.definitions b
         → SuffixesIn (b .rules) F (now (nulls .entry)) firsts → ReachesIn (b .rules) F R (now (reaches .entry))
-        → MarksIn (b .rules) F R (fronts b L line) (now (masks .entry)) → MarksIn (b .rules) F R (fronts b L (line + 1)) (now (masks .exit))) ⌝ }
+        → FrontsMarked b F R L line (now (masks .entry)) → FrontsMarked b F R L (line + 1) (now (masks .exit))) ⌝ }
 {
-    if word(definitions, 49 * line + 1) != 1 {
+    let rule = word(definitions, 49 * line);
+    let position = word(definitions, 49 * line + 1);
+    if position != 1 {
+        masks[9 * rule + position - 1] = 0;
         return;
     }
-    let rule = word(definitions, 49 * line);
-    mark_rule(rules, looks, first, nulls, reaches, rule, masks);
+    masks[9 * rule] = front_set(rules, looks, first, nulls, reaches, rule);
 }
 
-// The items of all definitions with the dot in front, from sets that have nothing.
+// The items of all definitions, whatever the sets hold.
 fn mark_fronts(
     definitions: &[u32],
     lines: usize,
@@ -115,11 +113,8 @@ fn mark_fronts(
     ensures { λ _. ⌜ ((b : Book) (F : Sets) (R firsts owned cleared L : List ℕ) → CheckHeld b (now (definitions .entry)) (now (rules .entry)) owned cleared
         → LooksIn (b .rules) (now (rules .entry)) L (now (looks .entry)) first → lines ≡ grammar.definitions b
         → SuffixesIn (b .rules) F (now (nulls .entry)) firsts → ReachesIn (b .rules) F R (now (reaches .entry))
-        → MarksIn (b .rules) F R [] (now (masks .entry)) → MarksIn (b .rules) F R (fronts b L lines) (now (masks .exit))) ⌝ }
+        → 9 * length (b .rules) ≤ length (now (masks .entry)) → FrontsMarked b F R L lines (now (masks .exit))) ⌝ }
 {
-    if nothing(looks, first) {
-        return;
-    }
     let mut i = 0;
     while i < lines {
         mark_front(definitions, i, rules, looks, first, nulls, reaches, masks);
@@ -129,11 +124,11 @@ fn mark_fronts(
 
 // The item of kernel line i.
 fn mark_line(kernels: &[u32], i: usize, nulls: &[u32], reaches: &[u32], masks: &mut [u32])
-    requires { ⌜ ((G : List Rule) × (ks : List Kernel) × ItemLinesIn G ks (now kernels) × (i < length ks)
-        × MarksRoom G (now nulls) (now reaches) (now masks)) ⌝ }
-    ensures { λ _. ⌜ ((G : List Rule) (F : Sets) (R firsts : List ℕ) (ks : List Kernel) (items : List Core) → ItemLinesIn G ks (now (kernels .entry))
-        → i < length ks → SuffixesIn G F (now (nulls .entry)) firsts → ReachesIn G F R (now (reaches .entry)) → MarksIn G F R items (now (masks .entry))
-        → MarksIn G F R (itemOf ks i ∷ items) (now (masks .exit))) ⌝ }
+    requires { ⌜ ((b : Book) × ItemLinesIn b (now kernels) × (i < length (b .kernels))
+        × MarksRoom (b .rules) (now nulls) (now reaches) (now masks)) ⌝ }
+    ensures { λ _. ⌜ ((b : Book) (F : Sets) (R firsts : List ℕ) (items : List Core) → ItemLinesIn b (now (kernels .entry)) → i < length (b .kernels)
+        → SuffixesIn (b .rules) F (now (nulls .entry)) firsts → ReachesIn (b .rules) F R (now (reaches .entry)) → MarksIn b F R items (now (masks .entry))
+        → MarksIn b F R (itemOf (b .kernels) i ∷ items) (now (masks .exit))) ⌝ }
 {
     let rule = word(kernels, 5 * i + 1);
     let dot = word(kernels, 5 * i + 2);
@@ -149,11 +144,11 @@ fn mark_lines(
     reaches: &[u32],
     masks: &mut [u32],
 )
-    requires { ⌜ ((G : List Rule) × (ks : List Kernel) × ItemLinesIn G ks (now kernels) × (last ≤ length ks)
-        × MarksRoom G (now nulls) (now reaches) (now masks)) × (first ≤ last) ⌝ }
-    ensures { λ _. ⌜ ((G : List Rule) (F : Sets) (R firsts : List ℕ) (ks : List Kernel) (items : List Core) → ItemLinesIn G ks (now (kernels .entry))
-        → last ≤ length ks → SuffixesIn G F (now (nulls .entry)) firsts → ReachesIn G F R (now (reaches .entry)) → MarksIn G F R items (now (masks .entry))
-        → MarksIn G F R (ofKernels (slice first last ks) ++ items) (now (masks .exit))) ⌝ }
+    requires { ⌜ ((b : Book) × ItemLinesIn b (now kernels) × (last ≤ length (b .kernels))
+        × MarksRoom (b .rules) (now nulls) (now reaches) (now masks)) × (first ≤ last) ⌝ }
+    ensures { λ _. ⌜ ((b : Book) (F : Sets) (R firsts : List ℕ) (items : List Core) → ItemLinesIn b (now (kernels .entry)) → last ≤ length (b .kernels)
+        → SuffixesIn (b .rules) F (now (nulls .entry)) firsts → ReachesIn (b .rules) F R (now (reaches .entry)) → MarksIn b F R items (now (masks .entry))
+        → MarksIn b F R (ofKernels (slice first last (b .kernels)) ++ items) (now (masks .exit))) ⌝ }
 {
     let mut i = last;
     while i > first {
@@ -174,13 +169,12 @@ pub fn clear(masks: &mut [u32], n: usize)
     }
 }
 
-// For each item of a state that a definition is of, the terminals with which it is in a partial state: word 9 * P + D is of rule P, of `count` rules, with
-// the dot after D symbols.
+// For each item of a state that a definition is of, the terminals with which it is in a partial state: word 9 * P + D is of rule P with the dot after D
+// symbols. What the other words hold is not said.
 pub fn masks(
     definitions: &[u32],
     lines: usize,
     rules: &[u32],
-    count: u32,
     kernels: &[u32],
     starts: &[u32],
     closures: &[u32],
@@ -191,14 +185,13 @@ pub fn masks(
 )
     requires { ⌜ ((b : Book) × (firsts : List ℕ) × (owned : List ℕ)
         × MarksHeld b (now rules) (now kernels) (now starts) (now closures) (now nulls) firsts (now reaches)
-        × CheckHeld b (now definitions) (now rules) owned (now masks) × (lines ≡ grammar.definitions b) × (count ≡ length (b .rules))
+        × CheckHeld b (now definitions) (now rules) owned (now masks) × (lines ≡ grammar.definitions b)
         × (state < b .states)) ⌝ }
     ensures { λ _. ⌜ ((b : Book) (firsts owned : List ℕ) → MarksHeld b (now (rules .entry)) (now (kernels .entry)) (now (starts .entry))
         (now (closures .entry)) (now (nulls .entry)) firsts (now (reaches .entry))
         → CheckHeld b (now (definitions .entry)) (now (rules .entry)) owned (now (masks .entry)) → lines ≡ grammar.definitions b
-        → count ≡ length (b .rules) → state < b .states → StateMarksIn b state (now (masks .exit))) ⌝ }
+        → state < b .states → StateMarksIn b state (now (masks .exit))) ⌝ }
 {
-    clear(masks, 9 * count as usize);
     mark_fronts(
         definitions,
         lines,

@@ -81,7 +81,6 @@ fn plan_into(
         definitions,
         lines as usize,
         rules,
-        count,
         kernels,
         starts,
         closures,
@@ -91,7 +90,13 @@ fn plan_into(
         sets,
     );
     let mut skips = [0u8; 129];
-    skip(definitions, lines as usize, sets, &mut skips);
+    skip(
+        definitions,
+        lines as usize,
+        sets,
+        sets::single(terminal),
+        &mut skips,
+    );
     let n = plan(
         definitions,
         lines as usize,

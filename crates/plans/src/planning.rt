@@ -3,6 +3,7 @@
 ghost use mathlib.Core.Path.{_≡_};
 ghost use Prim.Native.Nat.{_+_, _<_, _≤_};
 ghost use lib.ListN.{length};
+ghost use Rattle.sets.specs.Sets.{single};
 ghost use Rattle.grammar.specs.Data.Book.{Book};
 ghost use Rattle.grammar.specs.Formulas.FormulaCheck as grammar;
 ghost use Rattle.grammar.specs.Formulas.Passes as fixpoint;
@@ -55,7 +56,7 @@ fn visit(
     }
 }
 
-// One pass over the definitions whose items are in the state.
+// One pass over the definitions whose items have the terminal.
 fn pass(
     definitions: &[u32],
     lines: usize,
@@ -70,7 +71,7 @@ fn pass(
 ) -> Progress
     requires { ⌜ ((b : Book) × (s : Planning) × CheckHeld b (now definitions) (now rules) (now owned) (now masks) × (lines ≡ grammar.definitions b)
         × PlanningIn b (memberOf (now masks) terminal) s (now row) from (p .known) (p .count)) × (terminal < 32)
-        × Skips (now definitions) (now masks) lines (now skips) ⌝ }
+        × Skips (now definitions) (now masks) (single terminal) lines (now skips) ⌝ }
     ensures { λ r. ⌜ ((b : Book) (s : Planning) → CheckHeld b (now (definitions .entry)) (now (rules .entry)) (now (owned .entry)) (now (masks .entry))
         → lines ≡ grammar.definitions b
         → PlanningIn b (memberOf (now (masks .entry)) terminal) s (now (row .entry)) from (p .known) (p .count)
@@ -100,7 +101,7 @@ fn passes(
 ) -> Progress
     requires { ⌜ ((b : Book) × (s : Planning) × CheckHeld b (now definitions) (now rules) (now owned) (now masks) × (lines ≡ grammar.definitions b)
         × PlanningIn b (memberOf (now masks) terminal) s (now row) from (p .known) (p .count)) × (terminal < 32)
-        × Skips (now definitions) (now masks) lines (now skips) ⌝ }
+        × Skips (now definitions) (now masks) (single terminal) lines (now skips) ⌝ }
     ensures { λ r. ⌜ ((b : Book) (s : Planning) → CheckHeld b (now (definitions .entry)) (now (rules .entry)) (now (owned .entry)) (now (masks .entry))
         → lines ≡ grammar.definitions b
         → PlanningIn b (memberOf (now (masks .entry)) terminal) s (now (row .entry)) from (p .known) (p .count)
@@ -141,7 +142,7 @@ pub fn plan(
     from: usize,
 ) -> usize
     requires { ⌜ ((b : Book) × CheckHeld b (now definitions) (now rules) (now owned) (now masks) × (lines ≡ grammar.definitions b))
-        × (terminal < 32) × (from + 16 ≤ length (now row)) × Skips (now definitions) (now masks) lines (now skips) ⌝ }
+        × (terminal < 32) × (from + 16 ≤ length (now row)) × Skips (now definitions) (now masks) (single terminal) lines (now skips) ⌝ }
     ensures { λ r. ⌜ ((b : Book) → CheckHeld b (now (definitions .entry)) (now (rules .entry)) (now (owned .entry)) (now (masks .entry))
         → lines ≡ grammar.definitions b → PlanRow (specs.plan b (memberOf (now (masks .entry)) terminal)) (now (row .exit)) from r)
         × Elsewhere from (from + 16) (now (row .entry)) (now (row .exit)) ⌝ }

@@ -12,8 +12,15 @@ use Rattle.agreement.proofs.check.check.Tie as tie
 -- the entry, as the place where the passes begin knows it
 abbrev entry : tie.After-passes-arg5 → tie.Start
 entry c =
-    c .before .before .before .before .before .before .before .before .before .before .before .before .before .before
-    .before .before .before .before .before .before .before .before .before .before .before .before .before
+    c .before .before .before .before .before .before .before .before .before .before .before .before .before .before .before
+    .before .before .before .before .before .before .before .before .before .before .before .before .before .before .before
+
+slice-aggregate-skip : tie.Need-slice-aggregate-skip
+slice-aggregate-skip c = search needs
+
+skip-requires : tie.Need-skip-requires
+skip-requires c κs =
+    let g = c .before .before .before .before .before .before .before .before .before .before .pre .0 in ((g .0, _, _, g .1, g .2), refl)
 
 clear-slots-requires : tie.Need-clear-slots-requires
 clear-slots-requires c κs = search needs
@@ -24,6 +31,9 @@ fill-requires c κs = search needs
 clear-requires : tie.Need-clear-requires
 clear-requires c κs = search needs
 
+slice-aggregate-passes : tie.Need-slice-aggregate-passes
+slice-aggregate-passes c = search needs
+
 passes-requires : tie.Need-passes-requires
 passes-requires c κs =
     let s = entry c in (
@@ -33,14 +43,14 @@ passes-requires c κs =
         replicate 128 false,
         s .pre .0 .1,
         s .pre .0 .2,
-        begun (s .pre .2)
-            (c .before .before .before .before .before .before .before .before .before .before .before .before .before .before .before .clear-slots .ensures)
-            (c .before .before .before .before .before .before .before .before .before .before .before .fill .ensures)
-            (c .before .before .before .before .before .before .before .clear .ensures),
+        begun (s .pre .1)
+            (c .before .before .before .before .before .before .before .before .before .before .before .before .before .before .before .before .clear-slots .ensures)
+            (c .before .before .before .before .before .before .before .before .before .before .before .before .fill .ensures)
+            (c .before .before .before .before .before .before .before .before .clear .ensures),
       ),
-      s .pre .1,
+      c .before .before .before .before .before .before .before .before .before .before .before .before .before .before .before .before .before .before .before .skip .ensures,
       refl,
-      s .pre .2 .nodes-room .enough,
+      s .pre .1 .nodes-room .enough,
     )
 
 same-length : tie.Need-same-length
@@ -63,19 +73,22 @@ returns c = λ b H e.
     let v = c .before .before .before .before .before .before .before .before .before .before in
     let a = v .before in
     v .passes .ensures b (replicate 16 none) (replicate 128 false) H e
-    (begun (entry a .pre .2)
-    (a .before .before .before .before .before .before .before .before .before .before .before .before .before .before .before .clear-slots .ensures)
-    (a .before .before .before .before .before .before .before .before .before .before .before .fill .ensures)
-    (a .before .before .before .before .before .before .before .clear .ensures))
+    (begun (entry a .pre .1)
+    (a .before .before .before .before .before .before .before .before .before .before .before .before .before .before .before .before .clear-slots .ensures)
+    (a .before .before .before .before .before .before .before .before .before .before .before .before .fill .ensures)
+    (a .before .before .before .before .before .before .before .before .clear .ensures))
     ∙ check-is b _
 
 pub check-spec : {M : Type 1} → statement M
 check-spec =
     tie.close
     (tie.spec
+    slice-aggregate-skip
+    skip-requires
     clear-slots-requires
     fill-requires
     clear-requires
+    slice-aggregate-passes
     passes-requires
     same-length
     same-length-2

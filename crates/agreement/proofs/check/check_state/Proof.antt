@@ -13,24 +13,11 @@ use Rattle.agreement.proofs.check.check_state.Tie as tie
 
 -- the entry, as the place after the check of all items knows it
 abbrev entry : tie.After-check → tie.Start
-entry c =
-    c .before .before .before .before .before .before .before .before .before .before
-    .before .before .before .before .before .before .before .before .before
-
-slice-aggregate-skip : tie.Need-slice-aggregate-skip
-slice-aggregate-skip c = search needs
-
-skip-requires : tie.Need-skip-requires
-skip-requires c κs = let g = c .before .before .before .before .before .before .before .before .before .before .pre .0 in ((g .0, _, _, g .1, g .2), refl)
-
-slice-aggregate-check : tie.Need-slice-aggregate-check
-slice-aggregate-check c = search needs
+entry c = c .before .before .before .before .before .before .before .before .before .before .before .before .before .before .before
 
 check-requires : tie.Need-check-requires
 check-requires c κs =
-    let called = c .before .before .before .before .before .before .before in
-    let g = called .before .before .before .before .before .before .before .before .before .before .before .pre in
-    (g .0, called .skip .ensures, g .2)
+    let g = c .before .before .before .before .before .before .before .before .before .before .before .before .before .before .pre in (g .0, g .2)
 
 same-length : tie.Need-same-length
 same-length c = search needs
@@ -54,22 +41,18 @@ returns c = λ b H e t.
     all-below (λ a. grammar.check b (memberOf (s .args .masks .now) a)) (suc (b .terminals)) λ a l.
     check-whole b (s .args .masks .now) H (sym (v .check .ensures b H e) ∙ c .if1 .taken) a (omega (arith, l, t, s .pre .1))
 
-slice-aggregate-parts-right : tie.Need-slice-aggregate-parts-right
-slice-aggregate-parts-right c = search needs
-
 parts-right-requires : tie.Need-parts-right-requires
 parts-right-requires c κs =
-    let v = c .before .before .before .before .before .before .before .before .before .before .before .before .before .before .before .before .before in
+    let v = c .before .before .before .before .before .before .before .before .before .before .before .before .before .before .before .before in
     let g = entry v .pre in (
       g .0,
       g .1,
-      v .before .before .before .before .before .before .before .before .skip .ensures,
       room-kept (g .2)
+          (v .check .kept .1 .1 .1 .1 .1 .1 .0)
           (v .check .kept .1 .1 .1 .1 .1 .1 .1 .0)
           (v .check .kept .1 .1 .1 .1 .1 .1 .1 .1 .0)
           (v .check .kept .1 .1 .1 .1 .1 .1 .1 .1 .1 .0)
-          (v .check .kept .1 .1 .1 .1 .1 .1 .1 .1 .1 .1 .0)
-          (v .check .kept .1 .1 .1 .1 .1 .1 .1 .1 .1 .1 .1 .0),
+          (v .check .kept .1 .1 .1 .1 .1 .1 .1 .1 .1 .1 .0),
     )
 
 same-length-6 : tie.Need-same-length-6
@@ -94,9 +77,6 @@ pub check-state-spec : {M : Type 1} → statement M
 check-state-spec =
     tie.close
     (tie.spec
-    slice-aggregate-skip
-    skip-requires
-    slice-aggregate-check
     check-requires
     same-length
     same-length-2
@@ -104,7 +84,6 @@ check-state-spec =
     same-length-4
     same-length-5
     returns
-    slice-aggregate-parts-right
     parts-right-requires
     same-length-6
     same-length-7

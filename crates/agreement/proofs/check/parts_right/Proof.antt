@@ -18,7 +18,7 @@ use Rattle.agreement.proofs.check.parts_right.Statement.{statement}
 use Rattle.agreement.proofs.check.parts_right.Tie as tie
 
 abbrev Inv-loop : tie.InvT-loop
-Inv-loop definitions lines terminals skips masks rules owned slots₀ done₀ table₀ heads₀ nexts₀ right₀ a₀ slots done table heads nexts right a =
+Inv-loop definitions lines terminals masks rules owned slots₀ done₀ table₀ heads₀ nexts₀ right₀ a₀ slots done table heads nexts right a =
     (a ≤ terminals + 1) × (length slots ≡ length slots₀) × (length done ≡ length done₀) × (length table ≡ length table₀)
     × (length heads ≡ length heads₀) × (length nexts ≡ length nexts₀)
     × ((b : Book) → CheckHeld b definitions rules owned masks → lines ≡ grammar.definitions b
@@ -26,12 +26,12 @@ Inv-loop definitions lines terminals skips masks rules owned slots₀ done₀ ta
     × ((b : Book) → CheckHeld b definitions rules owned masks → lines ≡ grammar.definitions b → Right b masks right)
 
 abbrev μ-loop : tie.MeasureT-loop
-μ-loop definitions lines terminals skips masks rules owned slots₀ done₀ table₀ heads₀ nexts₀ right₀ a₀ slots done table heads nexts right a = terminals + 1 - a
+μ-loop definitions lines terminals masks rules owned slots₀ done₀ table₀ heads₀ nexts₀ right₀ a₀ slots done table heads nexts right a = terminals + 1 - a
 
 -- Places: the entry, and the turn that has checked its terminal
 
 abbrev entry : tie.At-loop Inv-loop μ-loop → tie.Start Inv-loop μ-loop
-entry c = c .before .before .before .before .before .before .before .before .before .before .before
+entry c = c .before .before .before .before .before .before .before .before .before .before
 
 abbrev turn : tie.After-check Inv-loop μ-loop → tie.In-loop Inv-loop μ-loop
 turn c = c .before .before .before .before .before .before .before .before .before
@@ -46,7 +46,7 @@ low c = omega (arith, c .loop-test .taken, entry (c .before) .pre .1)
 
 loop-holds : tie.Need-loop-holds Inv-loop μ-loop
 loop-holds c =
-    let s = c .before .before .before .before .before .before .before .before .before .before in
+    let s = c .before .before .before .before .before .before .before .before .before in
     (omega arith, refl, refl, refl, refl, refl, λ b H e. all-start _, λ b H e. right-start b (s .args .masks .now))
 
 has-requires : tie.Need-has-requires Inv-loop μ-loop
@@ -93,7 +93,7 @@ check-requires c κs =
     let t = c .before .before .before .before .before .before .before .before in
     let at = t .before .loop in
     let g = entry (t .before) .pre in
-    (g .0, g .2, room-kept (g .3) (at .inv .1) (at .inv .2) (at .inv .3) (at .inv .4) (at .inv .5))
+    (g .0, room-kept (g .2) (at .inv .1) (at .inv .2) (at .inv .3) (at .inv .4) (at .inv .5))
 
 same-length : tie.Need-same-length Inv-loop μ-loop
 same-length c = search needs
@@ -139,11 +139,11 @@ loop-again-2 c =
     let o = c .before .before in
     let s = entry l in (
       omega (arith, turn v .loop-test .taken),
-      v .check .kept .1 .1 .1 .1 .1 .1 .1 .0 ∙ l .loop .inv .1,
-      v .check .kept .1 .1 .1 .1 .1 .1 .1 .1 .0 ∙ l .loop .inv .2,
-      v .check .kept .1 .1 .1 .1 .1 .1 .1 .1 .1 .0 ∙ l .loop .inv .3,
-      v .check .kept .1 .1 .1 .1 .1 .1 .1 .1 .1 .1 .0 ∙ l .loop .inv .4,
-      v .check .kept .1 .1 .1 .1 .1 .1 .1 .1 .1 .1 .1 .0 ∙ l .loop .inv .5,
+      v .check .kept .1 .1 .1 .1 .1 .1 .0 ∙ l .loop .inv .1,
+      v .check .kept .1 .1 .1 .1 .1 .1 .1 .0 ∙ l .loop .inv .2,
+      v .check .kept .1 .1 .1 .1 .1 .1 .1 .1 .0 ∙ l .loop .inv .3,
+      v .check .kept .1 .1 .1 .1 .1 .1 .1 .1 .1 .0 ∙ l .loop .inv .4,
+      v .check .kept .1 .1 .1 .1 .1 .1 .1 .1 .1 .1 .0 ∙ l .loop .inv .5,
       λ b H e. all-turn (answer l b) (l .loop .a) (l .loop .inv .6 b H e) (told v b H e) (o .if2 .left),
       λ b H e.
           rw (c .union .ensures)

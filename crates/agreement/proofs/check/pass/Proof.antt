@@ -60,7 +60,7 @@ loop-holds c =
       refl,
       refl,
       refl,
-      λ b slots done H e R. rw (← visits-skip H e S (s .args .wanted) (progress slots done)) (pass-start b _ R (s .pre .2)),
+      λ b slots done H e R. rw (← visits-skip H e S (progress slots done)) (pass-start b _ R (s .pre .2)),
     )
 
 visit-requires : tie.Need-visit-requires Inv-loop μ-loop
@@ -97,8 +97,8 @@ returns c = λ b s d H e R.
 
 -- where the turn goes on
 on : (t : tie.In-loop Inv-loop μ-loop)
-    → Skip (entry (t .before) .args .definitions .now) (entry (t .before) .args .masks .now) (entry (t .before) .args .lines)
-    (t .before .loop .i + 1) (getD (entry (t .before) .args .skips .now) (t .before .loop .i + 1) 0)
+    → Skip (entry (t .before) .args .definitions .now) (entry (t .before) .args .masks .now) (entry (t .before) .args .wanted)
+    (entry (t .before) .args .lines) (t .before .loop .i + 1) (getD (entry (t .before) .args .skips .now) (t .before .loop .i + 1) 0)
 on t =
     let s = entry (t .before) in
     s .pre .1 .skip (t .before .loop .i + 1) (omega arith) (omega (arith, t .loop-test .taken))
@@ -137,7 +137,7 @@ loop-again c =
       search needs,
       search needs,
       λ b s d H e R.
-          rw (← visits-skip H e (on t) (entry (t .before) .args .wanted) (progress s d))
+          rw (← visits-skip H e (on t) (progress s d))
           (pass-turn b _ (at .i) (progress s d) (at .inv .7 b s d H e R) (at .inv .1)
           (λ slots done Q. v .visit .ensures b slots done H (omega (arith, t .loop-test .taken, e)) Q)),
     )

@@ -32,7 +32,7 @@ masks-requires c κs =
     let s = entry c in
     let g = s .pre .0 in
     let H = g .3 .formulas-held in
-    (g .0, g .1, _, H .marks-held, held-check H (g .4) (omega (arith, s .pre .1, H .rules-counted)), H .definitions-counted, H .rules-counted, omega (arith, g .6, H .states-are))
+    (g .0, g .1, _, H .marks-held, held-check H (g .4) (omega (arith, s .pre .1, H .rules-counted)), H .definitions-counted, omega (arith, g .6, H .states-are))
 
 check-state-requires : tie.Need-check-state-requires
 check-state-requires c κs =
@@ -41,7 +41,7 @@ check-state-requires c κs =
     let g = s .pre .0 in
     let H = g .3 .formulas-held in
     let C = held-check H {masks = s .args .sets .now} (g .4) (omega (arith, s .pre .1, H .rules-counted)) in
-    let M = m .masks .ensures (g .0) (g .1) _ (H .marks-held) C (H .definitions-counted) (H .rules-counted) (omega (arith, g .6, H .states-are)) in (
+    let M = m .masks .ensures (g .0) (g .1) _ (H .marks-held) C (H .definitions-counted) (omega (arith, g .6, H .states-are)) in (
       (g .0, held-check H (g .4) (M .long), H .definitions-counted),
       terminals-low H,
       s .pre .2,
@@ -71,7 +71,7 @@ returns-2 c = λ b firsts states W O L l.
     let v = c .before .before .before .before .before .before .before .before .before .before in
     let m = v .before .before .before .before .before .before .before .before .before in
     let s = entry (m .before) in
-    let M = m .masks .ensures b firsts _ (H .marks-held) (held-check H O (omega (arith, s .pre .1, H .rules-counted))) (H .definitions-counted) (H .rules-counted)
+    let M = m .masks .ensures b firsts _ (H .marks-held) (held-check H O (omega (arith, s .pre .1, H .rules-counted))) (H .definitions-counted)
     (omega (arith, l, H .states-are)) in
     v .check-state .ensures b (held-check H O (M .long)) (H .definitions-counted) (H .terminals-are)
     ∙ state-told H (s .args .state) M

@@ -1,8 +1,8 @@
--- `masks::mark_fronts` meets its contract: the items of the definitions passed are in the sets.
+-- `masks::mark_fronts` meets its contract: the words of the items of the definitions passed are as the closure tells them.
 -- Assumes nothing.
-use Prim.Native.Nat.{ℕ, _-_, _≤_}
+use Prim.Native.Nat.{ℕ, _*_, _-_, _≤_}
 use mathlib.Core.Path.{_≡_, refl}
-use mathlib.Core.List.{List, []}
+use mathlib.Core.List.{List}
 use native.Mathlib.Omega.{arith}
 use lib.ListN.{length}
 use borrow.Author.Needs.{needs}
@@ -11,8 +11,8 @@ use Rattle.grammar.specs.Automaton.FirstSets.{Sets}
 use Rattle.grammar.specs.Formulas.FormulaCheck as grammar
 use Rattle.items.specs.Arrays.{SuffixesIn, ReachesIn}
 use Rattle.attributes.specs.Checking.{CheckHeld}
-use Rattle.attributes.specs.Marks.{MarksIn, room-kept}
-use Rattle.attributes.specs.MarkFronts.{LooksIn, fronts, fronts-start, fronts-nothing}
+use Rattle.attributes.specs.Marks.{room-kept}
+use Rattle.attributes.specs.MarkFronts.{LooksIn, FrontsMarked, fronts-start}
 use Rattle.attributes.proofs.masks.mark_fronts.Statement.{statement}
 use Rattle.attributes.proofs.masks.mark_fronts.Tie as tie
 
@@ -21,24 +21,18 @@ Inv-loop definitions lines rules looks first nulls reaches masks₀ i₀ masks i
     (i ≤ lines) × (length masks ≡ length masks₀)
     × ((b : Book) (F : Sets) (R firsts owned cleared L : List ℕ) → CheckHeld b definitions rules owned cleared → LooksIn (b .rules) rules L looks first
     → lines ≡ grammar.definitions b → SuffixesIn (b .rules) F nulls firsts → ReachesIn (b .rules) F R reaches
-    → MarksIn (b .rules) F R [] masks₀ → MarksIn (b .rules) F R (fronts b L i) masks)
+    → 9 * length (b .rules) ≤ length masks₀ → FrontsMarked b F R L i masks)
 
 abbrev μ-loop : tie.MeasureT-loop
 μ-loop definitions lines rules looks first nulls reaches masks₀ i₀ masks i = lines - i
 
-nothing-requires : tie.Need-nothing-requires Inv-loop μ-loop
-nothing-requires c κs = c .before .before .before .before .before .before .pre .1
-
-returns : tie.Need-returns Inv-loop μ-loop
-returns c = λ b F R firsts owned cleared L C H e N T M. fronts-nothing C H e (c .before .nothing .ensures (c .if1 .taken)) M
-
 loop-holds : tie.Need-loop-holds Inv-loop μ-loop
-loop-holds c = (omega arith, refl, λ b F R firsts owned cleared L C H e N T M. fronts-start b L M)
+loop-holds c = (omega arith, refl, λ b F R firsts owned cleared L C H e N T M. fronts-start b F R L M)
 
 mark-front-requires : tie.Need-mark-front-requires Inv-loop μ-loop
 mark-front-requires c κs =
     let t = c .before in
-    let g = t .before .before .before .before .before .before .before .before .before .before .pre in
+    let g = t .before .before .before .before .before .before .before .before .pre in
     let (b, owned, cleared, L, C, H, e, room) = g .0 in
     ((b, owned, cleared, L, C, H, omega (arith, t .loop-test .taken, e), room-kept room (t .before .loop .inv .1)), g .1)
 
@@ -62,10 +56,10 @@ loop-again c =
 same-length : tie.Need-same-length Inv-loop μ-loop
 same-length c = c .before .loop .inv .1
 
-returns-2 : tie.Need-returns-2 Inv-loop μ-loop
-returns-2 c = λ b F R firsts owned cleared L C H e N T M.
+returns : tie.Need-returns Inv-loop μ-loop
+returns c = λ b F R firsts owned cleared L C H e N T M.
     let at = c .before .loop in
-    let end : at .i ≡ c .before .before .before .before .before .before .before .before .before .before .args .lines = omega (arith, at .inv .0, c .loop-test .left) in
+    let end : at .i ≡ c .before .before .before .before .before .before .before .before .args .lines = omega (arith, at .inv .0, c .loop-test .left) in
     rw end at (at .inv .2 b F R firsts owned cleared L C H e N T M)
 
 pub mark-fronts-spec : {M : Type 1} → statement M
@@ -74,12 +68,10 @@ mark-fronts-spec =
     (tie.spec
     Inv-loop
     μ-loop
-    nothing-requires
-    returns
     loop-holds
     mark-front-requires
     add-i
     loop-less
     loop-again
     same-length
-    returns-2)
+    returns)

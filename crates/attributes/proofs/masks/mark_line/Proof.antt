@@ -10,7 +10,7 @@ use Rattle.attributes.proofs.masks.mark_line.Tie as tie
 
 -- the line is in the array
 below : (c : tie.Start) → 5 * c .args .i + 4 < length (c .args .kernels .now)
-below c = line-below (c .pre .2) (c .args .i) (c .pre .3)
+below c = line-below (c .pre .1) (c .args .i) (c .pre .2)
 
 mul-word : tie.Need-mul-word
 mul-word c = search needs
@@ -46,20 +46,20 @@ mark-item-requires : tie.Need-mark-item-requires
 mark-item-requires c κs =
     let w = c .before .before in
     let s = w .before .before .before .before .before .before in
-    let place = item-place (s .pre .2) (s .args .i) (s .pre .3) (w .before .word .ensures) (w .word2 .ensures) in
-    (omega (arith, place, s .pre .4 .nulls-long), omega (arith, place, s .pre .4 .reaches-long), omega (arith, place, s .pre .4 .masks-long))
+    let place = item-place (s .pre .1) (s .args .i) (s .pre .2) (w .before .word .ensures) (w .word2 .ensures) in
+    (omega (arith, place, s .pre .3 .nulls-long), omega (arith, place, s .pre .3 .reaches-long), omega (arith, place, s .pre .3 .masks-long))
 
 same-length : tie.Need-same-length
 same-length c = search needs
 
 returns : tie.Need-returns
-returns c = λ G F R firsts ks items L l N T M.
+returns c = λ b F R firsts items L l N T M.
     let v = c .before .before in
     let w = v .before .before .before in
     let i = w .before .before .before .before .before .before .args .i in
     let rule = w .before .word .ensures in
     let dot = w .word2 .ensures in
-    rw (v .mark-item .ensures G F R firsts N T (item-rule L i l rule dot) (item-dot L i l rule dot)) (line-marks L i l rule dot M)
+    rw (v .mark-item .ensures (b .rules) F R firsts N T (item-rule L i l rule dot) (item-dot L i l rule dot)) (line-marks L i l rule dot M)
 
 pub mark-line-spec : {M : Type 1} → statement M
 mark-line-spec =

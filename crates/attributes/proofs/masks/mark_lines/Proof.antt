@@ -7,8 +7,7 @@ use native.Mathlib.Omega.{arith}
 use lib.ListN.{length}
 use lib.Seq.{slice}
 use borrow.Author.Needs.{needs}
-use Rattle.grammar.specs.Data.Symbol.{Rule}
-use Rattle.grammar.specs.Data.Book.{Kernel}
+use Rattle.grammar.specs.Data.Book.{Book}
 use Rattle.grammar.specs.Automaton.FirstSets.{Sets}
 use Rattle.grammar.specs.Automaton.CoreItems.{Core, ofKernels}
 use Rattle.items.specs.Arrays.{SuffixesIn, ReachesIn}
@@ -20,15 +19,16 @@ use Rattle.attributes.proofs.masks.mark_lines.Tie as tie
 abbrev Inv-loop : tie.InvT-loop
 Inv-loop kernels first last nulls reaches masks₀ i₀ masks i =
     (first ≤ i) × (i ≤ last) × (length masks ≡ length masks₀)
-    × ((G : List Rule) (F : Sets) (R firsts : List ℕ) (ks : List Kernel) (items : List Core) → ItemLinesIn G ks kernels → last ≤ length ks
-    → SuffixesIn G F nulls firsts → ReachesIn G F R reaches → MarksIn G F R items masks₀ → MarksIn G F R (ofKernels (slice i last ks) ++ items) masks)
+    × ((b : Book) (F : Sets) (R firsts : List ℕ) (items : List Core) → ItemLinesIn b kernels → last ≤ length (b .kernels)
+    → SuffixesIn (b .rules) F nulls firsts → ReachesIn (b .rules) F R reaches → MarksIn b F R items masks₀
+    → MarksIn b F R (ofKernels (slice i last (b .kernels)) ++ items) masks)
 
 abbrev μ-loop : tie.MeasureT-loop
 μ-loop kernels first last nulls reaches masks₀ i₀ masks i = i
 
 loop-holds : tie.Need-loop-holds Inv-loop μ-loop
 loop-holds c = let s = c .before .before .before .before in
-    (s .pre .1, omega arith, refl, λ G F R firsts ks items L l N T M. lines-start ks (s .args .last) M)
+    (s .pre .1, omega arith, refl, λ b F R firsts items L l N T M. lines-start (b .kernels) (s .args .last) M)
 
 sub-i : tie.Need-sub-i Inv-loop μ-loop
 sub-i c = search needs
@@ -38,8 +38,8 @@ mark-line-requires c κs =
     let t = c .before in
     let at = t .before .loop in
     let g = t .before .before .before .before .before .before .pre in
-    let (G, ks, L, l, room) = g .0 in
-    (G, ks, L, omega (arith, t .loop-test .taken, at .inv .1, l), room-kept room (at .inv .2))
+    let (b, L, l, room) = g .0 in
+    (b, L, omega (arith, t .loop-test .taken, at .inv .1, l), room-kept room (at .inv .2))
 
 loop-less : tie.Need-loop-less Inv-loop μ-loop
 loop-less c = search needs
@@ -52,19 +52,19 @@ loop-again c =
       omega (arith, t .loop-test .taken),
       omega (arith, at .inv .1),
       search needs,
-      λ G F R firsts ks items L l N T M.
-          lines-turn ks (at .i) (t .before .before .before .before .before .before .args .last) items (omega (arith, t .loop-test .taken)) (at .inv .1) l
-          (v .mark-line .ensures G F R firsts ks _ L (omega (arith, t .loop-test .taken, at .inv .1)) N T (at .inv .3 G F R firsts ks items L l N T M)),
+      λ b F R firsts items L l N T M.
+          lines-turn (b .kernels) (at .i) (t .before .before .before .before .before .before .args .last) items (omega (arith, t .loop-test .taken)) (at .inv .1) l
+          (v .mark-line .ensures b F R firsts _ L (omega (arith, t .loop-test .taken, at .inv .1)) N T (at .inv .3 b F R firsts items L l N T M)),
     )
 
 same-length : tie.Need-same-length Inv-loop μ-loop
 same-length c = c .before .loop .inv .2
 
 returns : tie.Need-returns Inv-loop μ-loop
-returns c = λ G F R firsts ks items L l N T M.
+returns c = λ b F R firsts items L l N T M.
     let at = c .before .loop in
     let end : at .i ≡ c .before .before .before .before .before .before .args .first = omega (arith, at .inv .0, c .loop-test .left) in
-    rw end at (at .inv .3 G F R firsts ks items L l N T M)
+    rw end at (at .inv .3 b F R firsts items L l N T M)
 
 pub mark-lines-spec : {M : Type 1} → statement M
 mark-lines-spec =

@@ -1,9 +1,10 @@
--- `skips::nearest` meets its contract: the item has terminals, or has none.
+-- `skips::nearest` meets its contract: the item has a terminal that is wanted, or has none.
 -- Assumes nothing.
 use Prim.Native.Nat.{_≤_, _<_}
+use mathlib.Core.Path.{sym, _∙_}
 use native.Mathlib.Omega.{arith}
 use borrow.Author.Needs.{needs}
-use Rattle.attributes.specs.CheckingLaws.{rule-there, rule-low, position-low, position-high}
+use Rattle.attributes.specs.CheckingLaws.{failed, rule-there, rule-low, position-low, position-high}
 use Rattle.attributes.specs.Skips.{skip-here, skip-on}
 use Rattle.attributes.proofs.skips.nearest.Statement.{statement}
 use Rattle.attributes.proofs.skips.nearest.Tie as tie
@@ -40,28 +41,32 @@ add-word c = search needs
 word-requires-2 : tie.Need-word-requires-2
 word-requires-2 c κs = search needs
 
-mul-if1 : tie.Need-mul-if1
-mul-if1 c = omega (arith, rule c)
+mul-meets : tie.Need-mul-meets
+mul-meets c = omega (arith, rule c)
 
-add-if1 : tie.Need-add-if1
-add-if1 c = omega (arith, rule c, high c)
+add-meets : tie.Need-add-meets
+add-meets c = omega (arith, rule c, high c)
 
-sub-if1 : tie.Need-sub-if1
-sub-if1 c = omega (arith, low c)
+sub-meets : tie.Need-sub-meets
+sub-meets c = omega (arith, low c)
 
-mul-if1-2 : tie.Need-mul-if1-2
-mul-if1-2 c = omega (arith, rule c, low c, high c)
+mul-meets-2 : tie.Need-mul-meets-2
+mul-meets-2 c = omega (arith, rule c, low c, high c)
 
-shared-slice-read-if1 : tie.Need-shared-slice-read-if1
-shared-slice-read-if1 c =
+shared-slice-read-meets : tie.Need-shared-slice-read-meets
+shared-slice-read-meets c =
     let w = c .before in
     let H = entry w .pre .3 in
     omega (arith, w .before .word .ensures, rule-there H (entry w .pre .4), low w, high w, H .masks-long)
 
+meets-requires : tie.Need-meets-requires
+meets-requires c κs = search needs
+
 returns : tie.Need-returns
 returns c = λ lines l S.
-    let w = c .before .before in
-    skip-on (entry w .args .line) S (rw (w .before .word .ensures, w .word2 .ensures) at (c .if1 .taken))
+    let m = c .before in
+    let w = m .before .before in
+    skip-on (entry w .args .line) S (rw (w .before .word .ensures, w .word2 .ensures) at (sym (m .meets .ensures) ∙ failed (c .if1 .taken)))
 
 returns-2 : tie.Need-returns-2
 returns-2 c = λ lines l S. skip-here _ l
@@ -75,10 +80,11 @@ nearest-spec =
     mul-word-2
     add-word
     word-requires-2
-    mul-if1
-    add-if1
-    sub-if1
-    mul-if1-2
-    shared-slice-read-if1
+    mul-meets
+    add-meets
+    sub-meets
+    mul-meets-2
+    shared-slice-read-meets
+    meets-requires
     returns
     returns-2)

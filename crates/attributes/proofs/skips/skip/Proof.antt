@@ -9,10 +9,11 @@ use Rattle.attributes.proofs.skips.skip.Statement.{statement}
 use Rattle.attributes.proofs.skips.skip.Tie as tie
 
 abbrev Inv-loop : tie.InvT-loop
-Inv-loop definitions lines masks skips₀ next₀ i₀ skips next i = (i ≤ lines) × SkipsFrom definitions masks lines i skips × Skip definitions masks lines i next
+Inv-loop definitions lines masks wanted skips₀ next₀ i₀ skips next i =
+    (i ≤ lines) × SkipsFrom definitions masks wanted lines i skips × Skip definitions masks wanted lines i next
 
 abbrev μ-loop : tie.MeasureT-loop
-μ-loop definitions lines masks skips₀ next₀ i₀ skips next i = i
+μ-loop definitions lines masks wanted skips₀ next₀ i₀ skips next i = i
 
 -- the number of lines
 few : (s : tie.Start Inv-loop μ-loop) → s .args .lines < 129
@@ -41,8 +42,8 @@ nearest-requires c κs =
 
 -- what the turn has found
 found : (c : tie.After-nearest Inv-loop μ-loop)
-    → Skip (entry (c .before) .args .definitions .now) (entry (c .before) .args .masks .now) (entry (c .before) .args .lines)
-    (c .before .before .loop .i - 1) (c .nearest .result)
+    → Skip (entry (c .before) .args .definitions .now) (entry (c .before) .args .masks .now) (entry (c .before) .args .wanted)
+    (entry (c .before) .args .lines) (c .before .before .loop .i - 1) (c .nearest .result)
 found c =
     let t = c .before in
     let at = t .before .loop in

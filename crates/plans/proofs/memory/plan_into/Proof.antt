@@ -15,7 +15,7 @@ abbrev entry : tie.After-masks → tie.Start
 entry c = c .before .before .before .before .before .before .before .before .before .before .before .before
 
 abbrev marked : tie.After-skip → tie.After-masks
-marked c = c .before .before .before .before .before
+marked c = c .before .before .before .before .before .before
 
 abbrev skipped : tie.After-plan → tie.After-skip
 skipped c = c .before .before .before .before .before
@@ -26,7 +26,7 @@ few c =
     let m = marked (skipped c) in
     let (b, places, H, l) = entry m .pre .0 in
     let F = H .formulas-held in
-    let marks = m .masks .ensures b (H .firsts) _ (F .marks-held) (plans-check H (entry m .pre .3)) (F .definitions-counted) (F .rules-counted) l in
+    let marks = m .masks .ensures b (H .firsts) _ (F .marks-held) (plans-check H (entry m .pre .3)) (F .definitions-counted) l in
     row-short b _ (c .plan .ensures .0 b (plans-marked H marks) (F .definitions-counted))
 
 masks-requires : tie.Need-masks-requires
@@ -34,17 +34,20 @@ masks-requires c κs =
     let s = c .before .before .before .before .before .before .before .before .before .before .before in
     let (b, places, H, l) = s .pre .0 in
     let F = H .formulas-held in
-    (b, H .firsts, _, F .marks-held, plans-check H (s .pre .3), F .definitions-counted, F .rules-counted, l)
+    (b, H .firsts, _, F .marks-held, plans-check H (s .pre .3), F .definitions-counted, l)
+
+single-requires : tie.Need-single-requires
+single-requires c κs = search needs
 
 slice-aggregate-skip : tie.Need-slice-aggregate-skip
 slice-aggregate-skip c = search needs
 
 skip-requires : tie.Need-skip-requires
 skip-requires c κs =
-    let m = c .before .before .before .before in
+    let m = c .before .before .before .before .before in
     let (b, places, H, l) = entry m .pre .0 in
     let F = H .formulas-held in
-    let marks = m .masks .ensures b (H .firsts) _ (F .marks-held) (plans-check H (entry m .pre .3)) (F .definitions-counted) (F .rules-counted) l in
+    let marks = m .masks .ensures b (H .firsts) _ (F .marks-held) (plans-check H (entry m .pre .3)) (F .definitions-counted) l in
     ((b, _, _, plans-marked H marks, F .definitions-counted), refl)
 
 slice-aggregate-plan : tie.Need-slice-aggregate-plan
@@ -63,11 +66,11 @@ plan-requires c κs =
     let s = entry m in
     let (b, places, H, l) = s .pre .0 in
     let F = H .formulas-held in
-    let marks = m .masks .ensures b (H .firsts) _ (F .marks-held) (plans-check H (s .pre .3)) (F .definitions-counted) (F .rules-counted) l in (
+    let marks = m .masks .ensures b (H .firsts) _ (F .marks-held) (plans-check H (s .pre .3)) (F .definitions-counted) l in (
       (b, plans-marked H marks, F .definitions-counted),
       s .pre .1,
       omega (arith, s .pre .2, s .pre .4),
-      v .skip .ensures,
+      rw (v .before .before .single .ensures) at (v .skip .ensures),
     )
 
 cast-lists : tie.Need-cast-lists
@@ -92,7 +95,7 @@ returns c =
     let s = entry m in (
       λ b places H l.
           let F = H .formulas-held in
-          let marks = m .masks .ensures b (H .firsts) _ (F .marks-held) (plans-check H (s .pre .3)) (F .definitions-counted) (F .rules-counted) l in
+          let marks = m .masks .ensures b (H .firsts) _ (F .marks-held) (plans-check H (s .pre .3)) (F .definitions-counted) l in
           plan-filled H (s .pre .1) (s .args .slot) marks (omega (arith, s .pre .2, s .pre .4, p .plan .ensures .1 .long))
           (p .plan .ensures .0 b (plans-marked H marks) (F .definitions-counted)),
       slot-filled (s .args .slot) (p .plan .result) (p .plan .ensures .1),
@@ -103,6 +106,7 @@ plan-into-spec =
     tie.close
     (tie.spec
     masks-requires
+    single-requires
     slice-aggregate-skip
     skip-requires
     slice-aggregate-plan

@@ -8,6 +8,7 @@ use Rattle.grammar.specs.Data.Book.{Book}
 use Rattle.grammar.specs.Formulas.Passes.{visits}
 use Rattle.grammar.specs.Formulas.FormulaCheck as grammar
 use Rattle.attributes.specs.Checking.{memberOf, CheckHeld}
+use Rattle.sets.specs.Sets.{single}
 use Rattle.attributes.specs.Skips.{Skip}
 use Rattle.plans.specs.Planning.{Planning, planLine}
 use Rattle.plans.specs.PlanRows.{PlanningIn, Elsewhere}
@@ -39,8 +40,8 @@ few s = omega (arith, s .pre .0 .3, s .pre .0 .2 .premises .definitions-limit)
 
 -- where the turn goes on
 on : (t : tie.In-loop Inv-loop μ-loop)
-    → Skip (entry (t .before) .args .definitions .now) (entry (t .before) .args .masks .now) (entry (t .before) .args .lines)
-    (t .before .loop .i + 1) (getD (entry (t .before) .args .skips .now) (t .before .loop .i + 1) 0)
+    → Skip (entry (t .before) .args .definitions .now) (entry (t .before) .args .masks .now) (single (entry (t .before) .args .terminal))
+    (entry (t .before) .args .lines) (t .before .loop .i + 1) (getD (entry (t .before) .args .skips .now) (t .before .loop .i + 1) 0)
 on t =
     let s = entry (t .before) in
     s .pre .2 .skip (t .before .loop .i + 1) (omega arith) (omega (arith, t .loop-test .taken))
@@ -57,7 +58,7 @@ loop-holds : tie.Need-loop-holds Inv-loop μ-loop
 loop-holds c =
     let s = c .before .before .before .before .before .before .before in
     let S = s .pre .2 .skip 0 (omega arith) (omega arith) in
-    (S .high, elsewhere-same, λ b t H e R. rw (← planning-skip H e (s .args .terminal) S t) (pass-start b _ t R))
+    (S .high, elsewhere-same, λ b t H e R. rw (← planning-skip H e (s .pre .1) S t) (pass-start b _ t R))
 
 visit-requires : tie.Need-visit-requires Inv-loop μ-loop
 visit-requires c κs =
@@ -89,7 +90,7 @@ loop-again c =
       on t .high,
       elsewhere-then (at .inv .1) (v .visit .ensures .1),
       λ b s H e R.
-          rw (← planning-skip H e (entry (t .before) .args .terminal) (on t) s)
+          rw (← planning-skip H e (entry (t .before) .pre .1) (on t) s)
           (pass-turn b _ (at .i) s (v .visit .ensures .0 b _ H (omega (arith, t .loop-test .taken, e)) (at .inv .2 b s H e R))),
     )
 

@@ -8,19 +8,23 @@ use mathlib.Core.List.{List, [], _∷_, _++_}
 use lib.Dec.{eqb}
 use lib.ListN.{length, getD, drop}
 use borrow.Author.Tests.{eqb-true}
-use Rattle.text.specs.Rest.{Rest, rest, left}
+use Rattle.text.specs.Class.{open-bracket}
+use Rattle.text.specs.Rest.{Rest, lost, left, rest, found, mark}
 use Rattle.text.specs.RestLaws.{rest-in, drop-more}
 use Rattle.text.specs.Numeral.{decimal, write}
+use Rattle.text.specs.NumeralLaws.{mark-number}
+use Rattle.text.specs.Reading.{Reads}
 use Rattle.grammar.specs.Data.Term.{add, sub, min, max}
 use Rattle.grammar.specs.Data.Book.{Place, own, at, val}
 use Rattle.grammar.specs.Data.Postfix.{Step, load, operate, select}
 use Rattle.grammar.specs.Format.Ordered.{Fits}
 use Rattle.grammar.specs.Format.ReaderLaws.{reading, word-ends, number-reads}
 use Rattle.grammar.specs.Format.Expression.{waiting, opened, whole, either, ownPlace, atPlace, valPlace, wholeOf, bracket, begun}
-use Rattle.grammar.specs.Format.ExpressionReads.{either-cases}
+use Rattle.grammar.specs.Format.ExpressionReads.{either-cases, begun-number}
 use Rattle.grammar.specs.Automaton.TestLaws.{both-true}
 use Rattle.lines.specs.Heads.{Four, Same, four-same}
 use Rattle.book.specs.Layout.{nodeWords}
+use Rattle.book.specs.Short.{Brief}
 use Rattle.definitions.specs.Expressions.{kindOf, waitingCode, shown, shownOf, Shows}
 use Rattle.definitions.specs.Ended.{Stands, byte-is}
 
@@ -170,6 +174,16 @@ module _ {text : List ℕ} {from next : ℕ} where
   val-short {J} p j =
       some-short (shows-whole (40 ∷ 118 ∷ 97 ∷ 108 ∷ 32 ∷ write decimal J (41 ∷ drop next text)) (omega (arith, p .long)) (omega (arith, p .long, j .near))
       (p .bytes-are ∙ ap (λ r. 40 ∷ 118 ∷ 97 ∷ 108 ∷ 32 ∷ r) (j .bytes-are)) (load (val J)) (val-begun J (drop next text) (j .small)))
+
+-- a number by its bytes, the first of which is no bracket
+pub number-short : {text : List ℕ} {from v next : ℕ} → from ≤ length text → Brief text from v next → (next ≡ 0 → ⊥) → Short text from false 0 v 0 next
+unfolding shownOf nodeWords found
+number-short {text} {from} {v} {next} h n k =
+    let some : 0 < next = omega arith in
+    let read : Reads decimal text from v next = n .reads some in
+    let none : mark open-bracket (rest text from) ≡ lost =
+    ap (mark open-bracket) (rest-in text from h ∙ ap left (n .written some)) ∙ mark-number open-bracket v (drop next text) (λ e. omega arith) in
+    some-short (record { shown-is = rw (begun-number (rest text from) (ap found none)) (rw (read .value-is, read .rest-is)) })
 
 -- the number of the operator whose bracket begins with four bytes and a space
 unfoldable pub headCode : ℕ → ℕ

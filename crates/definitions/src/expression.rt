@@ -314,6 +314,24 @@ fn short_pick(text: &[u8], at: usize, head: u32) -> Beginning
     other()
 }
 
+// A number of one to three digits.
+fn short_number(t: &[u8; 256], text: &[u8], at: usize) -> Beginning
+    requires { ⌜ Lent (now t) (now text) × (at + 4 ≤ length (now text)) ⌝ }
+    ensures { λ r. ⌜ Short (now (text .entry)) at (r .opens) (r .code) (r .x) (r .y) (r .at) ⌝ }
+{
+    let n = book::short::short(t, text, at);
+    if n.at == 0 {
+        return other();
+    }
+    Beginning {
+        opens: false,
+        code: 0,
+        x: n.value,
+        y: 0,
+        at: n.at,
+    }
+}
+
 // How the expression at a position begins, by the bytes of a bracket's word, which are compared at once, and of short numbers.
 fn short(t: &[u8; 256], text: &[u8], at: usize) -> Beginning
     requires { ⌜ Lent (now t) (now text) × (at ≤ length (now text)) ⌝ }
@@ -321,6 +339,9 @@ fn short(t: &[u8; 256], text: &[u8], at: usize) -> Beginning
 {
     if text.len() < at + 11 {
         return other();
+    }
+    if text[at] != b'(' {
+        return short_number(t, text, at);
     }
     let head = four(text[at], text[at + 1], text[at + 2], text[at + 3]);
     if head == AT_HEAD {

@@ -17,9 +17,10 @@ use Rattle.compiler.specs.States.{states-enough, rules-enough}
 use Rattle.compiler.specs.Compiling.{Compiles, rules-few}
 use Rattle.machine.specs.declared.run.Outcome.{Outcome}
 use Rattle.machine.specs.RunningLaws.{Answered}
+use Rattle.messages.specs.Messages.{TakenBook, Message}
 use Rattle.attempts.specs.Rooms.{compiled-whole}
-use Rattle.attempts.specs.Stored.{Found, TakenBook, found-none, found-book}
-use Rattle.attempts.specs.Evaluations.{Asked, Answers, Message, answers-none, answers-asked, answers-run}
+use Rattle.attempts.specs.Stored.{Found, found-none, found-book}
+use Rattle.attempts.specs.Evaluations.{Asked, Answers, answers-none, answers-asked, answers-run}
 
 -- the first n bytes of a text are those of stored words, and were compiled
 pub record Read (room : Room) (n : ℕ) (text : List ℕ) (complete : Bool) (r : ℕ) (numbers : Book) (inherited synthesized rules definitions kernels goes : List ℕ)

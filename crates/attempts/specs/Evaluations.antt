@@ -3,21 +3,19 @@
 use Prim.Native.Nat.{ℕ, suc, _*_, _%_, _<_, _≤_}
 use mathlib.Core.Path.{_≡_, refl, sym, ap, _∙_}
 use mathlib.Core.Bool.{Bool, true, false}
-use mathlib.Core.List.{List, [], _∷_}
+use mathlib.Core.List.{List}
 use mathlib.Core.Option.{none, some}
 use native.Mathlib.Omega.{arith}
 use lib.ListN.{length, replicate}
 use borrow.Author.Tests.{le-leb, lt-leb, eq-eqb, ne-eqb}
 use Rattle.grammar.specs.Limits.{PAGE-WORDS, MAX-TOKENS}
 use Rattle.grammar.specs.Data.Book.{Book}
-use Rattle.grammar.specs.Conditions.Decides.{oneTo, oneTo-decides}
-use Rattle.grammar.specs.Evaluator.Tree.{Token, TokensOf, no-tokens, and-tokens}
+use Rattle.grammar.specs.Evaluator.Tree.{Token}
 use Rattle.grammar.specs.Evaluator.Machine.{Answer, refused, accepted, evaluate}
 use Rattle.grammar.specs.Evaluator.RunRefusals.{refused-late}
 use Rattle.grammar.specs.Engine.{
   tablesOf,
   storedBook,
-  tokensOf,
   kindsIn,
   Evaluation,
   turnedBack,
@@ -28,6 +26,7 @@ use Rattle.grammar.specs.Engine.{
 }
 use Rattle.machine.specs.declared.run.Outcome.{Outcome}
 use Rattle.machine.specs.RunningLaws.{Answered}
+use Rattle.messages.specs.Messages.{Message}
 use Rattle.attempts.specs.Tokens.{kindsRight, kinds-right, tokens-odd, tokens-even}
 
 -- the number that is answered, every lent row word and the row count afterwards
@@ -54,13 +53,6 @@ pub answers-refused : {evaluation : Evaluation} {lent : ℕ} {rows : List ℕ} {
 answers-refused n e = record { refused = λ _. e; taken = λ z. absurd (omega arith) }
 
 -- ---- the lengths and the kinds of a message
-
--- the numbers are tokens of T terminals, not too many
-pub record Message (T : ℕ) (tokens : List ℕ) : Type 0 where
-  pub list : List Token
-  pub tokens-are : tokensOf tokens ≡ some list
-  pub few : length list ≤ MAX-TOKENS
-  pub kinds : kindsIn T list ≡ true
 
 -- the first of 12, 13 and 14 that applies, or 0
 pub record Asked (T : ℕ) (tokens : List ℕ) (lent number : ℕ) : Type 0 where
@@ -109,32 +101,16 @@ module _ (T : ℕ) (tokens : List ℕ) (lent : ℕ) where
               };
             }
 
-kinds-of : (b : Book) (ks : List Token) → kindsIn (b .terminals) ks ≡ true → TokensOf b ks
-unfolding kindsIn
-kinds-of b [] e = no-tokens
-kinds-of b (k ∷ ks) e = go (oneTo (b .terminals) (k .kind)) refl (kinds-of b ks)
-  where
-    go : (t : Bool) → oneTo (b .terminals) (k .kind) ≡ t → (kindsIn (b .terminals) ks ≡ true → TokensOf b ks) → TokensOf b (k ∷ ks)
-    go true q more =
-        let o = oneTo-decides (b .terminals) (k .kind) .sound q in
-        let rest : kindsIn (b .terminals) ks ≡ true = rw (q, kindsIn) at e in
-        and-tokens (record { not-end = o .low; declared = o .high }) (more rest)
-    go false q _ = absurd (let w : false ≡ true = rw (q, kindsIn) at e in let z : _≡_ {A = ℕ} 0 1 = cc in omega arith)
-
-module _ (b : Book) {T : ℕ} {tokens : List ℕ} (m : Message T tokens) (t : T ≡ b .terminals) where
-  -- the tokens are of the book
-  pub message-tokens : TokensOf b (m .list)
-  message-tokens = kinds-of b (m .list) (rw (← t) (m .kinds))
-
-  -- the machine answers
-  pub message-run : (lent : ℕ) → lent ≡ PAGE-WORDS → evaluateBook b tokens lent ≡ evaluationOf (evaluate b (tablesOf b) (m .list)) lent
-  unfolding evaluateBook evaluateTokens
-  message-run lent all =
-      let k : kindsIn (b .terminals) (m .list) ≡ true = rw (← t) (m .kinds) in
-      rw (eq-eqb lent PAGE-WORDS all, evaluateBook)
-      (rw (m .tokens-are) (rw (le-leb (length (m .list)) MAX-TOKENS (m .few), evaluateTokens) (rw k)))
-
 -- ---- the run
+
+-- the machine answers
+pub message-run : (b : Book) {T : ℕ} {tokens : List ℕ} (m : Message T tokens) → T ≡ b .terminals → (lent : ℕ) → lent ≡ PAGE-WORDS
+    → evaluateBook b tokens lent ≡ evaluationOf (evaluate b (tablesOf b) (m .list)) lent
+unfolding evaluateBook evaluateTokens
+message-run b m t lent all =
+    let k : kindsIn (b .terminals) (m .list) ≡ true = rw (← t) (m .kinds) in
+    rw (eq-eqb lent PAGE-WORDS all, evaluateBook)
+    (rw (m .tokens-are) (rw (le-leb (length (m .list)) MAX-TOKENS (m .few), evaluateTokens) (rw k)))
 
 -- the machine's answer; its refusals are not 0
 answers-ran : (b : Book) (ks : List Token) {evaluation : Evaluation} {lent : ℕ} {r : Outcome} {rows : List ℕ}

@@ -5,7 +5,7 @@ use mathlib.Core.Path.{_≡_, refl, _∙_}
 use mathlib.Core.Bool.{Bool, true, false}
 use mathlib.Core.List.{List}
 use native.Mathlib.Omega.{arith}
-use lib.ListN.{length, replicate, take, length-replicate, length-take}
+use lib.ListN.{length, replicate, take, length-take}
 use Rattle.grammar.specs.Limits.{BOOK-WORDS, MAX-DEFINITIONS, MAX-KERNELS, MAX-GOES, MAX-STATES, MAX-RULES}
 use Rattle.book.specs.declared.Book.{Book}
 use Rattle.book.specs.declared.Room.{Room}
@@ -13,6 +13,7 @@ use Rattle.book.specs.Rooms.{fullRoom}
 use Rattle.book.specs.Spelling.{arrays, Roomy, Complete}
 use Rattle.compiler.specs.States.{TablesLent}
 use Rattle.compiler.specs.Compiling.{Compiles}
+use Rattle.messages.specs.Zeros.{zeros}
 
 abbrev pub tinyRoom : Room
 tinyRoom = record { definitions = 16; kernels = 16; goes = 16; states = 8; rules = 16 }
@@ -22,9 +23,6 @@ shortRoom = record { definitions = 48; kernels = 64; goes = 64; states = 32; rul
 
 abbrev pub mediumRoom : Room
 mediumRoom = record { definitions = MAX-DEFINITIONS; kernels = 256; goes = 256; states = MAX-STATES; rules = MAX-RULES }
-
-pub zeros : (n : ℕ) → length {A = ℕ} (replicate n 0) ≡ n
-zeros n = length-replicate n 0
 
 -- the arrays that are as long as a room says, which is no more than the limits allow
 pub record ArraysLent (room : Room) (rules definitions kernels goes vanishes begins reached starts closures fronts table : List ℕ) : Type 0 where

@@ -10,10 +10,9 @@ use lib.ListN.{length, getD, take, length-take}
 use borrow.Author.Tests.{ne-eqb}
 use Rattle.grammar.specs.Limits.{MAX-TEXT, BOOK-WORDS}
 use Rattle.grammar.specs.Data.Book.{Book as Lines}
-use Rattle.grammar.specs.Format.Ordered.{Spelled}
 use Rattle.grammar.specs.Format.Packing.{pack}
 use Rattle.grammar.specs.Format.PrintLaws.{Printable, line-end, byte, print-printable}
-use Rattle.grammar.specs.Refusal.{Taken, Sound, taken, refusal}
+use Rattle.grammar.specs.Refusal.{Taken, taken, refusal}
 use Rattle.grammar.specs.RefusalLaws.{verdict-refusal}
 use Rattle.grammar.specs.Engine.{storedBook}
 use Rattle.grammar.specs.Demands.{Stored}
@@ -22,8 +21,8 @@ use Rattle.book.specs.declared.Book.{Book}
 use Rattle.book.specs.declared.Room.{Room}
 use Rattle.packing.specs.Words.{bytes, Holds}
 use Rattle.packing.specs.WordsLaws.{bytes-length, holds-only}
-use Rattle.compiler.specs.Prepared.{BookReady}
 use Rattle.compiler.specs.Compiling.{Compiles}
+use Rattle.messages.specs.Messages.{TakenBook}
 
 -- there are as many words as a stored book has, and the first `count` bytes of a text are the text in them
 pub record Found (words text : List ℕ) (count : ℕ) : Type 0 where
@@ -32,13 +31,6 @@ pub record Found (words text : List ℕ) (count : ℕ) : Type 0 where
   pub within : count ≤ MAX-TEXT
   pub inside : count ≤ length text
   pub text-is : take count text ≡ take count (bytes words)
-
--- a book that is found is taken, and in the arrays
-pub record TakenBook (numbers : Book) (inherited synthesized rules definitions kernels goes : List ℕ)
-    (vanishes reached starts closures table actions : List ℕ) (b : Lines) : Type 0 where
-  pub ready : BookReady numbers inherited synthesized rules definitions kernels goes vanishes reached starts closures table actions b
-  pub spelled : Spelled b
-  pub sound : Sound b
 
 -- words of another number hold no book
 pub unfit-none : (words : List ℕ) → (length words ≡ BOOK-WORDS → ⊥) → storedBook words ≡ none
@@ -92,7 +84,7 @@ module _ {words text : List ℕ} {count : ℕ} (F : Found words text count) wher
               let (s, same) = found-stored words b q in
               absurd (n (c .told whole ∙ ap refusal (sym (stored-text s)) ∙ verdict-refusal (s .text) (taken (s .its-book))))
 
-      -- else there is a book
+      -- else there is a book, which is taken, and in the arrays
       pub found-book : r ≡ 0
           → (b : Lines) × (storedBook words ≡ some b)
           × TakenBook numbers inherited synthesized rules definitions kernels goes vanishes reached starts closures table actions b

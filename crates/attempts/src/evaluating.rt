@@ -7,11 +7,11 @@ ghost use Rattle.attempts.specs.Stored.{Found};
 ghost use Rattle.attempts.specs.Evaluations.{Asked};
 ghost use Rattle.attempts.specs.Attempts.{Read, Attempts};
 ghost use Rattle.book.specs.declared.Room.{Room};
-use super::messages::message;
 use super::tokens::kinds_right;
 use book::Room;
 use compiler::compile::Compiled;
 use compiler::compile::compile;
+use messages::messages::message;
 use packing::packing::clear;
 use text::classes;
 

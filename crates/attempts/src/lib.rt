@@ -1,7 +1,5 @@
 // The two calls by arrays of a room: a text read, or a message answered, where the arrays have room for the book.
 pub mod evaluating;
-pub mod messages;
 pub mod reading;
 pub mod rooms;
-pub mod sides;
 pub mod tokens;

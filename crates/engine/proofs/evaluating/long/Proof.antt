@@ -1,7 +1,8 @@
 -- `evaluating::long` meets its contract: there is room for the text. Assumes nothing.
 use native.Mathlib.Omega.{arith}
 use Rattle.packing.specs.WordsLaws.{bytes-length}
-use Rattle.attempts.specs.Rooms.{zeros, full-lines}
+use Rattle.messages.specs.Zeros.{zeros}
+use Rattle.attempts.specs.Rooms.{full-lines}
 use borrow.Author.Needs.{needs}
 use Rattle.engine.proofs.evaluating.long.Statement.{statement}
 use Rattle.engine.proofs.evaluating.long.Tie as tie

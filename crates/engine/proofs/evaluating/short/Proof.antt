@@ -1,6 +1,7 @@
 -- `evaluating::short` meets its contract: the arrays have as much room as is said. Assumes nothing.
 use native.Mathlib.Omega.{arith}
-use Rattle.attempts.specs.Rooms.{zeros, short-arrays}
+use Rattle.messages.specs.Zeros.{zeros}
+use Rattle.attempts.specs.Rooms.{short-arrays}
 use Rattle.attempts.specs.Stored.{found-text}
 use borrow.Author.Needs.{needs}
 use Rattle.engine.proofs.evaluating.short.Statement.{statement}

@@ -1,6 +1,7 @@
 -- `reading::long` meets its contract: there is room for the text. Assumes nothing.
 use native.Mathlib.Omega.{arith}
-use Rattle.attempts.specs.Rooms.{zeros, full-lines}
+use Rattle.messages.specs.Zeros.{zeros}
+use Rattle.attempts.specs.Rooms.{full-lines}
 use borrow.Author.Needs.{needs}
 use Rattle.engine.proofs.reading.long.Statement.{statement}
 use Rattle.engine.proofs.reading.long.Tie as tie

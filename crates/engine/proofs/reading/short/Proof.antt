@@ -1,6 +1,7 @@
 -- `reading::short` meets its contract: the arrays have as much room as is said. Assumes nothing.
 use native.Mathlib.Omega.{arith}
-use Rattle.attempts.specs.Rooms.{zeros, short-arrays, words-lent}
+use Rattle.messages.specs.Zeros.{zeros}
+use Rattle.attempts.specs.Rooms.{short-arrays, words-lent}
 use borrow.Author.Needs.{needs}
 use Rattle.engine.proofs.reading.short.Statement.{statement}
 use Rattle.engine.proofs.reading.short.Tie as tie

@@ -1,6 +1,7 @@
 -- `reading::tiny` meets its contract: the arrays have as much room as is said. Assumes nothing.
 use native.Mathlib.Omega.{arith}
-use Rattle.attempts.specs.Rooms.{zeros, tiny-arrays, words-lent}
+use Rattle.messages.specs.Zeros.{zeros}
+use Rattle.attempts.specs.Rooms.{tiny-arrays, words-lent}
 use borrow.Author.Needs.{needs}
 use Rattle.engine.proofs.reading.tiny.Statement.{statement}
 use Rattle.engine.proofs.reading.tiny.Tie as tie

@@ -2,11 +2,11 @@
 use mathlib.Core.Path.{refl}
 use native.Mathlib.Omega.{arith}
 use Rattle.compiler.specs.Compiling.{asked-formulas}
-use Rattle.attempts.specs.Sides.{asked-sides}
-use Rattle.attempts.specs.Driving.{places-asked, places-room, run-in, tokens-of, plans-of}
+use Rattle.messages.specs.Sides.{asked-sides}
+use Rattle.messages.specs.Driving.{places-asked, places-room, run-in, tokens-of, plans-of}
 use borrow.Author.Needs.{needs}
-use Rattle.attempts.proofs.messages.message_on.Statement.{statement}
-use Rattle.attempts.proofs.messages.message_on.Tie as tie
+use Rattle.messages.proofs.messages.message_on.Statement.{statement}
+use Rattle.messages.proofs.messages.message_on.Tie as tie
 
 -- from each call back to the entry
 

@@ -1,4 +1,4 @@
--- A stored book that is taken, and a message, as the machine asks for them. Assumes nothing.
+-- A book that is taken, and a message, as the machine asks for them. Assumes nothing.
 use Prim.Native.Nat.{ℕ, _+_, _*_, _≤_}
 use mathlib.Core.Path.{_≡_, ap, _∙_}
 use mathlib.Core.List.{List, _++_}
@@ -21,10 +21,9 @@ use Rattle.machine.specs.Moving.{Rooms, Driven}
 use Rattle.machine.specs.Running.{RunIn}
 use Rattle.stack.specs.Standing.{Message as Tokens}
 use Rattle.compiler.specs.Compiling.{asked-formulas}
-use Rattle.attempts.specs.Evaluations.{Message, message-tokens}
-use Rattle.attempts.specs.Rooms.{zeros}
-use Rattle.attempts.specs.Stored.{TakenBook}
-use Rattle.attempts.specs.Sides.{SidesIn}
+use Rattle.messages.specs.Messages.{TakenBook, Message, message-tokens}
+use Rattle.messages.specs.Sides.{SidesIn}
+use Rattle.messages.specs.Zeros.{zeros}
 
 module _ {numbers : Book} {inherited synthesized rules definitions kernels goes : List ℕ} {vanishes reached starts closures table actions : List ℕ}
     {b : Lines} (h : TakenBook numbers inherited synthesized rules definitions kernels goes vanishes reached starts closures table actions b)

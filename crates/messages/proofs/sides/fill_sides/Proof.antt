@@ -1,10 +1,10 @@
 -- `sides::fill_sides` meets its contract, call by call. Assumes nothing.
 use native.Mathlib.Omega.{arith}
 use Rattle.grammar.specs.Limits.{MAX-INHERITED, MAX-SYNTHESIZED}
-use Rattle.attempts.specs.Sides.{sides-in}
+use Rattle.messages.specs.Sides.{sides-in}
 use borrow.Author.Needs.{needs}
-use Rattle.attempts.proofs.sides.fill_sides.Statement.{statement}
-use Rattle.attempts.proofs.sides.fill_sides.Tie as tie
+use Rattle.messages.proofs.sides.fill_sides.Statement.{statement}
+use Rattle.messages.proofs.sides.fill_sides.Tie as tie
 
 -- from each call back to the entry
 

@@ -4,7 +4,7 @@ ghost use mathlib.Core.Path.{_≡_};
 ghost use lib.ListN.{length, replicate};
 ghost use Rattle.grammar.specs.Data.Book.{Book as Lines};
 ghost use Rattle.conditions.specs.Answers.{Some};
-ghost use Rattle.attempts.specs.Sides.{SidesAsked, SidesIn};
+ghost use Rattle.messages.specs.Sides.{SidesAsked, SidesIn};
 use attributes::owned::owned;
 use book::Book;
 use stack::firsts::first_lines;

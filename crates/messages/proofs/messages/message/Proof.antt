@@ -4,9 +4,9 @@ use native.Mathlib.Omega.{arith}
 use lib.ListN.{length, replicate}
 use borrow.Author.Needs.{needs}
 use Rattle.grammar.specs.Limits.{PAGE-WORDS}
-use Rattle.attempts.specs.Rooms.{zeros}
-use Rattle.attempts.proofs.messages.message.Statement.{statement}
-use Rattle.attempts.proofs.messages.message.Tie as tie
+use Rattle.messages.specs.Zeros.{zeros}
+use Rattle.messages.proofs.messages.message.Statement.{statement}
+use Rattle.messages.proofs.messages.message.Tie as tie
 
 -- from each call back to the one before
 

@@ -1,0 +1,4 @@
+pub mod Driving
+pub mod Messages
+pub mod Sides
+pub mod Zeros

@@ -13,8 +13,8 @@ use Rattle.book.specs.declared.Book.{Book}
 use Rattle.book.specs.declared.Room.{Room}
 use Rattle.book.specs.Rooms.{fullRoom}
 use Rattle.conditions.specs.AskedLaws.{counted}
-use Rattle.compiler.specs.States.{states-enough, rules-enough}
-use Rattle.compiler.specs.Compiling.{Compiles, rules-few}
+use Rattle.compiler.specs.States.{states-enough}
+use Rattle.compiler.specs.Compiling.{Compiles}
 use Rattle.machine.specs.declared.run.Outcome.{Outcome}
 use Rattle.machine.specs.RunningLaws.{Answered}
 use Rattle.messages.specs.Messages.{TakenBook, Message}
@@ -50,10 +50,6 @@ module _ {room : Room} {n : ℕ} {text : List ℕ} {complete : Bool} {r : ℕ} {
       let (b, t) = book-taken in
       states-enough (R .compiles .fits whole taken)
       (omega (arith, t .ready .conditions-met .limits .states-limit .high, counted b (t .ready .numbers-are) .states-are))
-
-  -- and no more rules
-  pub rules-within : numbers .rules ≤ room .rules
-  rules-within = let (b, t) = book-taken in rules-enough (R .compiles .fits whole taken) (rules-few (t .ready))
 
 module _ {room : Room} {n : ℕ} {text : List ℕ} {complete : Bool} {r : ℕ} {numbers : Book} {inherited synthesized rules definitions kernels goes : List ℕ}
     {vanishes reached starts closures table actions : List ℕ}

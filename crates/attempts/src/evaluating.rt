@@ -47,7 +47,7 @@ pub struct Answer {
 }
 
 // What is answered of a text that was read into arrays: `complete` where they have room for it, and then the number; where that is 0, the rows and their
-// count are in place. `sets` and `slots` may hold anything.
+// count are in place. `slots` may hold anything.
 fn respond(
     compiled: Compiled,
     inherited: &[u32],
@@ -63,14 +63,13 @@ fn respond(
     table: &[u8],
     actions: &[u8],
     tokens: &[u32],
-    sets: &mut [u32],
     slots: &mut [u8],
     rows: &mut [u32],
     count: &mut u32,
 ) -> Answer
     requires { ⌜ ((room : Room) × (n : ℕ) × (text : List ℕ) × Read room n text (compiled .complete) (compiled .refusal) (compiled .book) (now inherited)
         (now synthesized) (now rules) (now definitions) (now kernels) (now goes) (now vanishes) (now reached) (now starts) (now lookaheads)
-        (now table) (now actions) × (9 * room .rules ≤ length (now sets)) × (32 * room .states ≤ length (now slots))) ⌝ }
+        (now table) (now actions) × (32 * room .states ≤ length (now slots))) ⌝ }
     ensures { λ r. ⌜ ((room : Room) (n : ℕ) (text : List ℕ) → Read room n text (compiled .complete) (compiled .refusal) (compiled .book)
         (now (inherited .entry)) (now (synthesized .entry)) (now (rules .entry)) (now (definitions .entry)) (now (kernels .entry)) (now (goes .entry))
         (now (vanishes .entry)) (now (reached .entry)) (now (starts .entry)) (now (lookaheads .entry)) (now (table .entry))
@@ -113,7 +112,6 @@ fn respond(
         table,
         actions,
         tokens,
-        sets,
         slots,
         rows,
     );
@@ -124,8 +122,8 @@ fn respond(
     }
 }
 
-// The answer to a message under a book whose text is the first `n` bytes of `text`, by arrays of the caller. Of what serves until the book is compiled, the run
-// has `text` for its slots and `begins` for its sets.
+// The answer to a message under a book whose text is the first `n` bytes of `text`, by arrays of the caller. Once the book is compiled, the run has `text`
+// for its slots.
 pub fn attempt(
     text: &mut [u8],
     n: usize,
@@ -190,7 +188,6 @@ pub fn attempt(
         table,
         actions,
         tokens,
-        begins,
         text,
         rows,
         count,

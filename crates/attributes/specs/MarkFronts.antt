@@ -164,7 +164,7 @@ module _ (b : Book) (looks : List ℕ) where
     unfolding empty
     absent P D a none = record { sound = λ t. absurd (true-false t (bit-empty a)); complete = λ (M, m, t). absurd (none M m) }
 
-    front-decides : (P D a : ℕ) → P < length (b .rules)
+    pub front-decides : (P D a : ℕ) → P < length (b .rules)
         → Decides (bit (frontWord (b .rules) F R looks P D) a) (ItemReaches b F R (ofRules (b .rules) looks (length (b .rules))) P D a)
     unfolding frontWord reachOf
     front-decides P (suc D) a p = absent P (suc D) a λ M m.

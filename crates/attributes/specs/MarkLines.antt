@@ -65,19 +65,27 @@ module _ {b : Book} {kernels : List ℕ} (L : ItemLinesIn b kernels) (i : ℕ) (
         (marks-item b F R H (kernelAt (b .kernels) i .rule) (kernelAt (b .kernels) i .dot) (setOf (kernelAt (b .kernels) i .lookaheads))
         (L .rule-there i h) (omega (arith, L .short i h)))
 
--- the lines from one up to another
+-- the lines from one up to another, in front of other items
 
-pub lines-start : {b : Book} {F : Sets} {R : List ℕ} (ks : List Kernel) (last : ℕ) {items : List Core} {masks : List ℕ} → MarksIn b F R items masks
-    → MarksIn b F R (ofKernels (slice last last ks) ++ items) masks
+pub lines-start : (Q : List Core → Type 0) (ks : List Kernel) (last : ℕ) {items : List Core} → Q items → Q (ofKernels (slice last last ks) ++ items)
 unfolding ofKernels
-lines-start ks last H = rw (slice-empty last ks) H
+lines-start Q ks last H = rw (slice-empty last ks) H
 
-pub lines-turn : {b : Book} {F : Sets} {R : List ℕ} (ks : List Kernel) (i last : ℕ) (items : List Core) {masks : List ℕ} → 0 < i → i ≤ last
-    → last ≤ length ks → MarksIn b F R (itemOf ks (i - 1) ∷ (ofKernels (slice i last ks) ++ items)) masks
-    → MarksIn b F R (ofKernels (slice (i - 1) last ks) ++ items) masks
+pub lines-turn : (Q : List Core → Type 0) (ks : List Kernel) (i last : ℕ) (items : List Core) → 0 < i → i ≤ last → last ≤ length ks
+    → Q (itemOf ks (i - 1) ∷ (ofKernels (slice i last ks) ++ items)) → Q (ofKernels (slice (i - 1) last ks) ++ items)
 unfolding ofKernels
-lines-turn ks i last items o l f H =
+lines-turn Q ks i last items o l f H =
     let up : i - 1 + 1 ≡ i = omega arith in
     let below : i - 1 < last = omega arith in
     let cut : slice (i - 1) last ks ≡ kernelAt ks (i - 1) ∷ slice i last ks = rw up at (lines-next ks below f) in
     rw cut H
+
+-- the same of the sets
+pub marks-start : {b : Book} {F : Sets} {R : List ℕ} (ks : List Kernel) (last : ℕ) {items : List Core} {masks : List ℕ} → MarksIn b F R items masks
+    → MarksIn b F R (ofKernels (slice last last ks) ++ items) masks
+marks-start {b} {F} {R} ks last {masks = masks} H = lines-start (λ items. MarksIn b F R items masks) ks last H
+
+pub marks-turn : {b : Book} {F : Sets} {R : List ℕ} (ks : List Kernel) (i last : ℕ) (items : List Core) {masks : List ℕ} → 0 < i → i ≤ last
+    → last ≤ length ks → MarksIn b F R (itemOf ks (i - 1) ∷ (ofKernels (slice i last ks) ++ items)) masks
+    → MarksIn b F R (ofKernels (slice (i - 1) last ks) ++ items) masks
+marks-turn {b} {F} {R} ks i last items {masks} o l f H = lines-turn (λ items. MarksIn b F R items masks) ks i last items o l f H

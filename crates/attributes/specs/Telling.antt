@@ -24,7 +24,7 @@ module _ {b : Book} (limits : WithinLimits b) (declared : Declared b) (ordered :
   right = book-items-right b (small-book ordered limits declared)
 
   -- an entry of the state's items that reaches a is an item of the partial state
-  core-decides : (S a P D : ℕ) {t : Bool} → Decides t (CoreIn b (setsOf (b .rules)) (reachSets (b .rules) (setsOf (b .rules))) S a P D)
+  pub core-decides : (S a P D : ℕ) {t : Bool} → Decides t (CoreIn b (setsOf (b .rules)) (reachSets (b .rules) (setsOf (b .rules))) S a P D)
       → Decides t ((c : ℕ) × Partial b S a P D c)
   core-decides S a P D =
       equivalent

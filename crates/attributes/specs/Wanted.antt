@@ -1,7 +1,7 @@
 -- Items of one terminal and of all: if the items of all terminals have one formula for each attribute, so have those of each terminal. Assumes nothing.
 use Prim.Native.Nat.{ℕ, zero, suc, _<_}
 use native.Mathlib.Omega.{arith}
-use mathlib.Core.Path.{_≡_, refl, ap, sym, _∙_}
+use mathlib.Core.Path.{_≡_, refl, sym, _∙_}
 use mathlib.Core.Bool.{Bool, true, false}
 use mathlib.Core.List.{List}
 use borrow.Author.Tests.{eqb-true, eq-eqb}
@@ -9,9 +9,8 @@ use Rattle.sets.specs.Sets.{bit, single, meets}
 use Rattle.sets.specs.SetsLaws.{bit-single, meets-holds, meets-true}
 use Rattle.sets.specs.Operations.{full, bit-full}
 use Rattle.grammar.specs.Conditions.Decides.{allBelow}
-use Rattle.grammar.specs.Data.Book.{InheritedDefinition, Book}
-use Rattle.grammar.specs.Formulas.Slots.{Slots, ready}
-use Rattle.grammar.specs.Formulas.FormulaCheck.{dotOf, due, check}
+use Rattle.grammar.specs.Data.Book.{Book}
+use Rattle.grammar.specs.Formulas.FormulaCheck.{check}
 use Rattle.grammar.specs.Formulas.FormulaCheckLaws.{check-part}
 use Rattle.grammar.specs.Formulas.FormulaCheckAll.{check-same}
 use Rattle.attributes.specs.Checking.{memberOf, memberIn, CheckHeld}
@@ -32,13 +31,6 @@ module _ (b : Book) (masks : List ℕ) where
   -- the check of one terminal's items
   pub check-single : (a : ℕ) → a < 32 → check b (memberIn masks (single a)) ≡ check b (memberOf masks a)
   check-single a h = check-same b (memberIn masks (single a)) (memberOf masks a) λ d l. meets-single _ a h
-
-  -- a definition that is due with one terminal
-  pub due-single : (a : ℕ) → a < 32 → (slots : Slots) (line : InheritedDefinition)
-      → due b (memberIn masks (single a)) slots line ≡ due b (memberOf masks a) slots line
-  unfolding due
-  due-single a h slots line =
-      ap (λ (t : Bool). elim t [ true ↦ ready b slots (line .rule) (dotOf line) | false ↦ false ]) (meets-single _ a h)
 
   -- all terminals
   pub check-whole : {definitions rules owned : List ℕ} → CheckHeld b definitions rules owned masks → check b (memberIn masks full) ≡ true

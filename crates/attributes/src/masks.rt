@@ -20,7 +20,7 @@ ghost use Rattle.attributes.specs.StateMarks.{MarksHeld, StateMarksIn};
 use items::words::word;
 
 // What is reached by items of a rule, with the dot after `dot` symbols and the lookaheads `own`.
-fn reach_with(nulls: &[u32], reaches: &[u32], rule: usize, dot: usize, own: u32) -> u32
+pub fn reach_with(nulls: &[u32], reaches: &[u32], rule: usize, dot: usize, own: u32) -> u32
     requires { ⌜ (9 * rule + dot < length (now nulls)) × (9 * rule + dot < length (now reaches)) ⌝ }
     ensures { λ r. ⌜ ((G : List Rule) (F : Sets) (R firsts : List ℕ) → SuffixesIn G F (now (nulls .entry)) firsts → ReachesIn G F R (now (reaches .entry))
         → rule < length G → dot ≤ length (rightOf G rule) → r ≡ reachWith F R (after G rule dot) own) ⌝ }
@@ -47,7 +47,7 @@ fn mark_item(nulls: &[u32], reaches: &[u32], rule: usize, dot: usize, own: u32, 
 }
 
 // The set of a rule's item with the dot in front: nothing where the closure, from word `first` of `looks` on, has no lookaheads of its left side.
-fn front_set(
+pub fn front_set(
     rules: &[u32],
     looks: &[u32],
     first: usize,

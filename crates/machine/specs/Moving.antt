@@ -18,17 +18,16 @@ use Rattle.stack.specs.declared.top.Top.{Top}
 use Rattle.stack.specs.Pushes.{Stacks}
 use Rattle.stack.specs.Standing.{BookIn, Message, ConfigIn, CellIn, rowsOf, actionOf, GoesOn}
 
--- the arrays that moves change, as they are lent for a book of `count` rules
-pub record Rooms (count : ℕ) (states inherited synthesized starts rows sets : List ℕ) : Type 0 where
+-- the arrays that moves change, as they are lent
+pub record Rooms (states inherited synthesized starts rows : List ℕ) : Type 0 where
   pub stacks : Stacks states synthesized starts rows
   pub cells-long : length inherited ≡ 16 * length starts + 16
-  pub sets-long : 9 * count ≤ length sets
 
 -- a book that is taken, in the arrays that moves read
-pub record Driven (b : Book) (rules : List ℕ) (count : ℕ) (definitions : List ℕ) (lines : ℕ)
+pub record Driven (b : Book) (rules definitions : List ℕ) (lines : ℕ)
     (owned kernels heads closures nulls reaches places table : List ℕ) : Type 0 where
   pub book-in : BookIn b rules definitions table
-  pub plans-held : PlansHeld b rules count definitions lines owned kernels heads closures nulls reaches places
+  pub plans-held : PlansHeld b rules definitions lines owned kernels heads closures nulls reaches places
 
 -- a configuration over a message, in the arrays that moves change, with its top cell set if its move reads it
 pub record Poised (b : Book) (ks : List Token) (c : Config) (states inherited synthesized starts rows : List ℕ) (top : Top) : Type 0 where

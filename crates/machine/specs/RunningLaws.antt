@@ -140,10 +140,10 @@ pub record Ready (b : Book) (ks : List Token) (c : Config) (states inherited syn
   pub poised : Poised b ks c states inherited synthesized starts rows top
   pub plans-in : PlansIn b slots lists
 
-module _ {b : Book} {ks : List Token} {rules : List ℕ} {count : ℕ} {definitions : List ℕ} {lines : ℕ}
+module _ {b : Book} {ks : List Token} {rules definitions : List ℕ} {lines : ℕ}
     {owned kernels heads closures nulls reaches places firsts down up table actions tokens : List ℕ}
     {states inherited synthesized starts rows slots lists : List ℕ} {top : Top}
-    (R : RunIn b ks rules count definitions lines owned kernels heads closures nulls reaches places firsts down up table actions tokens) (M : Message b ks)
+    (R : RunIn b ks rules definitions lines owned kernels heads closures nulls reaches places firsts down up table actions tokens) (M : Message b ks)
     (U : Underway b ks states inherited synthesized starts rows slots lists top) where
   pub run-low : TopLow starts top
   run-low = top-low M (U .config-in)
@@ -162,7 +162,7 @@ module _ {b : Book} {ks : List Token} {rules : List ℕ} {count : ℕ} {definiti
     module _ {slots′ lists′ inherited′ : List ℕ}
         (sets : (b : Book) (states starts : List ℕ) (st : List Frame)
         → TopAsked b definitions inherited synthesized state (top .depth) states starts st → state < b .states
-        → PlansHeld b rules count definitions lines owned kernels heads closures nulls reaches places → PlansIn b slots lists
+        → PlansHeld b rules definitions lines owned kernels heads closures nulls reaches places → PlansIn b slots lists
         → TopSet b slots′ lists′ inherited inherited′ synthesized state kind states starts st) where
       cell-set : TopSet b slots′ lists′ inherited inherited′ synthesized state kind states starts (framesOf (U .at))
       cell-set = sets b states starts (framesOf (U .at)) run-asked (run-facing refl .state-there) (R .driven .plans-held) (U .plans-in)
@@ -212,20 +212,18 @@ module _ {b : Book} {ks : List Token} {rules : List ℕ} {count : ℕ} {definiti
         run-stepped = stepped U (Q .plans-in) (moved b ks (U .at) run-moves (Q .poised) (run-facing value-is) run-names)
 
 -- the arrays as they are lent, after a step
-pub record RoomsLeft (count words room bytes symbols : ℕ) (states inherited synthesized starts rows sets slots lists : List ℕ) : Type 0 where
-  pub rooms : Rooms count states inherited synthesized starts rows sets
-  pub words-long : length sets ≡ words
+pub record RoomsLeft (room bytes symbols : ℕ) (states inherited synthesized starts rows slots lists : List ℕ) : Type 0 where
+  pub rooms : Rooms states inherited synthesized starts rows
   pub starts-long : length starts ≡ symbols
   pub slots-long : length slots ≡ room
   pub lists-long : length lists ≡ bytes
 
-pub rooms-kept : {count words room bytes symbols : ℕ} {states inherited synthesized starts rows sets slots lists : List ℕ}
-    {states′ inherited′ synthesized′ starts′ rows′ sets′ slots′ lists′ : List ℕ}
-    → RoomsLeft count words room bytes symbols states inherited synthesized starts rows sets slots lists → length states′ ≡ length states
-    → length inherited′ ≡ length inherited → length synthesized′ ≡ length synthesized → length starts′ ≡ length starts → length rows′ ≡ length rows → length sets′ ≡ length sets
-    → length slots′ ≡ length slots → length lists′ ≡ length lists
-    → RoomsLeft count words room bytes symbols states′ inherited′ synthesized′ starts′ rows′ sets′ slots′ lists′
-rooms-kept R a b c d e f g h = record {
+pub rooms-kept : {room bytes symbols : ℕ} {states inherited synthesized starts rows slots lists : List ℕ}
+    {states′ inherited′ synthesized′ starts′ rows′ slots′ lists′ : List ℕ} → RoomsLeft room bytes symbols states inherited synthesized starts rows slots lists
+    → length states′ ≡ length states → length inherited′ ≡ length inherited → length synthesized′ ≡ length synthesized → length starts′ ≡ length starts
+    → length rows′ ≡ length rows → length slots′ ≡ length slots → length lists′ ≡ length lists
+    → RoomsLeft room bytes symbols states′ inherited′ synthesized′ starts′ rows′ slots′ lists′
+rooms-kept R a b c d e g h = record {
   rooms = record {
     stacks = record {
       starts-low = omega (arith, R .rooms .stacks .starts-low);
@@ -234,9 +232,7 @@ rooms-kept R a b c d e f g h = record {
       rows-long = e ∙ R .rooms .stacks .rows-long;
     };
     cells-long = omega (arith, R .rooms .cells-long);
-    sets-long = omega (arith, f, R .rooms .sets-long);
   };
-  words-long = f ∙ R .words-long;
   starts-long = d ∙ R .starts-long;
   slots-long = g ∙ R .slots-long;
   lists-long = h ∙ R .lists-long;

@@ -26,7 +26,6 @@ pub struct Outcome {
 // want of room in the arrays.
 pub fn run(
     rules: &[u32],
-    count: u32,
     definitions: &[u32],
     lines: u32,
     owned: &[u32],
@@ -42,7 +41,6 @@ pub fn run(
     table: &[u8],
     actions: &[u8],
     tokens: &[u32],
-    sets: &mut [u32],
     slots: &mut [u8],
     lists: &mut [u8],
     states: &mut [u32],
@@ -51,13 +49,13 @@ pub fn run(
     starts: &mut [u32],
     rows: &mut [u32],
 ) -> Outcome
-    requires { ⌜ Rooms count (now states) (now inherited) (now synthesized) (now starts) (now rows) (now sets) × (now rows ≡ replicate 5120 0) ⌝ }
+    requires { ⌜ Rooms (now states) (now inherited) (now synthesized) (now starts) (now rows) × (now rows ≡ replicate 5120 0) ⌝ }
     requires { ⌜ ((b : Book) × (ks : List Token)
-        × RunIn b ks (now rules) count (now definitions) lines (now owned) (now kernels) (now heads) (now closures) (now nulls) (now reaches) (now places)
+        × RunIn b ks (now rules) (now definitions) lines (now owned) (now kernels) (now heads) (now closures) (now nulls) (now reaches) (now places)
         (now firsts) (now down) (now up) (now table) (now actions) (now tokens)
         × Message b ks × PlansIn b (now slots) (now lists)) ⌝ }
     ensures { λ r. ⌜ ((b : Book) (ks : List Token)
-        → RunIn b ks (now (rules .entry)) count (now (definitions .entry)) lines (now (owned .entry)) (now (kernels .entry)) (now (heads .entry))
+        → RunIn b ks (now (rules .entry)) (now (definitions .entry)) lines (now (owned .entry)) (now (kernels .entry)) (now (heads .entry))
         (now (closures .entry)) (now (nulls .entry)) (now (reaches .entry)) (now (places .entry)) (now (firsts .entry)) (now (down .entry)) (now (up .entry))
         (now (table .entry)) (now (actions .entry)) (now (tokens .entry))
         → Message b ks → PlansIn b (now (slots .entry)) (now (lists .entry))
@@ -69,7 +67,6 @@ pub fn run(
         let moved = step(
             top,
             rules,
-            count,
             definitions,
             lines,
             owned,
@@ -85,7 +82,6 @@ pub fn run(
             table,
             actions,
             tokens,
-            sets,
             slots,
             lists,
             states,

@@ -14,7 +14,6 @@ use plans::memory::planned;
 // Sets the cell over `height` symbols by the plan of a state and a terminal.
 pub fn set_top(
     rules: &[u32],
-    count: u32,
     definitions: &[u32],
     lines: u32,
     owned: &[u32],
@@ -27,21 +26,20 @@ pub fn set_top(
     state: usize,
     kind: u32,
     height: usize,
-    sets: &mut [u32],
     slots: &mut [u8],
     lists: &mut [u8],
     inherited: &mut [u32],
     synthesized: &[u32],
 )
-    requires { ⌜ Room height (now inherited) (now synthesized) × (kind < 32) × (9 * count ≤ length (now sets)) ⌝ }
+    requires { ⌜ Room height (now inherited) (now synthesized) × (kind < 32) ⌝ }
     requires { ⌜ ((b : Book) × (states : List ℕ) × (starts : List ℕ) × (st : List Frame)
         × TopAsked b (now definitions) (now inherited) (now synthesized) state height states starts st × (state < b .states)
-        × PlansHeld b (now rules) count (now definitions) lines (now owned) (now kernels) (now heads) (now closures) (now nulls) (now reaches)
+        × PlansHeld b (now rules) (now definitions) lines (now owned) (now kernels) (now heads) (now closures) (now nulls) (now reaches)
         (now places)
         × PlansIn b (now slots) (now lists)) ⌝ }
     ensures { λ _. ⌜ ((b : Book) (states starts : List ℕ) (st : List Frame)
         → TopAsked b (now (definitions .entry)) (now (inherited .entry)) (now (synthesized .entry)) state height states starts st → state < b .states
-        → PlansHeld b (now (rules .entry)) count (now (definitions .entry)) lines (now (owned .entry)) (now (kernels .entry)) (now (heads .entry))
+        → PlansHeld b (now (rules .entry)) (now (definitions .entry)) lines (now (owned .entry)) (now (kernels .entry)) (now (heads .entry))
         (now (closures .entry)) (now (nulls .entry)) (now (reaches .entry)) (now (places .entry))
         → PlansIn b (now (slots .entry)) (now (lists .entry))
         → TopSet b (now (slots .exit)) (now (lists .exit)) (now (inherited .entry)) (now (inherited .exit)) (now (synthesized .entry)) state kind states
@@ -49,7 +47,6 @@ pub fn set_top(
 {
     let slot = planned(
         rules,
-        count,
         definitions,
         lines,
         owned,
@@ -61,7 +58,6 @@ pub fn set_top(
         places,
         state,
         kind,
-        sets,
         slots,
         lists,
     );

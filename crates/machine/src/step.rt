@@ -128,7 +128,6 @@ pub fn advance(
 pub fn step(
     top: Top,
     rules: &[u32],
-    count: u32,
     definitions: &[u32],
     lines: u32,
     owned: &[u32],
@@ -144,7 +143,6 @@ pub fn step(
     table: &[u8],
     actions: &[u8],
     tokens: &[u32],
-    sets: &mut [u32],
     slots: &mut [u8],
     lists: &mut [u8],
     states: &mut [u32],
@@ -153,14 +151,14 @@ pub fn step(
     starts: &mut [u32],
     rows: &mut [u32],
 ) -> Moved
-    requires { ⌜ Rooms count (now states) (now inherited) (now synthesized) (now starts) (now rows) (now sets) ⌝ }
+    requires { ⌜ Rooms (now states) (now inherited) (now synthesized) (now starts) (now rows) ⌝ }
     requires { ⌜ ((b : Book) × (ks : List Token)
-        × RunIn b ks (now rules) count (now definitions) lines (now owned) (now kernels) (now heads) (now closures) (now nulls) (now reaches) (now places)
+        × RunIn b ks (now rules) (now definitions) lines (now owned) (now kernels) (now heads) (now closures) (now nulls) (now reaches) (now places)
         (now firsts) (now down) (now up) (now table) (now actions) (now tokens)
         × Message b ks
         × Underway b ks (now states) (now inherited) (now synthesized) (now starts) (now rows) (now slots) (now lists) top) ⌝ }
     ensures { λ r. ⌜ ((b : Book) (ks : List Token)
-        → RunIn b ks (now (rules .entry)) count (now (definitions .entry)) lines (now (owned .entry)) (now (kernels .entry)) (now (heads .entry))
+        → RunIn b ks (now (rules .entry)) (now (definitions .entry)) lines (now (owned .entry)) (now (kernels .entry)) (now (heads .entry))
         (now (closures .entry)) (now (nulls .entry)) (now (reaches .entry)) (now (places .entry)) (now (firsts .entry)) (now (down .entry)) (now (up .entry))
         (now (table .entry)) (now (actions .entry)) (now (tokens .entry))
         → Message b ks
@@ -177,7 +175,6 @@ pub fn step(
     if reads_cell(rules, code) {
         set_top(
             rules,
-            count,
             definitions,
             lines,
             owned,
@@ -190,7 +187,6 @@ pub fn step(
             state,
             kind,
             depth,
-            sets,
             slots,
             lists,
             inherited,

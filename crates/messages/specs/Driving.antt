@@ -7,14 +7,13 @@ use native.Mathlib.Omega.{arith}
 use lib.ListN.{length, drop, replicate}
 use Rattle.grammar.specs.Limits.{PAGE-WORDS, MAX-STACK}
 use Rattle.grammar.specs.Data.Book.{Book as Lines}
-use Rattle.grammar.specs.Formulas.FormulaCheck as grammar
 use Rattle.grammar.specs.Evaluator.Tree.{Token}
 use Rattle.grammar.specs.Engine.{tokensOf}
 use Rattle.book.specs.declared.Book.{Book}
 use Rattle.conditions.specs.AskedLaws.{counted}
 use Rattle.attributes.specs.Checking.{CheckHeld}
 use Rattle.agreement.specs.OneFormula.{held-check, rules-low}
-use Rattle.plans.specs.Idle.{PlacesIn}
+use Rattle.plans.specs.Places.{PlacesIn}
 use Rattle.plans.specs.Plans.{PlansIn, NoneNoted, NoneListed}
 use Rattle.plans.specs.PlansLaws.{plans-none, none-noted}
 use Rattle.machine.specs.Moving.{Rooms, Driven}
@@ -33,8 +32,8 @@ module _ {numbers : Book} {inherited synthesized rules definitions kernels goes 
   places-asked = held-check (asked-formulas (h .ready)) (s .owned-in) (omega (arith, zeros (9 * length (b .rules))))
 
   -- and with them
-  module _ {places : List ℕ} (L : PlacesIn b (grammar.definitions b) places) where
-    driven : Driven b rules (numbers .rules) definitions (numbers .«inherited_definitions») own kernels starts closures vanishes reached places table
+  module _ {places : List ℕ} (L : PlacesIn b 0 places) where
+    driven : Driven b rules definitions (numbers .«inherited_definitions») own kernels starts closures vanishes reached places table
     driven = record {
       book-in = record {
         spelled = h .spelled;
@@ -45,6 +44,7 @@ module _ {numbers : Book} {inherited synthesized rules definitions kernels goes 
       };
       plans-held = record {
         firsts = h .ready .begins;
+        count = numbers .rules;
         terminals = numbers .terminals;
         states = numbers .states;
         formulas-held = asked-formulas (h .ready);
@@ -54,7 +54,7 @@ module _ {numbers : Book} {inherited synthesized rules definitions kernels goes 
     }
 
     pub run-in : {tokens : List ℕ} {ks : List Token} → tokensOf tokens ≡ some ks
-        → RunIn b ks rules (numbers .rules) definitions (numbers .«inherited_definitions») own kernels starts closures vanishes reached places firsts down up
+        → RunIn b ks rules definitions (numbers .«inherited_definitions») own kernels starts closures vanishes reached places firsts down up
         table actions tokens
     run-in e = record { driven = driven; left-in = s .left-in; actions-in = h .ready .tables-in .actions-in; tokens-in = e }
 
@@ -75,9 +75,9 @@ module _ {numbers : Book} {inherited synthesized rules definitions kernels goes 
   places-room = omega (arith, rules-low (asked-formulas (h .ready)))
 
 -- the stacks as they are before the first move, with room for n symbols
-pub run-room : (n : ℕ) → n ≤ MAX-STACK → {count : ℕ} {rows sets : List ℕ} → rows ≡ replicate PAGE-WORDS 0 → 9 * count ≤ length sets
-    → Rooms count (replicate (n + 1) 0) (replicate (16 * n + 16) 0) (replicate (33 * n) 0) (replicate n 0) rows sets
-run-room n low e long = record {
+pub run-room : (n : ℕ) → n ≤ MAX-STACK → {rows : List ℕ} → rows ≡ replicate PAGE-WORDS 0
+    → Rooms (replicate (n + 1) 0) (replicate (16 * n + 16) 0) (replicate (33 * n) 0) (replicate n 0) rows
+run-room n low e = record {
   stacks = record {
     starts-low = omega (arith, zeros n);
     states-long = omega (arith, zeros n, zeros (n + 1));
@@ -85,5 +85,4 @@ run-room n low e long = record {
     rows-long = ap length e ∙ zeros PAGE-WORDS;
   };
   cells-long = omega (arith, zeros n, zeros (16 * n + 16));
-  sets-long = long;
 }

@@ -18,7 +18,7 @@ use items::words::fill;
 use machine::run::Outcome;
 use machine::run::run;
 use packing::packing::clear;
-use plans::idle::mark_places;
+use plans::members::mark_places;
 
 // Symbols of the short stacks and of the full ones. Each has a state, a cell of 16 words, a record of 33 and its start; above them stand the state and the
 // cell on top.
@@ -37,7 +37,7 @@ const SHORT_WORDS: usize = 48;
 // The answer where the symbols have no room.
 const NO_ROOM: u32 = 17;
 
-// The run by stacks of the caller, whose symbols are as many as their bounds, and by its lists of plans. `sets` and `slots` may hold anything. Nothing is said
+// The run by stacks of the caller, whose symbols are as many as their bounds, and by its lists of plans. `slots` may hold anything. Nothing is said
 // of a 17 for want of room in stacks that are not full.
 fn message_on(
     book: Book,
@@ -54,7 +54,6 @@ fn message_on(
     table: &[u8],
     actions: &[u8],
     tokens: &[u32],
-    sets: &mut [u32],
     slots: &mut [u8],
     rows: &mut [u32],
     lists: &mut [u8],
@@ -66,7 +65,7 @@ fn message_on(
     requires { ⌜ Some (TakenBook book (now inherited) (now synthesized) (now rules) (now definitions) (now kernels) (now goes) (now vanishes)
         (now reached) (now starts) (now lookaheads) (now table) (now actions)) ⌝ }
     requires { ⌜ Message (book .terminals) (now tokens) × (now rows ≡ replicate PAGE-WORDS 0)
-        × Rooms (book .rules) (now states) (now cells) (now records) (now bounds) (now rows) (now sets) × (32 * book .states ≤ length (now slots)) × NoneListed (now lists) ⌝ }
+        × Rooms (now states) (now cells) (now records) (now bounds) (now rows) × (32 * book .states ≤ length (now slots)) × NoneListed (now lists) ⌝ }
     ensures { λ r. ⌜ ((b : Lines) → TakenBook book (now (inherited .entry)) (now (synthesized .entry)) (now (rules .entry))
         (now (definitions .entry)) (now (kernels .entry)) (now (goes .entry)) (now (vanishes .entry)) (now (reached .entry)) (now (starts .entry))
         (now (lookaheads .entry)) (now (table .entry)) (now (actions .entry)) b
@@ -97,7 +96,6 @@ fn message_on(
     fill(slots, 32 * book.states as usize, 0);
     run(
         rules,
-        book.rules,
         definitions,
         book.inherited_definitions,
         &own,
@@ -113,7 +111,6 @@ fn message_on(
         table,
         actions,
         tokens,
-        sets,
         slots,
         lists,
         states,
@@ -140,14 +137,12 @@ fn message_short(
     table: &[u8],
     actions: &[u8],
     tokens: &[u32],
-    sets: &mut [u32],
     slots: &mut [u8],
     rows: &mut [u32],
 ) -> Outcome
     requires { ⌜ Some (TakenBook book (now inherited) (now synthesized) (now rules) (now definitions) (now kernels) (now goes) (now vanishes)
         (now reached) (now starts) (now lookaheads) (now table) (now actions)) ⌝ }
-    requires { ⌜ Message (book .terminals) (now tokens) × (now rows ≡ replicate PAGE-WORDS 0) × (9 * book .rules ≤ length (now sets))
-        × (32 * book .states ≤ length (now slots)) ⌝ }
+    requires { ⌜ Message (book .terminals) (now tokens) × (now rows ≡ replicate PAGE-WORDS 0) × (32 * book .states ≤ length (now slots)) ⌝ }
     ensures { λ r. ⌜ ((b : Lines) → TakenBook book (now (inherited .entry)) (now (synthesized .entry)) (now (rules .entry))
         (now (definitions .entry)) (now (kernels .entry)) (now (goes .entry)) (now (vanishes .entry)) (now (reached .entry)) (now (starts .entry))
         (now (lookaheads .entry)) (now (table .entry)) (now (actions .entry)) b
@@ -174,7 +169,6 @@ fn message_short(
         table,
         actions,
         tokens,
-        sets,
         slots,
         rows,
         &mut lists,
@@ -201,14 +195,12 @@ fn message_full(
     table: &[u8],
     actions: &[u8],
     tokens: &[u32],
-    sets: &mut [u32],
     slots: &mut [u8],
     rows: &mut [u32],
 ) -> Outcome
     requires { ⌜ Some (TakenBook book (now inherited) (now synthesized) (now rules) (now definitions) (now kernels) (now goes) (now vanishes)
         (now reached) (now starts) (now lookaheads) (now table) (now actions)) ⌝ }
-    requires { ⌜ Message (book .terminals) (now tokens) × (now rows ≡ replicate PAGE-WORDS 0) × (9 * book .rules ≤ length (now sets))
-        × (32 * book .states ≤ length (now slots)) ⌝ }
+    requires { ⌜ Message (book .terminals) (now tokens) × (now rows ≡ replicate PAGE-WORDS 0) × (32 * book .states ≤ length (now slots)) ⌝ }
     ensures { λ r. ⌜ ((b : Lines) → TakenBook book (now (inherited .entry)) (now (synthesized .entry)) (now (rules .entry))
         (now (definitions .entry)) (now (kernels .entry)) (now (goes .entry)) (now (vanishes .entry)) (now (reached .entry)) (now (starts .entry))
         (now (lookaheads .entry)) (now (table .entry)) (now (actions .entry)) b
@@ -235,7 +227,6 @@ fn message_full(
         table,
         actions,
         tokens,
-        sets,
         slots,
         rows,
         &mut lists,
@@ -262,14 +253,12 @@ pub fn message(
     table: &[u8],
     actions: &[u8],
     tokens: &[u32],
-    sets: &mut [u32],
     slots: &mut [u8],
     rows: &mut [u32],
 ) -> Outcome
     requires { ⌜ Some (TakenBook book (now inherited) (now synthesized) (now rules) (now definitions) (now kernels) (now goes) (now vanishes)
         (now reached) (now starts) (now lookaheads) (now table) (now actions)) ⌝ }
-    requires { ⌜ Message (book .terminals) (now tokens) × (now rows ≡ replicate PAGE-WORDS 0) × (9 * book .rules ≤ length (now sets))
-        × (32 * book .states ≤ length (now slots)) ⌝ }
+    requires { ⌜ Message (book .terminals) (now tokens) × (now rows ≡ replicate PAGE-WORDS 0) × (32 * book .states ≤ length (now slots)) ⌝ }
     ensures { λ r. ⌜ ((b : Lines) → TakenBook book (now (inherited .entry)) (now (synthesized .entry)) (now (rules .entry))
         (now (definitions .entry)) (now (kernels .entry)) (now (goes .entry)) (now (vanishes .entry)) (now (reached .entry)) (now (starts .entry))
         (now (lookaheads .entry)) (now (table .entry)) (now (actions .entry)) b
@@ -292,7 +281,6 @@ pub fn message(
             table,
             actions,
             tokens,
-            sets,
             slots,
             rows,
         );
@@ -312,7 +300,6 @@ pub fn message(
         table,
         actions,
         tokens,
-        sets,
         slots,
         rows,
     );
@@ -335,7 +322,6 @@ pub fn message(
         table,
         actions,
         tokens,
-        sets,
         slots,
         rows,
     )

@@ -1,6 +1,6 @@
--- When a definition is due: the test over the attributes that are known is that of the one-formula check, where some formula stands for each of them.
--- Assumes nothing.
-use Prim.Native.Nat.{ℕ, zero, suc, _<_, _≤_}
+-- When a definition whose item is in the partial state is due: its left side is settled, or it does not wait for it. Over the attributes that are known
+-- this is the test of the one-formula check, where some formula stands for each of them. Assumes nothing.
+use Prim.Native.Nat.{ℕ, zero, suc, _+_, _*_, _<_, _≤_}
 use native.Mathlib.Omega.{arith}
 use mathlib.Core.Path.{_≡_, refl, sym, ap, _∙_}
 use mathlib.Core.Bool.{Bool, true, false}
@@ -8,21 +8,28 @@ use mathlib.Core.Option.{Option, none, some}
 use mathlib.Core.List.{List, [], _∷_}
 use lib.Dec.{eqb}
 use lib.ListN.{length, getD}
-use Rattle.sets.specs.Sets.{bit, single}
+use Rattle.sets.specs.Sets.{bit, subset}
+use Rattle.grammar.specs.Limits.{MAX-INHERITED}
 use Rattle.grammar.specs.Conditions.Decides.{allBelow}
 use Rattle.grammar.specs.Data.Symbol.{leftOf}
 use Rattle.grammar.specs.Data.Term.{number}
 use Rattle.grammar.specs.Data.Book.{InheritedDefinition, Book, ownerAt}
 use Rattle.grammar.specs.Formulas.Formula.{Formula}
-use Rattle.grammar.specs.Formulas.Slots.{Slots, slotAt, settledBelow, attributes, ready}
-use Rattle.grammar.specs.Formulas.FormulaCheck.{dotOf, due}
+use Rattle.grammar.specs.Formulas.Slots.{Slots, slotAt, settledBelow, attributes}
+use Rattle.grammar.specs.Formulas.FormulaCheck as grammar
+use Rattle.grammar.specs.Formulas.FormulaCheck.{dotOf, lineAt}
 use Rattle.grammar.specs.Formulas.Plan.{settledIn, readyIn, dueIn}
-use Rattle.attributes.specs.Owned.{isFilled, KnownIn}
-use Rattle.attributes.specs.Checking.{memberOf, memberIn}
-use Rattle.attributes.specs.Wanted.{due-single}
+use Rattle.attributes.specs.Owned.{isFilled, KnownIn, settled-is}
+use Rattle.attributes.specs.Checking.{CheckHeld}
+use Rattle.attributes.specs.CheckingLaws.{position-word, left-word}
+
+-- the attributes that are known, as a set
+pub record KnownSet (known : List Bool) (set : ℕ) : Type 0 where
+  pub long : length known ≡ MAX-INHERITED
+  pub known-is : (K : ℕ) → K < MAX-INHERITED → bit set K ≡ getD known K true
 
 -- some formula for each attribute that is known
-unfoldable pub slotsFor : List Bool → Slots
+slotsFor : List Bool → Slots
 slotsFor [] = []
 slotsFor (true ∷ known) = some (number 0) ∷ slotsFor known
 slotsFor (false ∷ known) = none ∷ slotsFor known
@@ -35,8 +42,8 @@ filled-for (false ∷ known) zero h = refl
 filled-for (true ∷ known) (suc K) h = filled-for known K (omega arith)
 filled-for (false ∷ known) (suc K) h = filled-for known K (omega arith)
 
-pub known-for : (known : List Bool) {set : ℕ} → length known ≡ 16 → ((K : ℕ) → K < 16 → bit set K ≡ getD known K true) → KnownIn (slotsFor known) set
-known-for known long is = record { known-is = λ K h. is K h ∙ sym (filled-for known K (omega arith)) }
+known-for : {known : List Bool} {set : ℕ} → KnownSet known set → KnownIn (slotsFor known) set
+known-for {known} S = record { known-is = λ K h. S .known-is K h ∙ sym (filled-for known K (omega (arith, S .long))) }
 
 module _ (known : List Bool) where
   -- what A owns below n
@@ -58,18 +65,39 @@ module _ (known : List Bool) where
       by false x k e {v = true} q = q
       by false x k e {v = false} q = q
 
-  module _ (b : Book) (few : attributes b ≤ length known) where
-    ready-for : (P D : ℕ) → ready b (slotsFor known) P D ≡ readyIn b known P D
-    unfolding ready readyIn settledIn
-    ready-for P zero = settled-for (b .inheritedOwners) (leftOf (b .rules) P) (attributes b) few
-    ready-for P (suc D) = refl
+-- where the item is in the partial state
+pub due-own : (b : Book) (member : ℕ → ℕ → Bool) (known : List Bool) (line : InheritedDefinition) → member (line .rule) (dotOf line) ≡ true
+    → dueIn b member known line ≡ readyIn b known (line .rule) (dotOf line)
+unfolding dueIn
+due-own b member known line e = rw (dueIn, e)
 
-    pub due-for : (member : ℕ → ℕ → Bool) (line : InheritedDefinition) → due b member (slotsFor known) line ≡ dueIn b member known line
-    unfolding due dueIn
-    due-for member line =
-        ap (λ u. elim (member (line .rule) (dotOf line)) [ true ↦ u | false ↦ false ]) (ready-for (line .rule) (dotOf line))
+module _ (b : Book) (known : List Bool) (P : ℕ) where
+  behind-dot : (D : ℕ) → (D ≡ 0 → ⊥) → readyIn b known P D ≡ true
+  unfolding readyIn
+  behind-dot zero n = absurd (n refl)
+  behind-dot (suc D) n = refl
 
--- the answer for a set of one terminal is that for the terminal
-pub due-told : (b : Book) (masks : List ℕ) {wanted a : ℕ} → wanted ≡ single a → a < 32 → (slots : Slots) (line : InheritedDefinition) {t : Bool}
-    → t ≡ due b (memberIn masks wanted) slots line → t ≡ due b (memberOf masks a) slots line
-due-told b masks {a = a} e h slots line q = rw e at q ∙ due-single b masks a h slots line
+  front-dot : (D : ℕ) → D ≡ 0 → readyIn b known P D ≡ settledIn (b .inheritedOwners) known (leftOf (b .rules) P)
+  unfolding readyIn
+  front-dot D e = rw (e, readyIn)
+
+module _ {b : Book} {definitions rules owned masks : List ℕ} (H : CheckHeld b definitions rules owned masks) {d : ℕ} (l : d < grammar.definitions b)
+    (known : List Bool) {position : ℕ} (p : position ≡ getD definitions (49 * d + 1) 0) where
+  -- a definition that does not wait
+  pub ready-behind : (position ≡ 1 → ⊥) → true ≡ readyIn b known (lineAt b d .rule) (dotOf (lineAt b d))
+  ready-behind n =
+      sym (behind-dot b known (lineAt b d .rule) (dotOf (lineAt b d)) (λ z. n (omega (arith, position-word H l, H .line-in d l .position-low))))
+
+  -- one that waits for its left side
+  pub ready-front : position ≡ 1 → {set : ℕ} → KnownSet known set → {rule left : ℕ} → rule ≡ getD definitions (49 * d) 0
+      → left ≡ getD rules (10 * rule) 0 → subset (getD owned left 0) set ≡ readyIn b known (lineAt b d .rule) (dotOf (lineAt b d))
+  unfolding settledIn
+  ready-front o {set} S {rule} {left} r q =
+      let A = leftOf (b .rules) (lineAt b d .rule) in
+      let is : left ≡ A = q ∙ ap (λ (P : ℕ). getD rules (10 * P) 0) r ∙ left-word H l in
+      let low : A < 32 = H .left-low (lineAt b d .rule) (H .line-in d l .rule-there) in
+      let few : attributes b ≤ length known = omega (arith, H .premises .attributes-limit, S .long) in
+      ap (λ (x : ℕ). subset (getD owned x 0) set) is ∙ ap (λ (x : ℕ). subset x set) (H .owned-in .set-is A low)
+      ∙ settled-is (b .inheritedOwners) (known-for S) A (attributes b) (H .premises .attributes-limit)
+      ∙ settled-for known (b .inheritedOwners) A (attributes b) few
+      ∙ sym (front-dot b known (lineAt b d .rule) (dotOf (lineAt b d)) (omega (arith, position-word H l)))

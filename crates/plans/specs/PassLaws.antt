@@ -1,6 +1,5 @@
--- Laws of a planning pass over bytes, and of the passes: each leaves their end as it is, and the last one is at it. Assumes nothing.
+-- Laws of the planning passes over bytes: each leaves their end as it is, and the last one is at it. Assumes nothing.
 use Prim.Native.Nat.{ℕ, _+_, _≤_}
-use native.Mathlib.Numerals.{add-one}
 use native.Mathlib.Omega.{arith}
 use mathlib.Core.Path.{_≡_, refl, sym, ap, _∙_}
 use mathlib.Core.Logic.{inl, inr}
@@ -19,17 +18,6 @@ use Rattle.plans.specs.PlanningLaws.{Right, planning-growing, unplanned-
 use Rattle.plans.specs.PlanRows.{PlanRow, PlanningIn}
 
 module _ (b : Book) (member : ℕ → ℕ → Bool) where
-  pub pass-start : (s : Planning) {row : List ℕ} {from known count : ℕ} → PlanningIn b member s row from known count
-      → PlanningIn b member (visits (planLine b member) 0 s) row from known count
-  unfolding visits
-  pass-start s R = R
-
-  pub pass-turn : (i : ℕ) (s : Planning) {row : List ℕ} {from known count : ℕ}
-      → PlanningIn b member (planLine b member i (visits (planLine b member) i s)) row from known count
-      → PlanningIn b member (visits (planLine b member) (i + 1) s) row from known count
-  unfolding visits
-  pass-turn i s R = rw (add-one i, visits) R
-
   -- how many are set, by the count of lines
   right : (s : Planning) {row : List ℕ} {from known count : ℕ} → PlanningIn b member s row from known count → Right b member s
   unfolding linesOf knownOf
@@ -68,11 +56,8 @@ module _ (b : Book) (member : ℕ → ℕ → Bool) where
     pub few-lines : count ≤ MAX-INHERITED
     few-lines = omega (arith, P .holds .row-is .count-is, P .holds .planned .count-is, done-length (knownOf (P .now-at)), P .holds .planned .known-long)
 
-    module _ {row′ : List ℕ} {known′ count′ n : ℕ} (all : n ≡ definitions b)
-        (pass : PlanningIn b member (visits (planLine b member) n (P .now-at)) row′ from known′ count′) where
-      R : PlanningIn b member (visits (planLine b member) (definitions b) (P .now-at)) row′ from known′ count′
-      R = rw all at pass
-
+    module _ {row′ : List ℕ} {known′ count′ : ℕ}
+        (R : PlanningIn b member (visits (planLine b member) (definitions b) (P .now-at)) row′ from known′ count′) where
       pub passing-turn : Passing start row′ from known′ count′
       passing-turn = record {
         now-at = visits (planLine b member) (definitions b) (P .now-at);

@@ -15,15 +15,14 @@ use Rattle.grammar.specs.Limits.{MAX-INHERITED}
 use Rattle.grammar.specs.Automaton.TestLaws.{true-false}
 use Rattle.grammar.specs.Data.Book.{Book}
 use Rattle.grammar.specs.Formulas.FormulaCheck as grammar
-use Rattle.grammar.specs.Formulas.FormulaCheck.{lineAt, due}
+use Rattle.grammar.specs.Formulas.FormulaCheck.{dotOf, lineAt}
 use Rattle.grammar.specs.Formulas.FormulaCheckSteps.{done-more, done-length}
-use Rattle.grammar.specs.Formulas.Plan.{dueIn}
-use Rattle.attributes.specs.Owned.{KnownIn}
+use Rattle.grammar.specs.Formulas.Plan.{readyIn, dueIn}
 use Rattle.attributes.specs.Checking.{CheckHeld}
 use Rattle.attributes.specs.CheckingLaws.{attribute-word, attribute-low}
 use Rattle.plans.specs.Planning.{Planning, planning, linesOf, knownOf, planLine}
 use Rattle.plans.specs.PlanningLaws.{planLine-by, planLine-sets, planned-more}
-use Rattle.plans.specs.DueLaws.{slotsFor, known-for, due-for}
+use Rattle.plans.specs.DueLaws.{KnownSet, due-own}
 use Rattle.plans.specs.PlanRows.{PlanRow, Elsewhere, PlanningIn}
 
 -- Outside a part of the row
@@ -85,33 +84,33 @@ known-more done known A long is low K h = by (ℕ-discrete K A)
     by (yes e) = rw e (with-self known A (omega arith) ∙ sym (getD-set-same done A true true (omega arith)))
     by (no n) = with-other known A K (omega arith) n ∙ is K h ∙ sym (getD-set-other done A K true true n)
 
+-- what is known, as a set
+pub known-set : {b : Book} {member : ℕ → ℕ → Bool} (s : Planning) {row : List ℕ} {from known count : ℕ} → PlanningIn b member s row from known count
+    → KnownSet (knownOf s) known
+known-set s R = record { long = R .planned .known-long; known-is = R .known-is }
+
 module _ {b : Book} {definitions rules owned masks : List ℕ} (H : CheckHeld b definitions rules owned masks) {d : ℕ} (l : d < grammar.definitions b)
     {member : ℕ → ℕ → Bool} where
-  pub due-known : (s : Planning) {row : List ℕ} {from known count : ℕ} → PlanningIn b member s row from known count → KnownIn (slotsFor (knownOf s)) known
-  due-known s R = known-for (knownOf s) (R .planned .known-long) (R .known-is)
-
   -- the attribute's bit tells whether it is set
   known-word : (s : Planning) {row : List ℕ} {from known count : ℕ} → PlanningIn b member s row from known count
       → bit known (getD definitions (49 * d + 2) 0) ≡ getD (knownOf s) (lineAt b d .attribute) true
   known-word s R = R .known-is (getD definitions (49 * d + 2) 0) (attribute-low H l) ∙ ap (λ (K : ℕ). getD (knownOf s) K true) (attribute-word H l)
 
-  due-word : (s : Planning) {row : List ℕ} {from known count : ℕ} → PlanningIn b member s row from known count
-      → due b member (slotsFor (knownOf s)) (lineAt b d) ≡ dueIn b member (knownOf s) (lineAt b d)
-  due-word s R = due-for (knownOf s) b (omega (arith, H .premises .attributes-limit, R .planned .known-long)) member (lineAt b d)
-
-  -- nothing happens where the attribute is set, or the definition is not due
+  -- nothing happens where the attribute is set, or the definition waits
   pub visit-set : (s : Planning) {row : List ℕ} {from known count : ℕ} → PlanningIn b member s row from known count
       → bit known (getD definitions (49 * d + 2) 0) ≡ true → PlanningIn b member (planLine b member d s) row from known count
   unfolding knownOf
   visit-set (planning lines done) {row} {from} {known} {count} R e =
       planLine-by b member (λ t. PlanningIn b member t row from known count) d lines done R (λ n h. true-false (sym (known-word (planning lines done) R) ∙ e) n)
 
-  pub visit-undue : (s : Planning) {row : List ℕ} {from known count : ℕ} → PlanningIn b member s row from known count
-      → {t : Bool} → t ≡ due b member (slotsFor (knownOf s)) (lineAt b d) → not t ≡ true → PlanningIn b member (planLine b member d s) row from known count
+  pub visit-waits : member (lineAt b d .rule) (dotOf (lineAt b d)) ≡ true → (s : Planning) {row : List ℕ} {from known count : ℕ}
+      → PlanningIn b member s row from known count
+      → {t : Bool} → t ≡ readyIn b (knownOf s) (lineAt b d .rule) (dotOf (lineAt b d)) → not t ≡ true
+      → PlanningIn b member (planLine b member d s) row from known count
   unfolding knownOf
-  visit-undue (planning lines done) {row} {from} {known} {count} R {t} e f =
+  visit-waits own (planning lines done) {row} {from} {known} {count} R {t} e f =
       planLine-by b member (λ s. PlanningIn b member s row from known count) d lines done R
-      (λ n h. true-false (e ∙ due-word (planning lines done) R ∙ h) (not-true t f))
+      (λ n h. true-false (e ∙ sym (due-own b member done (lineAt b d) own) ∙ h) (not-true t f))
 
   -- where it is not set, there is room for a line more
   pub count-low : (s : Planning) {row : List ℕ} {from known count : ℕ} → PlanningIn b member s row from known count
@@ -129,14 +128,15 @@ module _ {b : Book} {definitions rules owned masks : List ℕ} (H : CheckHeld b 
       )
 
   -- any other is planned
-  pub visit-sets : (s : Planning) {row : List ℕ} {from known count : ℕ} → PlanningIn b member s row from known count
+  pub visit-sets : member (lineAt b d .rule) (dotOf (lineAt b d)) ≡ true → (s : Planning) {row : List ℕ} {from known count : ℕ}
+      → PlanningIn b member s row from known count
       → bit known (getD definitions (49 * d + 2) 0) ≡ false
-      → {t : Bool} → t ≡ due b member (slotsFor (knownOf s)) (lineAt b d) → not t ≡ false
+      → {t : Bool} → t ≡ readyIn b (knownOf s) (lineAt b d .rule) (dotOf (lineAt b d)) → not t ≡ false
       → PlanningIn b member (planLine b member d s) (set row (from + count) d) from (with known (getD definitions (49 * d + 2) 0)) (count + 1)
   unfolding knownOf linesOf
-  visit-sets (planning lines done) {row} {from} {known} {count} R e {t} f g =
+  visit-sets own (planning lines done) {row} {from} {known} {count} R e {t} f g =
       let open-line : getD done (lineAt b d .attribute) true ≡ false = sym (known-word (planning lines done) R) ∙ e in
-      let is-due : dueIn b member done (lineAt b d) ≡ true = sym (due-word (planning lines done) R) ∙ sym f ∙ not-false t g in
+      let is-due : dueIn b member done (lineAt b d) ≡ true = due-own b member done (lineAt b d) own ∙ sym f ∙ not-false t g in
       let low = count-low (planning lines done) R e in
       rw (planLine-sets b member d lines done open-line is-due) (record {
         planned = planned-more b member d l (R .planned) open-line is-due;

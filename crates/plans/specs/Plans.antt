@@ -4,19 +4,17 @@
 -- worked out there, and not noted. Assumes nothing.
 use Prim.Native.Nat.{ℕ, _+_, _*_, _-_, _<_, _≤_}
 use mathlib.Core.Path.{_≡_}
-use mathlib.Core.Bool.{Bool, true}
 use mathlib.Core.List.{List}
 use lib.ListN.{length, getD, replicate}
 use Rattle.grammar.specs.Data.Book.{Book}
 use Rattle.grammar.specs.Automaton.FirstSets.{setsOf}
 use Rattle.grammar.specs.Automaton.ReachSets.{reachSets}
 use Rattle.grammar.specs.Formulas.PartialLaws.{partialAt}
-use Rattle.grammar.specs.Formulas.FormulaCheck as grammar
 use Rattle.grammar.specs.Formulas.FormulaCheck.{listed}
 use Rattle.grammar.specs.Formulas.Slots.{attributes}
 use Rattle.attributes.specs.Owned.{OwnedIn}
 use Rattle.agreement.specs.OneFormula.{FormulasHeld}
-use Rattle.plans.specs.Idle.{PlacesIn}
+use Rattle.plans.specs.Places.{PlacesIn}
 use Rattle.plans.specs.Planning.{plan}
 use Rattle.plans.specs.PlanRows.{PlanRow}
 
@@ -65,24 +63,12 @@ pub record PlanTold (b : Book) (slots lists : List ℕ) (S a slot : ℕ) : Type 
   pub slot-low : 17 * slot + 17 < length lists
   pub plan-in : PlanIn (planOf b S a) lists slot
 
--- the plans of the first n partial states of state S are known to have no lines, and the other slots are as they were
-pub record NoLines (S n : ℕ) (old new : List ℕ) : Type 0 where
-  pub long : length new ≡ length old
-  pub none : (a : ℕ) → a < n → getD new (32 * S + a) 0 ≡ 1
-  pub before : (i : ℕ) → i < 32 * S → getD new i 0 ≡ getD old i 0
-  pub behind : (i : ℕ) → 32 * S + n ≤ i → getD new i 0 ≡ getD old i 0
-
--- whether it was found that the plans of state S have no lines
-pub record IdleTold (b : Book) (slots lists : List ℕ) (S : ℕ) (r : Bool) : Type 0 where
-  pub plans-in : PlansIn b slots lists
-  pub told : r ≡ true → (a : ℕ) → a < 32 → PlanTold b slots lists S a 0
-
 -- what the plans ask of a book and of its arrays
-pub record PlansHeld (b : Book) (rules : List ℕ) (count : ℕ) (definitions : List ℕ) (lines : ℕ)
-    (owned kernels starts closures nulls reaches places : List ℕ) : Type 0 where
+pub record PlansHeld (b : Book) (rules definitions : List ℕ) (lines : ℕ) (owned kernels starts closures nulls reaches places : List ℕ) : Type 0 where
   pub firsts : List ℕ
+  pub count : ℕ
   pub terminals : ℕ
   pub states : ℕ
   pub formulas-held : FormulasHeld b rules count definitions lines kernels starts closures nulls firsts reaches terminals states
   pub owned-in : OwnedIn (b .inheritedOwners) (attributes b) owned
-  pub places-in : PlacesIn b (grammar.definitions b) places
+  pub places-in : PlacesIn b 0 places

@@ -1,15 +1,15 @@
--- Laws of the plans of a book: that sets of terminals give them, that they set the cells, and how the memory of them grows. Assumes nothing.
+-- Laws of the plans of a book: when they have no lines, that they set the cells, and how the memory of them grows. Assumes nothing.
 use Prim.Native.Nat.{ℕ, _+_, _*_, _-_, _<_, _≤_}
 use native.Mathlib.Omega.{arith}
-use native.Mathlib.Decide.{ℕ-discrete, decLt}
+use native.Mathlib.Decide.{ℕ-discrete}
 use mathlib.Core.Path.{_≡_, refl, sym, ap, _∙_}
 use mathlib.Core.List.{List, [], _++_}
+use lib.Bits.{bitOr}
 use lib.ListN.{length, getD, drop, set, replicate, length-set, length-append, length-replicate, length-drop, getD-replicate, List·getD-append}
 use lib.Seq.{getD-set-same, getD-set-other}
 use Rattle.grammar.specs.Limits.{MAX-INHERITED}
 use Rattle.grammar.specs.Data.Book.{Book}
 use Rattle.grammar.specs.Format.Ordered.{Ordered, Spelled}
-use Rattle.grammar.specs.Conditions.Decides.{false-of}
 use Rattle.grammar.specs.Conditions.Meaning.{WithinLimits, Declared}
 use Rattle.grammar.specs.BookFacts.{small-book}
 use Rattle.grammar.specs.Refusal.{Sound}
@@ -19,32 +19,27 @@ use Rattle.grammar.specs.Automaton.ReachSets.{reachSets}
 use Rattle.grammar.specs.Automaton.ItemsRightLaws.{book-items-right}
 use Rattle.grammar.specs.Evaluator.Machine.{Frame, cell}
 use Rattle.grammar.specs.Formulas.PartialLaws.{partialAt, partial-items}
-use Rattle.grammar.specs.Formulas.FormulaCheck.{dotOf, lineAt, listed}
+use Rattle.grammar.specs.Formulas.FormulaCheck.{definitions, listed}
 use Rattle.grammar.specs.Formulas.FormulaCheckLaws.{Tells}
 use Rattle.grammar.specs.Formulas.FormulaCheckAll.{listed-tells}
-use Rattle.attributes.specs.Checking.{memberOf}
-use Rattle.attributes.specs.StateMarks.{StateMarksIn}
-use Rattle.attributes.specs.Telling.{marks-tell}
-use Rattle.plans.specs.Idle.{Idle}
-use Rattle.plans.specs.Planning.{applied, plan}
-use Rattle.plans.specs.PlanningLaws.{plan-short, plan-none, plan-same}
+use Rattle.plans.specs.Lines.{LinesIn}
+use Rattle.plans.specs.LinesAdded.{lines-none}
+use Rattle.plans.specs.Planning.{applied}
+use Rattle.plans.specs.PlanningLaws.{plan-short, plan-none}
 use Rattle.plans.specs.PlanCell.{planned-cell}
 use Rattle.plans.specs.PlanRows.{Elsewhere}
-use Rattle.plans.specs.Plans.{planOf, PlanIn, lastSlot, PlanNoted, PlansIn, NoneNoted, NoneListed, NoLines}
+use Rattle.plans.specs.Plans.{planOf, PlanIn, lastSlot, PlanNoted, PlansIn, NoneNoted, NoneListed}
 
 -- The plan of a partial state
 
 module _ {b : Book} (ordered : Ordered b) (limits : WithinLimits b) (declared : Declared b) (S a : ℕ) where
-  listed-tell : Tells b S a (listed (partialAt b (setsOf (b .rules)) (reachSets (b .rules) (setsOf (b .rules))) S a))
+  pub listed-tell : Tells b S a (listed (partialAt b (setsOf (b .rules)) (reachSets (b .rules) (setsOf (b .rules))) S a))
   listed-tell = listed-tells _ (partial-items (book-items-right b (small-book ordered limits declared)) S a)
 
-  -- the sets of terminals of the state's items give the plan
-  pub plan-marked : {masks : List ℕ} → StateMarksIn b S masks → a < 32 → plan b (memberOf masks a) ≡ planOf b S a
-  plan-marked {masks} H low = plan-same b (memberOf masks a) _ (marks-tell limits declared ordered S H a low listed-tell)
-
-  -- where no item of the state is that of a definition, it has no lines
-  pub plan-idle : Idle b S → planOf b S a ≡ []
-  plan-idle idle = plan-none b _ λ d l. false-of (listed-tell (lineAt b d .rule) (dotOf (lineAt b d))) λ (c, there). idle d c l (there .0)
+  -- where no definition's item is in it, it has no lines
+  pub plan-empty : {found : List ℕ} → LinesIn b (listed (partialAt b (setsOf (b .rules)) (reachSets (b .rules) (setsOf (b .rules))) S a)) found
+      → definitions b ≤ 128 → bitOr (getD found 0 0) (getD found 1 0) ≡ 0 → planOf b S a ≡ []
+  plan-empty {found} L few e = plan-none b _ λ d l. sym (L .line-is d l) ∙ lines-none found d e (omega arith)
 
 -- "Set the top cell's inherited values by the partial state's formulas, 0 where there is none"
 pub plan-sets-cell : {b : Book} → Spelled b → Sound b → (S a : ℕ) (st : List Frame) (K : ℕ)
@@ -160,45 +155,28 @@ module _ {b : Book} {slots lists : List ℕ} (M : PlansIn b slots lists) {S a sl
           let N = M .noted S′ a′ k s′ l′ (sym (getD-set-other slots place (32 * S′ + a′) (slot + 1) 0 n) ∙ e) in
           note-stays (plan-short b _) (omega (arith, N .in-use)) (N .plan-in)
 
--- all plans of a state, one slot after the other
-pub none-start : (S : ℕ) {slots : List ℕ} → NoLines S 0 slots slots
-none-start S = record { long = refl; none = λ a l. absurd (omega arith); before = λ i l. refl; behind = λ i l. refl }
-
-pub none-more : (S : ℕ) {a : ℕ} {old new : List ℕ} → 32 * S + a < length new → NoLines S a old new → NoLines S (a + 1) old (set new (32 * S + a) 1)
-none-more S {a} {old} {new} there N = record {
-  long = length-set new (32 * S + a) 1 ∙ N .long;
-  none = λ c l. by c l (ℕ-discrete c a);
-  before = λ i l. getD-set-other new (32 * S + a) i 1 0 (λ e. let z : ⊥ = omega arith in z) ∙ N .before i l;
-  behind = λ i l. getD-set-other new (32 * S + a) i 1 0 (λ e. let z : ⊥ = omega arith in z) ∙ N .behind i (omega arith);
-}
-  where
-    by : (c : ℕ) → c < a + 1 → Dec (c ≡ a) → getD (set new (32 * S + a) 1) (32 * S + c) 0 ≡ 1
-    by c l (yes e) = rw e (getD-set-same new (32 * S + a) 1 0 there)
-    by c l (no n) = getD-set-other new (32 * S + a) (32 * S + c) 1 0 (λ e. n (omega arith)) ∙ N .none c (omega (arith, n))
-
--- where none of them has a line
-pub plans-nothing : {b : Book} {slots new lists : List ℕ} → PlansIn b slots lists → (S : ℕ) → ((a : ℕ) → a < 32 → planOf b S a ≡ [])
-    → NoLines S 32 slots new → PlansIn b new lists
-plans-nothing {b} {slots} {new} {lists} M S empty N = record {
+-- a plan that has no lines is noted
+pub plans-empty : {b : Book} {slots lists : List ℕ} → PlansIn b slots lists → {S a : ℕ} → S < b .states → a < 32 → planOf b S a ≡ []
+    → PlansIn b (set slots (32 * S + a) 1) lists
+plans-empty {b} {slots} {lists} M {S} {a} s l empty = record {
   room = M .room;
   room-low = M .room-low;
-  slots-long = omega (arith, N .long, M .slots-long);
+  slots-long = omega (arith, length-set slots (32 * S + a) 1, M .slots-long);
   lists-long = M .lists-long;
   last-low = M .last-low;
   first-none = M .first-none;
-  noted = λ S′ a k s low e. by S′ a k s low e (ℕ-discrete S′ S);
+  noted = λ S′ a′ k s′ l′ e. by S′ a′ k s′ l′ e (ℕ-discrete (32 * S′ + a′) (32 * S + a));
 }
   where
-    same : (S′ a : ℕ) → a < 32 → (S′ ≡ S → ⊥) → Dec (S′ < S) → getD new (32 * S′ + a) 0 ≡ getD slots (32 * S′ + a) 0
-    same S′ a low other (yes l) = N .before (32 * S′ + a) (omega arith)
-    same S′ a low other (no m) = N .behind (32 * S′ + a) (omega (arith, other))
-
-    by : (S′ a k : ℕ) → S′ < b .states → a < 32 → getD new (32 * S′ + a) 0 ≡ k + 1 → Dec (S′ ≡ S) → PlanNoted (planOf b S′ a) lists k
-    by S′ a k s low e (yes q) =
-        let here : getD new (32 * S + a) 0 ≡ k + 1 = rw q at e in
-        let first : k ≡ 0 = omega (arith, here, N .none a low) in
-        rw (q, empty a low, first) (record {
+    by : (S′ a′ k : ℕ) → S′ < b .states → a′ < 32 → getD (set slots (32 * S + a) 1) (32 * S′ + a′) 0 ≡ k + 1 → Dec (32 * S′ + a′ ≡ 32 * S + a)
+        → PlanNoted (planOf b S′ a′) lists k
+    by S′ a′ k s′ l′ e (yes h) =
+        let same : S′ ≡ S = omega arith in
+        let also : a′ ≡ a = omega arith in
+        let here : getD (set slots (32 * S + a) 1) (32 * S + a) 0 ≡ k + 1 = rw h at e in
+        let first : k ≡ 0 = omega (arith, here, getD-set-same slots (32 * S + a) 1 0 (omega (arith, M .slots-long))) in
+        rw (same, also, empty, first) (record {
           in-use = omega arith;
-          plan-in = record { count-is = M .first-none; line-is = λ i l. absurd (omega arith) };
+          plan-in = record { count-is = M .first-none; line-is = λ i h. absurd (omega arith) };
         })
-    by S′ a k s low e (no other) = M .noted S′ a k s low (sym (same S′ a low other (decLt S′ S)) ∙ e)
+    by S′ a′ k s′ l′ e (no n) = M .noted S′ a′ k s′ l′ (sym (getD-set-other slots (32 * S + a) (32 * S′ + a′) 1 0 n) ∙ e)

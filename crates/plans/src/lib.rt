@@ -1,4 +1,4 @@
 // The plan of a partial state: which definitions set the top cell, and in what order.
-pub mod idle;
+pub mod members;
 pub mod memory;
 pub mod planning;

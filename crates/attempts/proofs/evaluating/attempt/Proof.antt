@@ -15,16 +15,16 @@ start c =
     .before .before .before .before .before .before .before .before .before .before .before .before .before .before .before
     .before .before .before
 
-abbrev compiled-at : tie.After-respond-arg14 → tie.After-compile
+abbrev compiled-at : tie.After-respond-arg13 → tie.After-compile
 compiled-at c =
     c .before .before .before .before .before .before .before .before .before .before .before .before .before .before .before
     .before .before .before .before .before .before .before .before .before .before .before .before .before .before .before
-    .before .before .before .before .before .before .before .before .before .before .before .before
+    .before .before .before .before .before .before .before .before .before .before .before
 
-abbrev responded-at : tie.After-slice-known29 → tie.After-respond
-responded-at c = c .before .before .before .before .before .before
+abbrev responded-at : tie.After-slice-known28 → tie.After-respond
+responded-at c = c .before .before .before .before
 
-abbrev compile-at : tie.After-slice-known29 → tie.After-compile
+abbrev compile-at : tie.After-slice-known28 → tie.After-compile
 compile-at c = compiled-at (responded-at c .before)
 
 classes-requires : tie.Need-classes-requires
@@ -72,12 +72,11 @@ respond-requires c κs = let k = compiled-at c in
         found = s .pre .0 .1;
         compiles = k .compile .ensures;
       },
-      omega (arith, k .compile .kept .1 .1 .1 .1 .1 .1 .1 .1 .1 .1 .0, s .pre .4 .begins-long),
       s .pre .3,
     )
 
 same-length : tie.Need-same-length
-same-length c = responded-at c .respond .kept .1 .1 .1 .1 .1 .1 .1 .1 .1 .1 .1 .1 .1 .1 .1 .0
+same-length c = responded-at c .respond .kept .1 .1 .1 .1 .1 .1 .1 .1 .1 .1 .1 .1 .1 .1 .0
 
 same-length-2 : tie.Need-same-length-2
 same-length-2 c = compile-at c .compile .kept .1 .1 .1 .1 .1 .0
@@ -95,7 +94,7 @@ same-length-6 : tie.Need-same-length-6
 same-length-6 c = compile-at c .compile .kept .1 .1 .1 .1 .1 .1 .1 .1 .1 .0
 
 same-length-7 : tie.Need-same-length-7
-same-length-7 c = responded-at c .respond .kept .1 .1 .1 .1 .1 .1 .1 .1 .1 .1 .1 .1 .1 .1 .0 ∙ compile-at c .compile .kept .1 .1 .1 .1 .1 .1 .1 .1 .1 .1 .0
+same-length-7 c = compile-at c .compile .kept .1 .1 .1 .1 .1 .1 .1 .1 .1 .1 .0
 
 same-length-8 : tie.Need-same-length-8
 same-length-8 c = compile-at c .compile .kept .1 .1 .1 .1 .1 .1 .1 .1 .1 .1 .1 .0
@@ -116,7 +115,7 @@ same-length-13 : tie.Need-same-length-13
 same-length-13 c = compile-at c .compile .kept .1 .1 .1 .1 .1 .1 .1 .1 .1 .1 .1 .1 .1 .1 .1 .1 .0
 
 same-length-14 : tie.Need-same-length-14
-same-length-14 c = responded-at c .respond .kept .1 .1 .1 .1 .1 .1 .1 .1 .1 .1 .1 .1 .1 .1 .1 .1 .0
+same-length-14 c = responded-at c .respond .kept .1 .1 .1 .1 .1 .1 .1 .1 .1 .1 .1 .1 .1 .1 .1 .0
 
 returns : tie.Need-returns
 returns c = let k = compile-at c in

@@ -3,7 +3,7 @@ use mathlib.Core.Path.{ap, _∙_}
 use native.Mathlib.Omega.{arith}
 use lib.ListN.{replicate}
 use borrow.Author.Tests.{not-true, not-false}
-use Rattle.attempts.specs.Attempts.{book-taken, rules-within, states-within, attempts-part, attempts-none, attempts-asked, attempts-run}
+use Rattle.attempts.specs.Attempts.{book-taken, states-within, attempts-part, attempts-none, attempts-asked, attempts-run}
 use borrow.Author.Needs.{needs}
 use Rattle.attempts.proofs.evaluating.respond.Statement.{statement}
 use Rattle.attempts.proofs.evaluating.respond.Tie as tie
@@ -13,7 +13,7 @@ use Rattle.attempts.proofs.evaluating.respond.Tie as tie
 abbrev start : tie.Else1 → tie.Start
 start c =
     c .before .before .before .before .before .before .before .before .before .before .before .before
-    .before .before .before .before .before .before
+    .before .before .before .before .before
 
 abbrev whole-at : tie.Else2 → tie.Else1
 whole-at c = c .before .before
@@ -24,8 +24,8 @@ taken-at c = c .before .before
 abbrev passed-at : tie.After-clear → tie.Else3
 passed-at c = c .before .before
 
-abbrev clear-at : tie.After-message-arg3 → tie.After-clear
-clear-at c = c .before .before .before .before .before
+abbrev clear-at : tie.After-message-arg2 → tie.After-clear
+clear-at c = c .before .before .before .before
 
 returns : tie.Need-returns
 returns c = λ room n text R. attempts-part R (not-true _ (c .if1 .taken))
@@ -52,14 +52,13 @@ message-requires c κs =
     let a = p .before in
     let e = taken-at a in
     let w = whole-at e in
-    let (room, n, text, R, sets, slots) = start w .pre in
+    let (room, n, text, R, slots) = start w .pre in
     let whole = not-false _ (w .if1 .left) in
     let taken = e .if2 .left in (
       book-taken R whole taken,
       (
         a .asked .ensures .passed (p .if3 .left),
         k .clear .ensures ∙ ap (λ n. replicate n 0) (a .asked .ensures .all-rows (p .if3 .left)),
-        omega (arith, sets, rules-within R whole taken),
         omega (arith, slots, states-within R whole taken),
       ),
     )
@@ -70,12 +69,9 @@ same-length c = search needs
 same-length-2 : tie.Need-same-length-2
 same-length-2 c = search needs
 
-same-length-3 : tie.Need-same-length-3
-same-length-3 c = search needs
-
 returns-4 : tie.Need-returns-4
 returns-4 c = λ room n text R.
-    let m = c .before .before .before .before .before .before in
+    let m = c .before .before .before .before in
     let p = passed-at (clear-at (m .before)) in
     let a = p .before in
     let e = taken-at a in
@@ -93,5 +89,4 @@ respond-spec =
     message-requires
     same-length
     same-length-2
-    same-length-3
     returns-4)

@@ -12,7 +12,7 @@ use Rattle.grammar.specs.Automaton.FirstSets.{Sets}
 use Rattle.grammar.specs.Automaton.CoreItems.{Core, ofKernels}
 use Rattle.items.specs.Arrays.{SuffixesIn, ReachesIn}
 use Rattle.attributes.specs.Marks.{MarksIn, room-kept}
-use Rattle.attributes.specs.MarkLines.{ItemLinesIn, lines-start, lines-turn}
+use Rattle.attributes.specs.MarkLines.{ItemLinesIn, marks-start, marks-turn}
 use Rattle.attributes.proofs.masks.mark_lines.Statement.{statement}
 use Rattle.attributes.proofs.masks.mark_lines.Tie as tie
 
@@ -28,7 +28,7 @@ abbrev μ-loop : tie.MeasureT-loop
 
 loop-holds : tie.Need-loop-holds Inv-loop μ-loop
 loop-holds c = let s = c .before .before .before .before in
-    (s .pre .1, omega arith, refl, λ b F R firsts items L l N T M. lines-start (b .kernels) (s .args .last) M)
+    (s .pre .1, omega arith, refl, λ b F R firsts items L l N T M. marks-start (b .kernels) (s .args .last) M)
 
 sub-i : tie.Need-sub-i Inv-loop μ-loop
 sub-i c = search needs
@@ -53,7 +53,7 @@ loop-again c =
       omega (arith, at .inv .1),
       search needs,
       λ b F R firsts items L l N T M.
-          lines-turn (b .kernels) (at .i) (t .before .before .before .before .before .before .args .last) items (omega (arith, t .loop-test .taken)) (at .inv .1) l
+          marks-turn (b .kernels) (at .i) (t .before .before .before .before .before .before .args .last) items (omega (arith, t .loop-test .taken)) (at .inv .1) l
           (v .mark-line .ensures b F R firsts _ L (omega (arith, t .loop-test .taken, at .inv .1)) N T (at .inv .3 b F R firsts items L l N T M)),
     )
 

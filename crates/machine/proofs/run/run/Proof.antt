@@ -16,39 +16,39 @@ use Rattle.machine.proofs.run.run.Statement.{statement}
 use Rattle.machine.proofs.run.run.Tie as tie
 
 abbrev Inv-loop : tie.InvT-loop
-Inv-loop rules count definitions lines owned kernels heads closures nulls reaches places firsts down up table actions tokens =
-    λ sets₀ slots₀ lists₀ states₀ inherited₀ synthesized₀ starts₀ rows₀ top₀ sets slots lists states inherited synthesized starts rows top.
-    RoomsLeft count (length sets₀) (length slots₀) (length lists₀) (length starts₀) states inherited synthesized starts rows sets slots lists
+Inv-loop rules definitions lines owned kernels heads closures nulls reaches places firsts down up table actions tokens =
+    λ slots₀ lists₀ states₀ inherited₀ synthesized₀ starts₀ rows₀ top₀ slots lists states inherited synthesized starts rows top.
+    RoomsLeft (length slots₀) (length lists₀) (length starts₀) states inherited synthesized starts rows slots lists
     × ((b : Book) (ks : List Token)
-    → RunIn b ks rules count definitions lines owned kernels heads closures nulls reaches places firsts down up table actions tokens → Message b ks
+    → RunIn b ks rules definitions lines owned kernels heads closures nulls reaches places firsts down up table actions tokens → Message b ks
     → PlansIn b slots₀ lists₀ → Underway b ks states inherited synthesized starts rows slots lists top)
 
 abbrev μ-loop : tie.MeasureT-loop
-μ-loop rules count definitions lines owned kernels heads closures nulls reaches places firsts down up table actions tokens =
-    λ sets₀ slots₀ lists₀ states₀ inherited₀ synthesized₀ starts₀ rows₀ top₀ sets slots lists states inherited synthesized starts rows top. 512 - top .rows
+μ-loop rules definitions lines owned kernels heads closures nulls reaches places firsts down up table actions tokens =
+    λ slots₀ lists₀ states₀ inherited₀ synthesized₀ starts₀ rows₀ top₀ slots lists states inherited synthesized starts rows top. 512 - top .rows
 
 -- from each place back to the one before
 
-abbrev entry : tie.After-slice-known8 Inv-loop μ-loop → tie.Start Inv-loop μ-loop
+abbrev entry : tie.After-slice-known7 Inv-loop μ-loop → tie.Start Inv-loop μ-loop
 entry c =
     c .before .before .before .before .before .before .before .before .before .before .before
-    .before .before .before .before .before .before .before .before .before .before .before .before
+    .before .before .before .before .before .before .before .before .before .before .before
 
 abbrev start : tie.At-loop Inv-loop μ-loop → tie.Start Inv-loop μ-loop
 start c = entry (c .before .before)
 
 abbrev loop-at : tie.After-step Inv-loop μ-loop → tie.At-loop Inv-loop μ-loop
-loop-at c = c .before .before .before .before .before .before .before .before .before
+loop-at c = c .before .before .before .before .before .before .before .before
 
 abbrev on-at : tie.After-known-told Inv-loop μ-loop → tie.After-step Inv-loop μ-loop
 on-at c =
-    c .before .before .before .before .before .before .before .before .before .before
-    .before .before .before .before .before .before .before .before .before
+    c .before .before .before .before .before .before .before .before .before
+    .before .before .before .before .before .before .before .before
 
 abbrev stopped-at : tie.After-known-told2 Inv-loop μ-loop → tie.After-step Inv-loop μ-loop
 stopped-at c =
-    c .before .before .before .before .before .before .before .before .before .before
-    .before .before .before .before .before .before .before .before .before
+    c .before .before .before .before .before .before .before .before .before
+    .before .before .before .before .before .before .before .before
 
 slice-write-states : tie.Need-slice-write-states Inv-loop μ-loop
 slice-write-states c = omega (arith, entry c .pre .0 .0 .stacks .states-long)
@@ -60,17 +60,17 @@ loop-holds : tie.Need-loop-holds Inv-loop μ-loop
 loop-holds c =
     let s = entry (c .before) in
     let (b, ks, R, M, P) = s .pre .1 in
-    let lent : RoomsLeft (s .args .count) (length (s .args .sets .now)) (length (s .args .slots .now)) (length (s .args .lists .now))
-    (length (s .args .starts .now)) (s .args .states .now) (s .args .inherited .now) (s .args .synthesized .now) (s .args .starts .now) (s .args .rows .now) (s .args .sets .now) (s .args .slots .now) (s .args .lists .now) =
-    record { rooms = s .pre .0 .0; words-long = refl; starts-long = refl; slots-long = refl; lists-long = refl } in
+    let lent : RoomsLeft (length (s .args .slots .now)) (length (s .args .lists .now)) (length (s .args .starts .now)) (s .args .states .now)
+    (s .args .inherited .now) (s .args .synthesized .now) (s .args .starts .now) (s .args .rows .now) (s .args .slots .now) (s .args .lists .now) =
+    record { rooms = s .pre .0 .0; starts-long = refl; slots-long = refl; lists-long = refl } in
     let e = c .empty .ensures in (
-      rooms-kept lent (length-set (s .args .states .now) 0 0) refl refl refl refl refl refl refl,
+      rooms-kept lent (length-set (s .args .states .now) 0 0) refl refl refl refl refl refl,
       λ b ks R M P. underway-start (s .args .states .now) P (omega (arith, s .pre .0 .0 .stacks .states-long)) (s .pre .0 .1) (e .0) (e .1) (e .2),
     )
 
 step-requires : tie.Need-step-requires Inv-loop μ-loop
 step-requires c κs =
-    let l = c .before .before .before .before .before .before .before .before in
+    let l = c .before .before .before .before .before .before .before in
     let (b, ks, R, M, P) = start l .pre .1 in
     (l .loop .inv .0 .rooms, (b, ks, R, M, l .loop .inv .1 b ks R M P))
 
@@ -89,14 +89,13 @@ loop-again c =
     let a = on-at c in
     let l = loop-at a in (
       rooms-kept (l .loop .inv .0)
+          (a .step .kept .1 .1 .1 .1 .1 .1 .1 .1 .1 .1 .1 .1 .1 .1 .1 .1 .1 .1 .1 .0)
+          (a .step .kept .1 .1 .1 .1 .1 .1 .1 .1 .1 .1 .1 .1 .1 .1 .1 .1 .1 .1 .1 .1 .0)
           (a .step .kept .1 .1 .1 .1 .1 .1 .1 .1 .1 .1 .1 .1 .1 .1 .1 .1 .1 .1 .1 .1 .1 .0)
           (a .step .kept .1 .1 .1 .1 .1 .1 .1 .1 .1 .1 .1 .1 .1 .1 .1 .1 .1 .1 .1 .1 .1 .1 .0)
           (a .step .kept .1 .1 .1 .1 .1 .1 .1 .1 .1 .1 .1 .1 .1 .1 .1 .1 .1 .1 .1 .1 .1 .1 .1 .0)
-          (a .step .kept .1 .1 .1 .1 .1 .1 .1 .1 .1 .1 .1 .1 .1 .1 .1 .1 .1 .1 .1 .1 .1 .1 .1 .1 .0)
-          (a .step .kept .1 .1 .1 .1 .1 .1 .1 .1 .1 .1 .1 .1 .1 .1 .1 .1 .1 .1 .1 .1 .1 .1 .1 .1 .1 .0)
-          (a .step .kept .1 .1 .1 .1 .1 .1 .1 .1 .1 .1 .1 .1 .1 .1 .1 .1 .1 .1 .0)
-          (a .step .kept .1 .1 .1 .1 .1 .1 .1 .1 .1 .1 .1 .1 .1 .1 .1 .1 .1 .1 .1 .0)
-          (a .step .kept .1 .1 .1 .1 .1 .1 .1 .1 .1 .1 .1 .1 .1 .1 .1 .1 .1 .1 .1 .1 .0),
+          (a .step .kept .1 .1 .1 .1 .1 .1 .1 .1 .1 .1 .1 .1 .1 .1 .1 .1 .1 .0)
+          (a .step .kept .1 .1 .1 .1 .1 .1 .1 .1 .1 .1 .1 .1 .1 .1 .1 .1 .1 .1 .0),
       λ b ks R M P. step-more (a .step .ensures b ks R M (l .loop .inv .1 b ks R M P)) (c .before .moved .given .1),
     )
 
@@ -107,19 +106,25 @@ same-length : tie.Need-same-length Inv-loop μ-loop
 same-length c =
     let a = stopped-at c in
     let l = loop-at a in
-    a .step .kept .1 .1 .1 .1 .1 .1 .1 .1 .1 .1 .1 .1 .1 .1 .1 .1 .1 .1 .0 ∙ l .loop .inv .0 .words-long
+    a .step .kept .1 .1 .1 .1 .1 .1 .1 .1 .1 .1 .1 .1 .1 .1 .1 .1 .1 .0 ∙ l .loop .inv .0 .slots-long
 
 same-length-2 : tie.Need-same-length-2 Inv-loop μ-loop
 same-length-2 c =
     let a = stopped-at c in
     let l = loop-at a in
-    a .step .kept .1 .1 .1 .1 .1 .1 .1 .1 .1 .1 .1 .1 .1 .1 .1 .1 .1 .1 .1 .0 ∙ l .loop .inv .0 .slots-long
+    a .step .kept .1 .1 .1 .1 .1 .1 .1 .1 .1 .1 .1 .1 .1 .1 .1 .1 .1 .1 .0 ∙ l .loop .inv .0 .lists-long
 
 same-length-3 : tie.Need-same-length-3 Inv-loop μ-loop
 same-length-3 c =
     let a = stopped-at c in
     let l = loop-at a in
-    a .step .kept .1 .1 .1 .1 .1 .1 .1 .1 .1 .1 .1 .1 .1 .1 .1 .1 .1 .1 .1 .1 .0 ∙ l .loop .inv .0 .lists-long
+    omega (
+      arith,
+      a .step .kept .1 .1 .1 .1 .1 .1 .1 .1 .1 .1 .1 .1 .1 .1 .1 .1 .1 .1 .1 .0,
+      l .loop .inv .0 .rooms .stacks .states-long,
+      l .loop .inv .0 .starts-long,
+      start l .pre .0 .0 .stacks .states-long,
+    )
 
 same-length-4 : tie.Need-same-length-4 Inv-loop μ-loop
 same-length-4 c =
@@ -127,10 +132,10 @@ same-length-4 c =
     let l = loop-at a in
     omega (
       arith,
-      a .step .kept .1 .1 .1 .1 .1 .1 .1 .1 .1 .1 .1 .1 .1 .1 .1 .1 .1 .1 .1 .1 .1 .0,
-      l .loop .inv .0 .rooms .stacks .states-long,
+      a .step .kept .1 .1 .1 .1 .1 .1 .1 .1 .1 .1 .1 .1 .1 .1 .1 .1 .1 .1 .1 .1 .0,
+      l .loop .inv .0 .rooms .cells-long,
       l .loop .inv .0 .starts-long,
-      start l .pre .0 .0 .stacks .states-long,
+      start l .pre .0 .0 .cells-long,
     )
 
 same-length-5 : tie.Need-same-length-5 Inv-loop μ-loop
@@ -139,42 +144,30 @@ same-length-5 c =
     let l = loop-at a in
     omega (
       arith,
-      a .step .kept .1 .1 .1 .1 .1 .1 .1 .1 .1 .1 .1 .1 .1 .1 .1 .1 .1 .1 .1 .1 .1 .1 .0,
-      l .loop .inv .0 .rooms .cells-long,
+      a .step .kept .1 .1 .1 .1 .1 .1 .1 .1 .1 .1 .1 .1 .1 .1 .1 .1 .1 .1 .1 .1 .1 .0,
+      l .loop .inv .0 .rooms .stacks .synthesized-long,
       l .loop .inv .0 .starts-long,
-      start l .pre .0 .0 .cells-long,
+      start l .pre .0 .0 .stacks .synthesized-long,
     )
 
 same-length-6 : tie.Need-same-length-6 Inv-loop μ-loop
 same-length-6 c =
     let a = stopped-at c in
     let l = loop-at a in
-    omega (
-      arith,
-      a .step .kept .1 .1 .1 .1 .1 .1 .1 .1 .1 .1 .1 .1 .1 .1 .1 .1 .1 .1 .1 .1 .1 .1 .1 .0,
-      l .loop .inv .0 .rooms .stacks .synthesized-long,
-      l .loop .inv .0 .starts-long,
-      start l .pre .0 .0 .stacks .synthesized-long,
-    )
+    a .step .kept .1 .1 .1 .1 .1 .1 .1 .1 .1 .1 .1 .1 .1 .1 .1 .1 .1 .1 .1 .1 .1 .1 .0 ∙ l .loop .inv .0 .starts-long
 
 same-length-7 : tie.Need-same-length-7 Inv-loop μ-loop
 same-length-7 c =
     let a = stopped-at c in
     let l = loop-at a in
-    a .step .kept .1 .1 .1 .1 .1 .1 .1 .1 .1 .1 .1 .1 .1 .1 .1 .1 .1 .1 .1 .1 .1 .1 .1 .1 .0 ∙ l .loop .inv .0 .starts-long
-
-same-length-8 : tie.Need-same-length-8 Inv-loop μ-loop
-same-length-8 c =
-    let a = stopped-at c in
-    let l = loop-at a in
-    a .step .kept .1 .1 .1 .1 .1 .1 .1 .1 .1 .1 .1 .1 .1 .1 .1 .1 .1 .1 .1 .1 .1 .1 .1 .1 .1 .0
+    a .step .kept .1 .1 .1 .1 .1 .1 .1 .1 .1 .1 .1 .1 .1 .1 .1 .1 .1 .1 .1 .1 .1 .1 .1 .0
     ∙ l .loop .inv .0 .rooms .stacks .rows-long ∙ sym (start l .pre .0 .0 .stacks .rows-long)
 
 returns : tie.Need-returns Inv-loop μ-loop
 returns c = λ b ks R M P final.
     let a = stopped-at c in
     let l = loop-at a in
-    let same = a .step .kept .1 .1 .1 .1 .1 .1 .1 .1 .1 .1 .1 .1 .1 .1 .1 .1 .1 .1 .1 .1 .1 .1 .1 .1 .0 ∙ l .loop .inv .0 .starts-long in
+    let same = a .step .kept .1 .1 .1 .1 .1 .1 .1 .1 .1 .1 .1 .1 .1 .1 .1 .1 .1 .1 .1 .1 .1 .1 .0 ∙ l .loop .inv .0 .starts-long in
     step-answers (a .step .ensures b ks R M (l .loop .inv .1 b ks R M P)) (c .before .moved2 .given .1) (λ e. same ∙ final e)
 
 pub run-spec : {M : Type 1} → statement M
@@ -198,5 +191,4 @@ run-spec =
     same-length-5
     same-length-6
     same-length-7
-    same-length-8
     returns)

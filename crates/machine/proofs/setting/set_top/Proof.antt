@@ -8,11 +8,11 @@ use Rattle.machine.proofs.setting.set_top.Tie as tie
 
 -- from each call back to the one before
 
-abbrev start : tie.After-planned-arg3 → tie.Start
-start c = c .before .before .before .before .before .before .before .before .before .before .before .before .before .before .before .before .before
+abbrev start : tie.After-planned-arg2 → tie.Start
+start c = c .before .before .before .before .before .before .before .before .before .before .before .before .before .before .before
 
-abbrev planned-at : tie.After-slice-known7 → tie.After-planned
-planned-at c = c .before .before .before .before .before .before
+abbrev planned-at : tie.After-slice-known5 → tie.After-planned
+planned-at c = c .before .before .before .before
 
 -- there are at most 255 slots
 slot-low : (q : tie.After-planned) → q .planned .result < 255
@@ -22,7 +22,7 @@ slot-low q =
     omega (arith, T .slot-low, T .plans-in .lists-long, T .plans-in .room-low)
 
 planned-requires : tie.Need-planned-requires
-planned-requires c κs = let p = start c .pre in ((p .1 .0, p .1 .6, p .1 .5, p .1 .7), p .0 .1, p .0 .2)
+planned-requires c κs = let p = start c .pre in ((p .1 .0, p .1 .6, p .1 .5, p .1 .7), p .0 .1)
 
 mul-n : tie.Need-mul-n
 mul-n c = omega (arith, slot-low (planned-at c))
@@ -35,7 +35,7 @@ slice-read-n c =
     omega (arith, T .slot-low)
 
 cast-n : tie.Need-cast-n
-cast-n c = omega (arith, c .slice-known8 .given (17 * planned-at (c .before) .planned .result) .fits)
+cast-n c = omega (arith, c .slice-known6 .given (17 * planned-at (c .before) .planned .result) .fits)
 
 mul-from : tie.Need-mul-from
 mul-from c = omega (arith, slot-low (planned-at (c .before)))
@@ -47,7 +47,7 @@ set-cell-requires : tie.Need-set-cell-requires
 set-cell-requires c κs =
     let q = planned-at (c .before .before .before) in
     let s = start (q .before) in
-    let (room, kind, sets) = s .pre .0 in
+    let (room, kind) = s .pre .0 in
     let (b, states, starts, st, A, l, H, M) = s .pre .1 in
     let T = q .planned .ensures b H l M in (
       (room, omega (arith, T .slot-low, top-short A (s .args .kind) (T .plan-in))),
@@ -62,9 +62,6 @@ same-length-2 c = search needs
 
 same-length-3 : tie.Need-same-length-3
 same-length-3 c = search needs
-
-same-length-4 : tie.Need-same-length-4
-same-length-4 c = search needs
 
 returns : tie.Need-returns
 returns c = λ b states starts st A l H M.
@@ -89,5 +86,4 @@ set-top-spec =
     same-length
     same-length-2
     same-length-3
-    same-length-4
     returns)

@@ -13,7 +13,7 @@ use Rattle.machine.proofs.step.step.Tie as tie
 abbrev start : tie.After-struct-known → tie.Start
 start c =
     c .before .before .before .before .before .before .before .before .before .before .before
-    .before .before .before .before .before .before .before .before .before .before .before .before .before
+    .before .before .before .before .before .before .before .before .before .before .before .before
 
 abbrev entry : tie.After-number → tie.Start
 entry c = start (c .before .before .before)
@@ -21,29 +21,25 @@ entry c = start (c .before .before .before)
 abbrev number-at : tie.Joined1 → tie.After-number
 number-at c = c .before .before .before
 
-abbrev advanced : tie.After-slice-known16 → tie.After-advance
+abbrev advanced : tie.After-slice-known14 → tie.After-advance
 advanced c = c .before .before .before .before .before .before .before .before
 
 abbrev value-at : tie.After-advance → tie.After-number2
 value-at c = c .before .before .before .before .before .before
 
-abbrev joined : tie.After-slice-known16 → tie.Joined1
+abbrev joined : tie.After-slice-known14 → tie.Joined1
 joined c = value-at (advanced c) .before
 
 -- no length is changed where the cell may be set
 
-sets-kept : (c : tie.Joined1) → length (c .if1 .sets) ≡ length (entry (number-at c) .args .sets .now)
-sets-kept c = ⊎-elim (λ w. ap length (w .15) ∙ w .6 .kept .1 .1 .1 .1 .1 .1 .1 .1 .1 .1 .1 .1 .1 .1 .0) (λ w. ap length (w .1)) (c .if1 .came)
-
 slots-kept : (c : tie.Joined1) → length (c .if1 .slots) ≡ length (entry (number-at c) .args .slots .now)
-slots-kept c = ⊎-elim (λ w. ap length (w .16) ∙ w .6 .kept .1 .1 .1 .1 .1 .1 .1 .1 .1 .1 .1 .1 .1 .1 .1 .0) (λ w. ap length (w .2)) (c .if1 .came)
+slots-kept c = ⊎-elim (λ w. ap length (w .12) ∙ w .5 .kept .1 .1 .1 .1 .1 .1 .1 .1 .1 .1 .1 .1 .1 .0) (λ w. ap length (w .1)) (c .if1 .came)
 
 lists-kept : (c : tie.Joined1) → length (c .if1 .lists) ≡ length (entry (number-at c) .args .lists .now)
-lists-kept c = ⊎-elim (λ w. ap length (w .17) ∙ w .6 .kept .1 .1 .1 .1 .1 .1 .1 .1 .1 .1 .1 .1 .1 .1 .1 .1 .0) (λ w. ap length (w .3)) (c .if1 .came)
+lists-kept c = ⊎-elim (λ w. ap length (w .13) ∙ w .5 .kept .1 .1 .1 .1 .1 .1 .1 .1 .1 .1 .1 .1 .1 .1 .0) (λ w. ap length (w .2)) (c .if1 .came)
 
 inherited-kept : (c : tie.Joined1) → length (c .if1 .inherited) ≡ length (entry (number-at c) .args .inherited .now)
-inherited-kept c =
-    ⊎-elim (λ w. ap length (w .18) ∙ w .6 .kept .1 .1 .1 .1 .1 .1 .1 .1 .1 .1 .1 .1 .1 .1 .1 .1 .1 .0) (λ w. ap length (w .4)) (c .if1 .came)
+inherited-kept c = ⊎-elim (λ w. ap length (w .14) ∙ w .5 .kept .1 .1 .1 .1 .1 .1 .1 .1 .1 .1 .1 .1 .1 .1 .1 .0) (λ w. ap length (w .3)) (c .if1 .came)
 
 mul-at : tie.Need-mul-at
 mul-at c = let (b, ks, R, M, U) = start c .pre .1 in omega (arith, run-low R M U .position-low)
@@ -86,7 +82,7 @@ reads-cell-requires c κs =
 
 set-top-requires : tie.Need-set-top-requires
 set-top-requires c κs =
-    let n = c .before .before .before .before .before .before .before .before in
+    let n = c .before .before .before .before .before .before .before in
     let L = entry n .pre .0 in
     let (b, ks, R, M, U) = entry n .pre .1 in
     let s = n .before .word .ensures in
@@ -97,7 +93,6 @@ set-top-requires c κs =
           records-long = omega (arith, L .stacks .synthesized-long, run-low R M U .depth-low);
         },
         F .kind-low,
-        L .sets-long,
       ),
       (b, _, _, _, run-asked R M U s (n .number .ensures), F .state-there, R .driven .plans-held, U .plans-in),
     )
@@ -120,35 +115,32 @@ advance-requires c κs =
     let s = n .before .word .ensures in
     let k = n .number .ensures in
     let Q =
-    ⊎-elim (λ w. run-set R M U s k (w .6 .ensures) (w .16) (w .17) (w .18))
-    (λ w. run-unread R M U s k refl (sym (j .before .reads-cell .ensures) ∙ w .0 .left) (w .2) (w .3) (w .4)) (j .if1 .came) in (
+    ⊎-elim (λ w. run-set R M U s k (w .5 .ensures) (w .12) (w .13) (w .14))
+    (λ w. run-unread R M U s k refl (sym (j .before .reads-cell .ensures) ∙ w .0 .left) (w .1) (w .2) (w .3)) (j .if1 .came) in (
       (L .stacks, inherited-kept j ∙ L .cells-long),
       (b, ks, U .at, run-moves R M U, Q .poised, run-facing R M U s k (v .number2 .ensures), run-names R M U s k refl),
     )
 
 same-length : tie.Need-same-length
-same-length c = sets-kept (joined c)
+same-length c = slots-kept (joined c)
 
 same-length-2 : tie.Need-same-length-2
-same-length-2 c = slots-kept (joined c)
+same-length-2 c = lists-kept (joined c)
 
 same-length-3 : tie.Need-same-length-3
-same-length-3 c = lists-kept (joined c)
+same-length-3 c = advanced c .advance .kept .1 .1 .1 .1 .1 .1 .1 .1 .1 .1 .1 .0
 
 same-length-4 : tie.Need-same-length-4
-same-length-4 c = advanced c .advance .kept .1 .1 .1 .1 .1 .1 .1 .1 .1 .1 .1 .0
+same-length-4 c = inherited-kept (joined c)
 
 same-length-5 : tie.Need-same-length-5
-same-length-5 c = inherited-kept (joined c)
+same-length-5 c = advanced c .advance .kept .1 .1 .1 .1 .1 .1 .1 .1 .1 .1 .1 .1 .1 .0
 
 same-length-6 : tie.Need-same-length-6
-same-length-6 c = advanced c .advance .kept .1 .1 .1 .1 .1 .1 .1 .1 .1 .1 .1 .1 .1 .0
+same-length-6 c = advanced c .advance .kept .1 .1 .1 .1 .1 .1 .1 .1 .1 .1 .1 .1 .1 .1 .0
 
 same-length-7 : tie.Need-same-length-7
-same-length-7 c = advanced c .advance .kept .1 .1 .1 .1 .1 .1 .1 .1 .1 .1 .1 .1 .1 .1 .0
-
-same-length-8 : tie.Need-same-length-8
-same-length-8 c = advanced c .advance .kept .1 .1 .1 .1 .1 .1 .1 .1 .1 .1 .1 .1 .1 .1 .1 .0
+same-length-7 c = advanced c .advance .kept .1 .1 .1 .1 .1 .1 .1 .1 .1 .1 .1 .1 .1 .1 .1 .0
 
 returns : tie.Need-returns
 returns c = λ b ks R M U.
@@ -159,8 +151,8 @@ returns c = λ b ks R M U.
     let s = n .before .word .ensures in
     let k = n .number .ensures in
     let Q =
-    ⊎-elim (λ w. run-set R M U s k (w .6 .ensures) (w .16) (w .17) (w .18))
-    (λ w. run-unread R M U s k refl (sym (j .before .reads-cell .ensures) ∙ w .0 .left) (w .2) (w .3) (w .4)) (j .if1 .came) in
+    ⊎-elim (λ w. run-set R M U s k (w .5 .ensures) (w .12) (w .13) (w .14))
+    (λ w. run-unread R M U s k refl (sym (j .before .reads-cell .ensures) ∙ w .0 .left) (w .1) (w .2) (w .3)) (j .if1 .came) in
     run-stepped R M U s k refl (v .number2 .ensures) Q (a .advance .ensures)
 
 pub step-spec : {M : Type 1} → statement M
@@ -186,5 +178,4 @@ step-spec =
     same-length-5
     same-length-6
     same-length-7
-    same-length-8
     returns)

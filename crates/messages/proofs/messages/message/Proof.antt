@@ -13,10 +13,10 @@ use Rattle.messages.proofs.messages.message.Tie as tie
 abbrev start : tie.After-message-short → tie.Start
 start c =
     c .before .before .before .before .before .before .before .before .before .before .before .before
-    .before .before .before .before .before .before .before .before .before
+    .before .before .before .before .before .before .before
 
 abbrev short-at : tie.After-clear → tie.After-message-short
-short-at c = c .before .before .before .before .before .before .before .before .before .before
+short-at c = c .before .before .before .before .before .before .before .before
 
 message-full-requires : tie.Need-message-full-requires
 message-full-requires c κs = search needs
@@ -27,27 +27,21 @@ same-length c = search needs
 same-length-2 : tie.Need-same-length-2
 same-length-2 c = search needs
 
-same-length-3 : tie.Need-same-length-3
-same-length-3 c = search needs
-
 returns : tie.Need-returns
 returns c = search needs
 
 message-short-requires : tie.Need-message-short-requires
 message-short-requires c κs = search needs
 
+same-length-3 : tie.Need-same-length-3
+same-length-3 c = search needs
+
 same-length-4 : tie.Need-same-length-4
 same-length-4 c = search needs
 
-same-length-5 : tie.Need-same-length-5
-same-length-5 c = search needs
-
-same-length-6 : tie.Need-same-length-6
-same-length-6 c = search needs
-
 returns-2 : tie.Need-returns-2
 returns-2 c = λ b t m.
-    let k = c .before .before .before .before .before .before .before .before in
+    let k = c .before .before .before .before .before .before in
     k .message-short .ensures b t m (c .if2 .taken)
 
 clear-requires : tie.Need-clear-requires
@@ -55,28 +49,24 @@ clear-requires c κs = search needs
 
 message-full-requires-2 : tie.Need-message-full-requires-2
 message-full-requires-2 c κs =
-    let e = c .before .before .before .before .before in
+    let e = c .before .before .before .before in
     let k = short-at e in
     let s = start k in
-    let (message, rows, sets, slots) = s .pre .1 in
+    let (message, rows, slots) = s .pre .1 in
     let kept = k .message-short .kept .1 .1 .1 .1 .1 .1 .1 .1 .1 .1 .1 .1 .1 .1 in (
       s .pre .0,
       (
         message,
-        e .clear .ensures ∙ ap (λ n. replicate n 0) (kept .1 .1 .0 ∙ ap length rows ∙ zeros PAGE-WORDS),
-        omega (arith, kept .0, sets),
-        omega (arith, kept .1 .0, slots),
+        e .clear .ensures ∙ ap (λ n. replicate n 0) (kept .1 .0 ∙ ap length rows ∙ zeros PAGE-WORDS),
+        omega (arith, kept .0, slots),
       ),
     )
 
-same-length-7 : tie.Need-same-length-7
-same-length-7 c = search needs
+same-length-5 : tie.Need-same-length-5
+same-length-5 c = search needs
 
-same-length-8 : tie.Need-same-length-8
-same-length-8 c = search needs
-
-same-length-9 : tie.Need-same-length-9
-same-length-9 c = search needs
+same-length-6 : tie.Need-same-length-6
+same-length-6 c = search needs
 
 returns-3 : tie.Need-returns-3
 returns-3 c = search needs
@@ -88,16 +78,13 @@ message-spec =
     message-full-requires
     same-length
     same-length-2
-    same-length-3
     returns
     message-short-requires
+    same-length-3
     same-length-4
-    same-length-5
-    same-length-6
     returns-2
     clear-requires
     message-full-requires-2
-    same-length-7
-    same-length-8
-    same-length-9
+    same-length-5
+    same-length-6
     returns-3)

@@ -11,7 +11,7 @@ use Rattle.messages.proofs.messages.message_full.Tie as tie
 abbrev start : tie.After-bounds → tie.Start
 start c =
     c .before .before .before .before .before .before .before .before .before .before .before .before
-    .before .before .before .before .before .before .before .before .before .before .before .before
+    .before .before .before .before .before .before .before .before .before .before
 
 slice-aggregate-message-on : tie.Need-slice-aggregate-message-on
 slice-aggregate-message-on c = search needs
@@ -31,8 +31,8 @@ slice-aggregate-message-on-5 c = search needs
 message-on-requires : tie.Need-message-on-requires
 message-on-requires c κs =
     let s = start c in
-    let (message, rows, sets, slots) = s .pre .1 in
-    (s .pre .0, (message, rows, run-room 128 (omega arith) rows sets, slots, none-listed 255 (omega arith) (omega arith)))
+    let (message, rows, slots) = s .pre .1 in
+    (s .pre .0, (message, rows, run-room 128 (omega arith) rows, slots, none-listed 255 (omega arith) (omega arith)))
 
 same-length : tie.Need-same-length
 same-length c = search needs
@@ -40,11 +40,8 @@ same-length c = search needs
 same-length-2 : tie.Need-same-length-2
 same-length-2 c = search needs
 
-same-length-3 : tie.Need-same-length-3
-same-length-3 c = search needs
-
 returns : tie.Need-returns
-returns c = λ b t m. let k = c .before .before .before .before .before .before .before .before .before .before .before in
+returns c = λ b t m. let k = c .before .before .before .before .before .before .before .before .before in
     k .message-on .ensures b t m (λ e. zeros 128)
 
 pub message-full-spec : {M : Type 1} → statement M
@@ -59,5 +56,4 @@ message-full-spec =
     message-on-requires
     same-length
     same-length-2
-    same-length-3
     returns)

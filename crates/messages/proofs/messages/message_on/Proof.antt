@@ -2,6 +2,7 @@
 use mathlib.Core.Path.{refl}
 use native.Mathlib.Omega.{arith}
 use Rattle.compiler.specs.Compiling.{asked-formulas}
+use Rattle.messages.specs.Zeros.{no-words}
 use Rattle.messages.specs.Sides.{asked-sides}
 use Rattle.messages.specs.Driving.{places-asked, places-room, run-in, tokens-of, plans-of}
 use borrow.Author.Needs.{needs}
@@ -14,7 +15,6 @@ abbrev sides-start : tie.After-up → tie.Start
 sides-start c =
     c .before .before .before .before .before .before .before .before .before .before .before .before
     .before .before .before .before .before .before .before .before .before .before .before .before
-    .before
 
 abbrev sides-at : tie.After-places → tie.After-fill-sides
 sides-at c = c .before .before .before .before .before .before
@@ -22,8 +22,8 @@ sides-at c = c .before .before .before .before .before .before
 abbrev marked-at : tie.After-struct-known2 → tie.After-mark-places
 marked-at c = c .before .before .before
 
-abbrev cleared-at : tie.After-run-arg8 → tie.After-fill
-cleared-at c = c .before .before .before .before .before .before .before .before .before .before .before .before .before .before .before
+abbrev cleared-at : tie.After-run-arg7 → tie.After-fill
+cleared-at c = c .before .before .before .before .before .before .before .before .before .before .before .before .before .before
 
 slice-aggregate-fill-sides : tie.Need-slice-aggregate-fill-sides
 slice-aggregate-fill-sides c = search needs
@@ -84,7 +84,7 @@ run-requires c κs = let f = cleared-at c in
     let (b, t) = s .pre .0 in
     let (m, rows, rooms, long, none) = s .pre .1 in
     let sides = o .fill-sides .ensures b (asked-sides (t .ready)) in
-    let places = p .mark-places .ensures b _ _ (places-asked t sides) (asked-formulas (t .ready) .definitions-counted) (places-room t) in (
+    let places = p .mark-places .ensures b _ _ (places-asked t sides) (asked-formulas (t .ready) .definitions-counted) (places-room t) (no-words 608) in (
       (rooms, rows),
       (b, m .list, run-in t sides places (m .tokens-are), tokens-of t m, plans-of t _ long (f .fill .ensures) none),
     )
@@ -110,17 +110,14 @@ same-length-6 c = search needs
 same-length-7 : tie.Need-same-length-7
 same-length-7 c = search needs
 
-same-length-8 : tie.Need-same-length-8
-same-length-8 c = search needs
-
 returns : tie.Need-returns
-returns c = λ b t m. let k = c .before .before .before .before .before .before .before .before .before .before .before .before .before .before .before .before in
+returns c = λ b t m. let k = c .before .before .before .before .before .before .before .before .before .before .before .before .before .before in
     let f = cleared-at (k .before) in
     let p = marked-at (f .before) in
     let o = sides-at (p .before) in
     let (_, _, _, long, none) = sides-start (o .before) .pre .1 in
     let sides = o .fill-sides .ensures b (asked-sides (t .ready)) in
-    let places = p .mark-places .ensures b _ _ (places-asked t sides) (asked-formulas (t .ready) .definitions-counted) (places-room t) in
+    let places = p .mark-places .ensures b _ _ (places-asked t sides) (asked-formulas (t .ready) .definitions-counted) (places-room t) (no-words 608) in
     k .run .ensures b (m .list) (run-in t sides places (m .tokens-are)) (tokens-of t m) (plans-of t _ long (f .fill .ensures) none)
 
 pub message-on-spec : {M : Type 1} → statement M
@@ -151,5 +148,4 @@ message-on-spec =
     same-length-5
     same-length-6
     same-length-7
-    same-length-8
     returns)

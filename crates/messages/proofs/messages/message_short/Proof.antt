@@ -10,7 +10,7 @@ use Rattle.messages.proofs.messages.message_short.Tie as tie
 abbrev start : tie.After-bounds → tie.Start
 start c =
     c .before .before .before .before .before .before .before .before .before .before .before .before
-    .before .before .before .before .before .before .before .before .before .before .before .before
+    .before .before .before .before .before .before .before .before .before .before
 
 slice-aggregate-message-on : tie.Need-slice-aggregate-message-on
 slice-aggregate-message-on c = search needs
@@ -30,8 +30,8 @@ slice-aggregate-message-on-5 c = search needs
 message-on-requires : tie.Need-message-on-requires
 message-on-requires c κs =
     let s = start c in
-    let (message, rows, sets, slots) = s .pre .1 in
-    (s .pre .0, (message, rows, run-room 32 (omega arith) rows sets, slots, none-listed 64 (omega arith) (omega arith)))
+    let (message, rows, slots) = s .pre .1 in
+    (s .pre .0, (message, rows, run-room 32 (omega arith) rows, slots, none-listed 64 (omega arith) (omega arith)))
 
 same-length : tie.Need-same-length
 same-length c = search needs
@@ -39,11 +39,8 @@ same-length c = search needs
 same-length-2 : tie.Need-same-length-2
 same-length-2 c = search needs
 
-same-length-3 : tie.Need-same-length-3
-same-length-3 c = search needs
-
 returns : tie.Need-returns
-returns c = λ b t m n. let k = c .before .before .before .before .before .before .before .before .before .before .before in
+returns c = λ b t m n. let k = c .before .before .before .before .before .before .before .before .before in
     k .message-on .ensures b t m (λ e. absurd (n e))
 
 pub message-short-spec : {M : Type 1} → statement M
@@ -58,5 +55,4 @@ message-short-spec =
     message-on-requires
     same-length
     same-length-2
-    same-length-3
     returns)

@@ -3,38 +3,28 @@
 use Prim.Native.Nat.{_≤_}
 use native.Mathlib.Omega.{arith}
 use mathlib.Core.Path.{refl}
-use lib.ListN.{length}
+use lib.ListN.{length-set}
 use borrow.Author.Needs.{needs}
-use Rattle.plans.specs.MemoryLaws.{told-spare, told-new}
+use Rattle.grammar.specs.Limits.{MAX-INHERITED}
+use Rattle.plans.specs.MemoryLaws.{row-short, plan-filled, slot-filled, told-spare, told-new}
 use Rattle.plans.proofs.memory.plan_next.Statement.{statement}
 use Rattle.plans.proofs.memory.plan_next.Tie as tie
 
--- from each place back to the one before, and to the entry
+-- from the call back to the entry
+abbrev entry : tie.After-plan → tie.Start
+entry c = c .before .before .before .before .before .before .before .before .before
 
-abbrev entry : tie.After-slice-known4 → tie.Start
-entry c = c .before .before .before .before .before .before .before .before .before .before .before .before
-
-abbrev start : tie.After-plan-into → tie.Start
-start c = entry (c .before .before .before)
-
-abbrev filled : tie.After-slice-known6 → tie.After-plan-into
-filled c = c .before .before .before .before
-
-mul-place : tie.Need-mul-place
-mul-place c = search needs
-
-add-place : tie.Need-add-place
-add-place c = search needs
-
--- there are lists
-some-lists : (s : tie.Start) → 1 ≤ length (s .args .lists .now)
-some-lists s = omega (arith, s .pre .0 .4 .lists-long)
+-- a plan is short
+few : (c : tie.After-plan) → c .plan .result ≤ MAX-INHERITED
+few c =
+    let (b, masks, C, L, l, M) = entry c .pre .0 in
+    row-short b _ (c .plan .ensures .0 b _ masks C L)
 
 sub-last : tie.Need-sub-last
-sub-last c = omega (arith, some-lists (c .before .before .before .before .before .before .before .before .before .before .before))
+sub-last c = search needs
 
 slice-read-slot : tie.Need-slice-read-slot
-slice-read-slot c = omega (arith, some-lists (entry c))
+slice-read-slot c = search needs
 
 cast-slot : tie.Need-cast-slot
 cast-slot c = search needs
@@ -42,11 +32,23 @@ cast-slot c = search needs
 add-slot : tie.Need-add-slot
 add-slot c = search needs
 
-plan-into-requires : tie.Need-plan-into-requires
-plan-into-requires c κs =
-    let s = entry (c .before .before) in
-    let (b, places, H, l, M) = s .pre .0 in
-    ((b, places, H, l), s .pre .1, omega (arith, M .room-low, M .last-low), s .pre .2, omega (arith, M .last-low, M .lists-long))
+mul-plan : tie.Need-mul-plan
+mul-plan c = search needs
+
+add-plan : tie.Need-add-plan
+add-plan c = search needs
+
+plan-requires : tie.Need-plan-requires
+plan-requires c κs = search needs
+
+cast-lists : tie.Need-cast-lists
+cast-lists c = omega (arith, few (c .before .before))
+
+mul-lists : tie.Need-mul-lists
+mul-lists c = search needs
+
+slice-write-lists : tie.Need-slice-write-lists
+slice-write-lists c = search needs
 
 mul-if1 : tie.Need-mul-if1
 mul-if1 c = search needs
@@ -57,13 +59,12 @@ add-if1 c = search needs
 same-length : tie.Need-same-length
 same-length c = search needs
 
-same-length-2 : tie.Need-same-length-2
-same-length-2 c = search needs
-
 returns : tie.Need-returns
-returns c = λ b places H l M.
-    let p = filled (c .before) in
-    told-spare H (start p .pre .1) M l refl (p .plan-into .ensures .0 b places H l) (p .plan-into .ensures .1)
+returns c = λ b masks C L l M.
+    let p = c .before .before .before in
+    let s = entry p in
+    let E = p .plan .ensures .1 in
+    told-spare (s .pre .2) M l refl (plan-filled _ (omega (arith, E .long, M .last-low, M .lists-long)) (p .plan .ensures .0 b _ masks C L)) (slot-filled _ _ E)
 
 cast-slots : tie.Need-cast-slots
 cast-slots c = search needs
@@ -71,51 +72,63 @@ cast-slots c = search needs
 add-slots : tie.Need-add-slots
 add-slots c = search needs
 
+mul-slots : tie.Need-mul-slots
+mul-slots c = search needs
+
+add-slots-2 : tie.Need-add-slots-2
+add-slots-2 c = search needs
+
 slice-write-slots : tie.Need-slice-write-slots
 slice-write-slots c = search needs
 
-cast-lists : tie.Need-cast-lists
-cast-lists c = search needs
+cast-lists-2 : tie.Need-cast-lists-2
+cast-lists-2 c = search needs
 
-slice-write-lists : tie.Need-slice-write-lists
-slice-write-lists c = search needs
+slice-write-lists-2 : tie.Need-slice-write-lists-2
+slice-write-lists-2 c =
+    let p = c .before .before .before in
+    let (b, masks, C, L, l, M) = entry p .pre .0 in
+    simp length-set (omega (arith, p .plan .ensures .1 .long, M .lists-long))
+
+same-length-2 : tie.Need-same-length-2
+same-length-2 c = search needs
 
 same-length-3 : tie.Need-same-length-3
 same-length-3 c = search needs
 
-same-length-4 : tie.Need-same-length-4
-same-length-4 c = search needs
-
-same-length-5 : tie.Need-same-length-5
-same-length-5 c = search needs
-
 returns-2 : tie.Need-returns-2
-returns-2 c = λ b places H l M.
-    let p = filled (c .before) in
-    told-new H (start p .pre .1) M l refl (p .plan-into .ensures .0 b places H l) (p .plan-into .ensures .1) (c .if1 .left)
+returns-2 c = λ b masks C L l M.
+    let p = c .before .before .before in
+    let s = entry p in
+    let E = p .plan .ensures .1 in
+    told-new (s .pre .2) M l refl (plan-filled _ (omega (arith, E .long, M .last-low, M .lists-long)) (p .plan .ensures .0 b _ masks C L)) (slot-filled _ _ E)
+    (c .if1 .left)
 
 pub plan-next-spec : {M : Type 1} → statement M
 plan-next-spec =
     tie.close
     (tie.spec
-    mul-place
-    add-place
     sub-last
     slice-read-slot
     cast-slot
     add-slot
-    plan-into-requires
+    mul-plan
+    add-plan
+    plan-requires
+    cast-lists
+    mul-lists
+    slice-write-lists
     mul-if1
     add-if1
     same-length
-    same-length-2
     returns
     cast-slots
     add-slots
+    mul-slots
+    add-slots-2
     slice-write-slots
-    cast-lists
-    slice-write-lists
+    cast-lists-2
+    slice-write-lists-2
+    same-length-2
     same-length-3
-    same-length-4
-    same-length-5
     returns-2)

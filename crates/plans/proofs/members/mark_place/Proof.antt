@@ -1,13 +1,13 @@
--- `idle::mark_place` meets its contract: the item's word is full, and that of the left side if the dot is in front.
+-- `members::mark_place` meets its contract: the item's word names the line, and that of the left side is full if the dot is in front.
 -- Assumes nothing.
 use Prim.Native.Nat.{_-_, _≤_, _<_}
 use native.Mathlib.Omega.{arith}
 use lib.ListN.{length, length-set}
 use borrow.Author.Needs.{needs}
 use Rattle.attributes.specs.CheckingLaws.{rule-there, rule-low, rule-place, position-high, left-below}
-use Rattle.plans.specs.Idle.{places-behind, places-front}
-use Rattle.plans.proofs.idle.mark_place.Statement.{statement}
-use Rattle.plans.proofs.idle.mark_place.Tie as tie
+use Rattle.plans.specs.Places.{places-behind, places-front}
+use Rattle.plans.proofs.members.mark_place.Statement.{statement}
+use Rattle.plans.proofs.members.mark_place.Tie as tie
 
 -- the entry, as the place after the rule and the position are read knows it
 abbrev entry : tie.After-word2 → tie.Start
@@ -23,6 +23,9 @@ rule c = omega (arith, c .before .word .ensures, rule-low (entry c .pre .3) (ent
 
 high : (c : tie.After-word2) → c .word2 .result ≤ 8
 high c = omega (arith, c .word2 .ensures, position-high (entry c .pre .3) (entry c .pre .4))
+
+few : (c : tie.After-word2) → entry c .args .line < 128
+few c = omega (arith, entry c .pre .4, entry c .pre .3 .premises .definitions-limit)
 
 -- Needs
 
@@ -41,14 +44,20 @@ add-word c = search needs
 word-requires-2 : tie.Need-word-requires-2
 word-requires-2 c κs = search needs
 
+cast-places : tie.Need-cast-places
+cast-places c = omega (arith, few c)
+
+add-places : tie.Need-add-places
+add-places c = omega (arith, few c)
+
 mul-places : tie.Need-mul-places
 mul-places c = omega (arith, rule c)
 
-add-places : tie.Need-add-places
-add-places c = omega (arith, rule c)
-
 add-places-2 : tie.Need-add-places-2
-add-places-2 c = omega (arith, rule c, high c)
+add-places-2 c = omega (arith, rule c)
+
+add-places-3 : tie.Need-add-places-3
+add-places-3 c = omega (arith, rule c, high c)
 
 mul-places-2 : tie.Need-mul-places-2
 mul-places-2 c = omega (arith, rule c, high c)
@@ -97,9 +106,11 @@ mark-place-spec =
     mul-word-2
     add-word
     word-requires-2
-    mul-places
+    cast-places
     add-places
+    mul-places
     add-places-2
+    add-places-3
     mul-places-2
     slice-write-places
     same-length

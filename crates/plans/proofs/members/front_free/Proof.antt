@@ -1,13 +1,13 @@
--- `idle::front_free` meets its contract: where the bits so far are none, the words passed have nothing in common.
+-- `members::front_free` meets its contract: where the bits so far are none, the words passed have nothing in common.
 -- Assumes nothing.
 use Prim.Native.Nat.{_-_, _≤_}
 use mathlib.Core.Path.{_≡_}
 use native.Mathlib.Omega.{arith}
 use borrow.Author.Tests.{eqb-true}
 use borrow.Author.Needs.{needs}
-use Rattle.plans.specs.Idle.{FrontFree, front-none, front-more, front-all}
-use Rattle.plans.proofs.idle.front_free.Statement.{statement}
-use Rattle.plans.proofs.idle.front_free.Tie as tie
+use Rattle.plans.specs.Places.{FrontFree, front-none, front-more, front-all}
+use Rattle.plans.proofs.members.front_free.Statement.{statement}
+use Rattle.plans.proofs.members.front_free.Tie as tie
 
 abbrev Inv-loop : tie.InvT-loop
 Inv-loop closures first places bits₀ i₀ bits i = (i ≤ 32) × (bits ≡ 0 → FrontFree closures first places i)

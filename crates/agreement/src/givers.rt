@@ -11,6 +11,8 @@ ghost use Rattle.book.specs.Held.{DefinitionsIn};
 ghost use Rattle.attributes.specs.Checking.{CheckHeld};
 ghost use Rattle.agreement.specs.Givers.{Copies};
 ghost use Rattle.agreement.specs.Given.{GivenIn};
+ghost use Rattle.agreement.specs.OneFormula.{FormulasHeld};
+use attributes::masks::clear;
 use items::words::word;
 
 // True only if the definition in a line gives the first symbol of its rule just the attribute that the left side has: its one node is own of it.
@@ -57,7 +59,7 @@ fn mark_giver(definitions: &[u32], line: usize, leaders: u64, given: &mut [u32])
 }
 
 // What all definitions give, from words that are 0; the leaders.
-pub fn mark_givers(definitions: &[u32], lines: usize, given: &mut [u32]) -> u64
+fn mark_givers(definitions: &[u32], lines: usize, given: &mut [u32]) -> u64
     requires { ⌜ ((b : Book) × (rules : List ℕ) × (owned : List ℕ) × (masks : List ℕ) × CheckHeld b (now definitions) rules owned masks
         × (lines ≡ grammar.definitions b) × (9 * length (b .rules) ≤ length (now given))) ⌝ }
     ensures { λ r. ⌜ ((b : Book) (rules owned masks : List ℕ) → CheckHeld b (now (definitions .entry)) rules owned masks
@@ -70,4 +72,18 @@ pub fn mark_givers(definitions: &[u32], lines: usize, given: &mut [u32]) -> u64
         i += 1;
     }
     leaders
+}
+
+// The same, whatever the words hold: nine of them for each of `count` rules are cleared first.
+pub fn fill_givers(count: u32, definitions: &[u32], lines: u32, given: &mut [u32]) -> u64
+    requires { ⌜ ((b : Book) × (rules : List ℕ) × (kernels : List ℕ) × (starts : List ℕ) × (closures : List ℕ) × (nulls : List ℕ) × (firsts : List ℕ)
+        × (reaches : List ℕ) × (terminals : ℕ) × (states : ℕ)
+        × FormulasHeld b rules count (now definitions) lines kernels starts closures nulls firsts reaches terminals states)
+        × (9 * count ≤ length (now given)) ⌝ }
+    ensures { λ r. ⌜ ((b : Book) (rules kernels starts closures nulls firsts reaches : List ℕ) (terminals states : ℕ)
+        → FormulasHeld b rules count (now (definitions .entry)) lines kernels starts closures nulls firsts reaches terminals states
+        → GivenIn b (grammar.definitions b) (now (given .exit)) r) ⌝ }
+{
+    clear(given, 9 * count as usize);
+    mark_givers(definitions, lines as usize, given)
 }

@@ -15,7 +15,6 @@ ghost use Rattle.attributes.specs.Checking.{NodesRoom, Room};
 ghost use Rattle.agreement.specs.Given.{GivenIn};
 ghost use Rattle.agreement.specs.OneFormula.{FrontsHeld, stateRight, formulasRight};
 use super::check::check_state;
-use super::givers::mark_givers;
 use super::single::single;
 use attributes::masks::masks;
 use attributes::owned::owned;
@@ -149,7 +148,7 @@ fn states_right(
     true
 }
 
-// In every partial state each inherited attribute has one formula (10). `table` and `nexts` are room for the nodes of formulas, 15 for each definition.
+// In every partial state each inherited attribute has one formula (10). `given` and `leaders` have what definitions give, as `givers` says. `table` and `nexts` are room for the nodes of formulas, 15 for each definition.
 pub fn one_formula(
     owners: &[u32],
     attributes: u32,
@@ -165,20 +164,21 @@ pub fn one_formula(
     reaches: &[u32],
     terminals: u32,
     states: u32,
+    given: &[u32],
+    leaders: u64,
     table: &mut [u32],
     nexts: &mut [u32],
 ) -> bool
     requires { ⌜ ((b : Book) × (firsts : List ℕ) × FrontsHeld b (now rules) count (now definitions) lines (now kernels) (now starts) (now closures)
         (now fronts) (now nulls) firsts (now reaches) terminals states × OwnersIn MAX-INHERITED (b .inheritedOwners) (now owners)
-        × (attributes ≡ length (b .inheritedOwners))) × NodesRoom lines (now table) (now nexts) ⌝ }
+        × (attributes ≡ length (b .inheritedOwners)) × GivenIn b (grammar.definitions b) (now given) leaders) × NodesRoom lines (now table) (now nexts) ⌝ }
     ensures { λ r. ⌜ ((b : Book) (firsts : List ℕ) → FrontsHeld b (now (rules .entry)) count (now (definitions .entry)) lines (now (kernels .entry))
         (now (starts .entry)) (now (closures .entry)) (now (fronts .entry)) (now (nulls .entry)) firsts (now (reaches .entry)) terminals states
-        → OwnersIn MAX-INHERITED (b .inheritedOwners) (now (owners .entry)) → attributes ≡ length (b .inheritedOwners) → r ≡ formulasRight b) ⌝ }
+        → OwnersIn MAX-INHERITED (b .inheritedOwners) (now (owners .entry)) → attributes ≡ length (b .inheritedOwners)
+        → GivenIn b (grammar.definitions b) (now (given .entry)) leaders → r ≡ formulasRight b) ⌝ }
 {
     let mut own = [0u32; 32];
     owned(owners, attributes as usize, &mut own);
-    let mut given = [0u32; 576];
-    let leaders = mark_givers(definitions, lines as usize, &mut given);
     let mut sets = [0u32; 576];
     let mut slots = [0u32; 16];
     let mut done = [0u8; 128];
@@ -189,7 +189,7 @@ pub fn one_formula(
         definitions,
         lines,
         &own,
-        &given,
+        given,
         leaders,
         kernels,
         starts,

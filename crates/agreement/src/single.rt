@@ -15,8 +15,6 @@ ghost use Rattle.agreement.specs.Apart.{Apart};
 ghost use Rattle.agreement.specs.Given.{GivenIn};
 ghost use Rattle.agreement.specs.SingleState.{Single, lineWord};
 ghost use Rattle.agreement.specs.OneFormula.{FrontsHeld, formulasRight};
-use super::givers::mark_givers;
-use attributes::masks::clear;
 use automaton::lefts::behind;
 use automaton::lefts::least;
 use items::words::word;
@@ -111,27 +109,23 @@ fn states_single(
     true
 }
 
-// True only if that is so in all states of a book: then each attribute has one formula in every partial state (10). `given` is room for what definitions
-// give, nine words for each of `count` rules.
+// True only if that is so in all states of a book: then each attribute has one formula in every partial state (10).
 pub fn all_single(
-    count: u32,
-    definitions: &[u32],
-    lines: u32,
     kernels: &[u32],
     starts: &[u32],
     fronts: &[u64],
     states: u32,
-    given: &mut [u32],
+    given: &[u32],
+    leaders: u64,
 ) -> bool
-    requires { ⌜ ((b : Book) × (rules : List ℕ) × (closures : List ℕ) × (nulls : List ℕ) × (firsts : List ℕ) × (reaches : List ℕ)
-        × (terminals : ℕ)
-        × FrontsHeld b rules count (now definitions) lines (now kernels) (now starts) closures (now fronts) nulls firsts reaches terminals states)
-        × (9 * count ≤ length (now given)) ⌝ }
-    ensures { λ r. ⌜ (r ≡ true → (b : Book) (rules closures nulls firsts reaches : List ℕ) (terminals : ℕ)
-        → FrontsHeld b rules count (now (definitions .entry)) lines (now (kernels .entry)) (now (starts .entry)) closures (now (fronts .entry))
-        nulls firsts reaches terminals states → true ≡ formulasRight b) ⌝ }
+    requires { ⌜ ((b : Book) × (rules : List ℕ) × (count : ℕ) × (definitions : List ℕ) × (lines : ℕ) × (closures : List ℕ) × (nulls : List ℕ)
+        × (firsts : List ℕ) × (reaches : List ℕ) × (terminals : ℕ)
+        × FrontsHeld b rules count definitions lines (now kernels) (now starts) closures (now fronts) nulls firsts reaches terminals states
+        × GivenIn b (grammar.definitions b) (now given) leaders) ⌝ }
+    ensures { λ r. ⌜ (r ≡ true → (b : Book) (rules : List ℕ) (count : ℕ) (definitions : List ℕ) (lines : ℕ)
+        (closures nulls firsts reaches : List ℕ) (terminals : ℕ)
+        → FrontsHeld b rules count definitions lines (now (kernels .entry)) (now (starts .entry)) closures (now (fronts .entry)) nulls firsts reaches
+        terminals states → GivenIn b (grammar.definitions b) (now (given .entry)) leaders → true ≡ formulasRight b) ⌝ }
 {
-    clear(given, 9 * count as usize);
-    let leaders = mark_givers(definitions, lines as usize, given);
     states_single(kernels, starts, fronts, states as usize, given, leaders)
 }

@@ -18,6 +18,7 @@ ghost use Rattle.compiler.specs.Conditions.{BookKept, definitionsRefusal
 ghost use Rattle.compiler.specs.Prepared.{Prepared};
 ghost use Rattle.compiler.specs.Compiling.{Checked, Compiles};
 use super::states::tables;
+use agreement::givers::fill_givers;
 use agreement::one_formula::one_formula;
 use agreement::single::all_single;
 use book::Book;
@@ -169,16 +170,8 @@ fn formulas_right(
         (now (vanishes .entry)) begins (now (reached .entry)) (book .terminals) (book .states)
         → OwnersIn MAX-INHERITED (b .inheritedOwners) (now (inherited .entry)) → book .inherited ≡ length (b .inheritedOwners) → r ≡ formulasRight b) ⌝ }
 {
-    if all_single(
-        book.rules,
-        definitions,
-        book.inherited_definitions,
-        kernels,
-        starts,
-        fronts,
-        book.states,
-        given,
-    ) {
+    let leaders = fill_givers(book.rules, definitions, book.inherited_definitions, given);
+    if all_single(kernels, starts, fronts, book.states, given, leaders) {
         return true;
     }
     if book.inherited_definitions <= FEW {
@@ -199,6 +192,8 @@ fn formulas_right(
             reached,
             book.terminals,
             book.states,
+            given,
+            leaders,
             &mut nodes,
             &mut nexts,
         );
@@ -220,6 +215,8 @@ fn formulas_right(
         reached,
         book.terminals,
         book.states,
+        given,
+        leaders,
         &mut nodes,
         &mut nexts,
     )

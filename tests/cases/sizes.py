@@ -1,6 +1,6 @@
 """Books and messages whose size is about one at which an engine may go another way: 32 states, 64 kernel or go lines, 48 definitions, 4,096 bytes; 8
 states, 16 lines of each kind, 1,024 bytes; 16 or 32 rules; 256 kernel or go lines, 16,384 bytes; stacks of 32 and of 128 symbols under 24 tokens or a
-few more; 253 partial states with definitions, and 62 in a message of few tokens."""
+few more; 253 partial states with definitions, and 62 in a message of few tokens; 64 definitions of inherited attributes."""
 
 import grammar as grammars
 import lr
@@ -157,6 +157,43 @@ def many_partial_states(group, messages):
         group.add(text + lists.spelled([(kind + 1, 5 * place) for place, kind in enumerate(kinds)]).encode())
 
 
+def side_by_side(fours, twos, ones):
+    """n1 -> tJ n2 n3 n1, n1 -> tJ n3 n1 and n1 -> tJ n1, so many of each: four, two and one definitions of inherited attributes in a rule, of the four two for
+    n2 behind one dot. One more stands in the rule of the start, and one at the front of the last rule of n1, n1 -> n3."""
+    letters = [f"n1 t{which + 1} {right}n1" for which, right in enumerate(["n2 n3 "] * fours + ["n3 "] * twos + [""] * ones)]
+    grammar = shapes.of_rules(len(letters), 3, "n0 n1", *letters, "n1 n3", "n2", "n3")
+    grammar.inh, grammar.syn = ["n2", "n2", "n3", "n1"], ["n1", "n2", "n3"]
+    grammar.inhdefs[0, 1, 3] = "9"
+    for rule, letter in enumerate(letters, 1):
+        right = letter.split()[1:]
+        last = len(right)
+        if "n2" in right:
+            grammar.inhdefs[rule, 2, 0] = ["add", ["val", "1"], str(rule)]
+            grammar.inhdefs[rule, 2, 1] = ["sub", ["own", "i3"], ["val", "1"]]
+        if "n3" in right:
+            grammar.inhdefs[rule, last - 1, 2] = ["max", ["own", "i3"], ["at", "2", "s1"] if "n2" in right else ["val", "1"]]
+        grammar.inhdefs[rule, last, 3] = ["add", ["own", "i3"], ["at", str(last - 1), "s2"] if "n3" in right else ["val", "1"]]
+        grammar.syndefs[rule, 0] = ["add", ["at", str(last), "s0"], ["val", "1"]]
+    rule = 1 + len(letters)
+    grammar.inhdefs[rule, 1, 2] = ["add", ["own", "i3"], "5"]
+    grammar.syndefs[rule, 0] = ["at", "1", "s2"]
+    grammar.syndefs[rule + 1, 1] = ["sub", ["own", "i0"], ["own", "i1"]]
+    grammar.syndefs[rule + 2, 2] = ["add", ["own", "i2"], "1"]
+    return grammar
+
+
+def counts_of_inherited_definitions(rng, group):
+    """About 64 definitions of inherited attributes, and nearly 100; messages that use those of many rules."""
+    for numbers in ((14, 2, 1), (14, 2, 2), (14, 2, 3), (22, 2, 2)):
+        grammar = side_by_side(*numbers)
+        text = states.book_text(grammar, lr.canonical(grammar, 128)).encode()
+        assert compiled(text)[0] == 0
+        group.base(text)
+        for count in (0, 1, 5, 20, 40):
+            kinds = [rng.randint(1, grammar.terminals) for _ in range(count)] + list(range(max(1, grammar.terminals - 4), grammar.terminals + 1))
+            group.add(text + lists.spelled(lists.with_values(rng, kinds)).encode())
+
+
 def fill(rng, group):
     """All of these."""
     counts_of_states(rng, group, shapes.sums, {"all_states": 32, "all_kernels": 64, "all_goes": 64})
@@ -174,3 +211,4 @@ def fill(rng, group):
     counts_of_states(rng, group, shapes.sums, {"all_goes": 256})
     longer(rng, group, lambda: grown(rng, 31, 14, 40, 30, True), 16384)
     many_partial_states(group, [letters[:count] for count in range(19, 26)] + [letters[:21] + letters[:3], letters[:22] + letters[:2]])
+    counts_of_inherited_definitions(rng, group)

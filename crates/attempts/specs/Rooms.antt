@@ -11,6 +11,7 @@ use Rattle.book.specs.declared.Book.{Book}
 use Rattle.book.specs.declared.Room.{Room}
 use Rattle.book.specs.Rooms.{fullRoom}
 use Rattle.book.specs.Spelling.{arrays, Roomy, Complete}
+use Rattle.automaton.specs.GoTable.{Unset, unset-all}
 use Rattle.compiler.specs.States.{TablesLent}
 use Rattle.compiler.specs.Compiling.{Compiles}
 use Rattle.messages.specs.Zeros.{zeros}
@@ -36,17 +37,17 @@ pub record ArraysLent (room : Room) (rules definitions kernels goes vanishes beg
   pub starts-long : length starts ≡ room .states + 1
   pub closures-none : closures ≡ replicate (32 * room .states) 0
   pub fronts-long : length fronts ≡ room .states
-  pub table-long : length table ≡ 64 * room .states
+  pub table-unset : Unset (room .states) table
   pub rules-few : room .rules ≤ MAX-RULES
   pub definitions-few : room .definitions ≤ MAX-DEFINITIONS
   pub kernels-few : room .kernels ≤ MAX-KERNELS
   pub goes-few : room .goes ≤ MAX-GOES
 
--- arrays of zeros
+-- arrays of zeros, and a go table of 255s
 arrays-lent : (room : Room) → room .rules ≤ MAX-RULES → room .definitions ≤ MAX-DEFINITIONS → room .kernels ≤ MAX-KERNELS → room .goes ≤ MAX-GOES
     → ArraysLent room (replicate (10 * room .rules) 0) (replicate (49 * room .definitions) 0) (replicate (5 * room .kernels) 0)
     (replicate (3 * room .goes) 0) (replicate (9 * room .rules) 0) (replicate (9 * room .rules) 0) (replicate (9 * room .rules) 0)
-    (replicate (room .states + 1) 0) (replicate (32 * room .states) 0) (replicate (room .states) 0) (replicate (64 * room .states) 0)
+    (replicate (room .states + 1) 0) (replicate (32 * room .states) 0) (replicate (room .states) 0) (replicate (64 * room .states) 255)
 arrays-lent room rules definitions kernels goes = record {
   rules-long = zeros (10 * room .rules);
   definitions-long = zeros (49 * room .definitions);
@@ -58,7 +59,7 @@ arrays-lent room rules definitions kernels goes = record {
   starts-long = zeros (room .states + 1);
   closures-none = refl;
   fronts-long = zeros (room .states);
-  table-long = zeros (64 * room .states);
+  table-unset = unset-all (room .states);
   rules-few = rules;
   definitions-few = definitions;
   kernels-few = kernels;
@@ -66,11 +67,11 @@ arrays-lent room rules definitions kernels goes = record {
 }
 
 pub tiny-arrays : ArraysLent tinyRoom (replicate 160 0) (replicate 784 0) (replicate 80 0) (replicate 48 0) (replicate 144 0) (replicate 144 0)
-    (replicate 144 0) (replicate 9 0) (replicate 256 0) (replicate 8 0) (replicate 512 0)
+    (replicate 144 0) (replicate 9 0) (replicate 256 0) (replicate 8 0) (replicate 512 255)
 tiny-arrays = arrays-lent tinyRoom (omega arith) (omega arith) (omega arith) (omega arith)
 
 pub short-arrays : ArraysLent shortRoom (replicate 320 0) (replicate 2352 0) (replicate 320 0) (replicate 192 0) (replicate 288 0) (replicate 288 0)
-    (replicate 288 0) (replicate 33 0) (replicate 1024 0) (replicate 32 0) (replicate 2048 0)
+    (replicate 288 0) (replicate 33 0) (replicate 1024 0) (replicate 32 0) (replicate 2048 255)
 short-arrays = arrays-lent shortRoom (omega arith) (omega arith) (omega arith) (omega arith)
 
 -- room for all that the limits allow but for kernel and go lines, of which there is room for some
@@ -104,7 +105,7 @@ full-lines = lines-lent MAX-KERNELS MAX-GOES (omega arith) (omega arith)
 
 pub wide-arrays : {room : Room} {kernels goes : List ℕ} → LinesLent room kernels goes
     → ArraysLent room (replicate 640 0) (replicate 6272 0) kernels goes (replicate 576 0) (replicate 576 0) (replicate 576 0) (replicate 129 0)
-    (replicate 4096 0) (replicate 128 0) (replicate 8192 0)
+    (replicate 4096 0) (replicate 128 0) (replicate 8192 255)
 wide-arrays lent = record {
   rules-long = rw (lent .rules-all) (zeros 640);
   definitions-long = rw (lent .definitions-all) (zeros 6272);
@@ -116,7 +117,7 @@ wide-arrays lent = record {
   starts-long = rw (lent .states-all) (zeros 129);
   closures-none = rw (lent .states-all) refl;
   fronts-long = rw (lent .states-all) (zeros 128);
-  table-long = rw (lent .states-all) (zeros 8192);
+  table-unset = rw (lent .states-all) (unset-all MAX-STATES);
   rules-few = omega (arith, lent .rules-all);
   definitions-few = omega (arith, lent .definitions-all);
   kernels-few = lent .kernels-few;
@@ -159,7 +160,7 @@ words-lent {room} words e lent = record {
   starts-long = lent .starts-long;
   closures-none = lent .closures-none;
   fronts-long = lent .fronts-long;
-  table-long = lent .table-long;
+  table-unset = lent .table-unset;
   rules-few = lent .rules-few;
   definitions-few = lent .definitions-few;
   kernels-few = lent .kernels-few;
@@ -191,6 +192,6 @@ module _ {room : Room} {rules definitions kernels goes vanishes begins reached s
     starts-long = omega (arith, lent .starts-long);
     closures-none = lent .closures-none;
     fronts-long = omega (arith, lent .fronts-long);
-    table-long = lent .table-long;
+    table-unset = lent .table-unset;
     actions-long = long;
   }

@@ -1,4 +1,4 @@
--- The go lines of a book in an array, and the table that is filled from them, from the last line to the first.
+-- The go lines of a book in an array, and the table that they are put into, from the last line to the first.
 -- Assumes nothing.
 use Prim.Native.Nat.{ℕ, suc, _+_, _*_, _-_, _<_, _≤_}
 use native.Mathlib.Omega.{arith}
@@ -6,9 +6,9 @@ use mathlib.Core.Path.{_≡_, refl, _∙_}
 use mathlib.Core.Logic.{_≢_}
 use mathlib.Core.Bool.{Bool, true, false, _&&_}
 use mathlib.Core.Option.{some}
-use mathlib.Core.List.{List, [], _∷_, _++_}
+use mathlib.Core.List.{List, [], _∷_}
 use lib.Dec.{eqb}
-use lib.ListN.{length, getD, drop, set, replicate, length-set, length-append, length-replicate, length-drop, getD-replicate, List·getD-append}
+use lib.ListN.{length, getD, drop, set, replicate, length-set, length-replicate, getD-replicate}
 use lib.Seq.{drop-cons, drop-length, getD-set-same, getD-set-other}
 use Rattle.grammar.specs.Limits.{MAX-STATES}
 use Rattle.grammar.specs.Data.Symbol.{Symbol, terminal, nonterminal}
@@ -31,6 +31,21 @@ pub record GoLinesIn (b : Book) (goes : List ℕ) (count states : ℕ) : Type 0 
   pub lines-in : GoesIn (b .goes) goes
   pub count-is : count ≡ length (b .goes)
   pub states-is : states ≡ b .states
+
+-- room for the targets of a number of states, with none in it
+pub record Unset (states : ℕ) (table : List ℕ) : Type 0 where
+  pub long : 64 * states ≤ length table
+  pub none : (i : ℕ) → i < 64 * states → getD table i 0 ≡ 255
+
+-- room for exactly so many
+pub unset-all : (states : ℕ) → Unset states (replicate (64 * states) 255)
+unset-all states =
+    let all : length {A = ℕ} (replicate (64 * states) 255) ≡ 64 * states = length-replicate (64 * states) 255 in
+    record { long = omega arith; none = λ i l. getD-replicate (64 * states) i 255 0 l }
+
+-- room for more is room for fewer
+pub unset-fewer : {states fewer : ℕ} {table : List ℕ} → Unset states table → fewer ≤ states → Unset fewer table
+unset-fewer U less = record { long = omega (arith, U .long); none = λ i l. U .none i (omega arith) }
 
 -- the words of line i are there, and small
 pub record LineLow (goes : List ℕ) (i : ℕ) : Type 0 where
@@ -75,24 +90,19 @@ module _ {b : Book} {goes : List ℕ} {count states : ℕ} (h : GoLinesIn b goes
 -- ---- the table's stages
 
 -- no line is in
-pub filled-none : (goes table : List ℕ) (count states : ℕ) → 64 * states ≤ length table
-    → Filled goes count states count (replicate (64 * states) 255 ++ drop (64 * states) table)
+pub filled-none : (goes : List ℕ) (count : ℕ) {states : ℕ} {table : List ℕ} → Unset states table → Filled goes count states count table
 unfolding goIn targetCode
-filled-none goes table count states f = record {
+filled-none goes count {states} {table} U = record {
   within = omega arith;
-  long = simp (length-append, length-replicate, length-drop) (omega arith);
+  long = U .long;
   holds = λ b h S X s x. empty b h S X s (code-low X (go-symbol-low (h .limits) X x));
 }
   where
     empty : (b : Book) → GoLinesIn b goes count states → (S : ℕ) (X : Symbol) → S < b .states → symbolCode X < 64
-        → getD (replicate (64 * states) 255 ++ drop (64 * states) table) (64 * S + symbolCode X) 0 ≡ targetCode (goIn (drop count (b .goes)) S X)
+        → getD table (64 * S + symbolCode X) 0 ≡ targetCode (goIn (drop count (b .goes)) S X)
     empty b h S X s x =
-        let inside : 64 * S + symbolCode X < 64 * states = omega (arith, h .states-is) in
-        let cleared : length {A = ℕ} (replicate (64 * states) 255) ≡ 64 * states = length-replicate (64 * states) 255 in
         let none-left : drop count (b .goes) ≡ [] = rw (h .count-is) (drop-length (b .goes)) in
-        List·getD-append (replicate (64 * states) 255) (drop (64 * states) table) 0 (64 * S + symbolCode X) (omega arith)
-        ∙ getD-replicate (64 * states) (64 * S + symbolCode X) 255 0 inside
-        ∙ rw (none-left, goIn, targetCode)
+        U .none (64 * S + symbolCode X) (omega (arith, h .states-is)) ∙ rw (none-left, goIn, targetCode)
 
 -- a line in front: its target at its place, and what stood before at the others
 put-line : (table : List ℕ) (g : Go) (rest : List Go) (S : ℕ) (X : Symbol) → numberOf X < 32 → numberOf (g .symbol) < 32

@@ -26,7 +26,7 @@ use Rattle.automaton.specs.KernelRules.{RuledIn}
 use Rattle.items.specs.GrammarIn.{GrammarIn}
 use Rattle.items.specs.GrammarOf.{GrammarHeld, book-grammar}
 use Rattle.items.specs.RestSets.{RestSetsIn}
-use Rattle.automaton.specs.GoTable.{GoLinesIn}
+use Rattle.automaton.specs.GoTable.{GoLinesIn, Unset, unset-fewer}
 use Rattle.automaton.specs.StatesIn.{StatesIn, ItemsIn, AutomatonIn}
 use Rattle.automaton.specs.Fronts.{Fronts, FrontsIn, fronts-asked}
 use Rattle.automaton.specs.ActionTable.{Acted}
@@ -86,7 +86,7 @@ pub record TablesRoom (rules states : ℕ) (vanishes begins reached starts closu
   pub starts-long : states ≤ MAX-STATES → states + 1 ≤ length starts
   pub closures-blank : states ≤ MAX-STATES → Blank states closures
   pub fronts-long : states ≤ MAX-STATES → states ≤ length fronts
-  pub table-long : states ≤ MAX-STATES → 64 * states ≤ length table
+  pub table-unset : states ≤ MAX-STATES → Unset states table
   pub actions-long : states ≤ MAX-STATES → 32 * states ≤ length actions
 
 -- the same, with as much room as is said
@@ -97,7 +97,7 @@ pub record TablesLent (room : Room) (vanishes begins reached starts closures fro
   pub starts-long : room .states + 1 ≤ length starts
   pub closures-none : closures ≡ replicate (32 * room .states) 0
   pub fronts-long : room .states ≤ length fronts
-  pub table-long : length table ≡ 64 * room .states
+  pub table-unset : Unset (room .states) table
   pub actions-long : 32 * room .states ≤ length actions
 
 -- actions may be written over before they are filled
@@ -111,7 +111,7 @@ actions-kept e t = record {
   starts-long = t .starts-long;
   closures-none = t .closures-none;
   fronts-long = t .fronts-long;
-  table-long = t .table-long;
+  table-unset = t .table-unset;
   actions-long = omega (arith, t .actions-long);
 }
 
@@ -139,7 +139,7 @@ tables-room {room} {numbers} {closures = closures} fit t =
         none = t .closures-none ∙ ap (λ (n : ℕ). replicate n 0) (sym closures-long);
       };
       fronts-long = λ few. omega (arith, t .fronts-long, enough few);
-      table-long = λ few. omega (arith, t .table-long, enough few);
+      table-unset = λ few. unset-fewer (t .table-unset) (enough few);
       actions-long = λ few. omega (arith, t .actions-long, enough few);
     }
   where

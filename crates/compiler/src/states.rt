@@ -10,6 +10,7 @@ ghost use Rattle.book.specs.Held.{GoesIn};
 ghost use Rattle.items.specs.Arrays.{StartsIn, ClosuresIn, GoTableIn};
 ghost use Rattle.items.specs.Closures.{Blank};
 ghost use Rattle.automaton.specs.Fronts.{FrontsIn};
+ghost use Rattle.automaton.specs.GoTable.{Unset};
 ghost use Rattle.compiler.specs.States.{KernelsHeld, BookHeld, ItemsFilled, TablesRoom, Tabled, goesRight};
 use automaton::actions::actions;
 use automaton::go_rules::go_rules;
@@ -83,7 +84,7 @@ fn moves(
 ) -> bool
     requires { ⌜ ((b : Book) × KernelsHeld b (now rules) (now kernels) states × GoesIn (b .goes) (now goes) × (lines ≡ length (b .goes))
         × StartsIn (b .kernels) (b .states) (now starts) × ClosuresIn b (setsOf (b .rules)) (now lookaheads)
-        × FrontsIn b (now rules) (now lookaheads) (now fronts)) × (64 * states ≤ length (now table)) ⌝ }
+        × FrontsIn b (now rules) (now lookaheads) (now fronts)) × Unset states (now table) ⌝ }
     ensures { λ r. ⌜ ((b : Book) → KernelsHeld b (now (rules .entry)) (now (kernels .entry)) states → GoesIn (b .goes) (now (goes .entry))
         → lines ≡ length (b .goes) → StartsIn (b .kernels) (b .states) (now (starts .entry)) → ClosuresIn b (setsOf (b .rules)) (now (lookaheads .entry))
         → FrontsIn b (now (rules .entry)) (now (lookaheads .entry)) (now (fronts .entry)) → (r ≡ goesRight b) × GoTableIn b (now (table .exit))) ⌝ }

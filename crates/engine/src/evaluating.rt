@@ -45,7 +45,7 @@ fn tiny(words: &[u32], n: usize, tokens: &[u32], rows: &mut [u32], count: &mut u
     let mut starts = [0u32; 9];
     let mut lookaheads = [0u32; 256];
     let mut fronts = [0u64; 8];
-    let mut table = [0u8; 512];
+    let mut table = [255u8; 512];
     let mut actions = [0u8; 256];
     attempt(
         &mut text,
@@ -87,7 +87,7 @@ fn short(words: &[u32], n: usize, tokens: &[u32], rows: &mut [u32], count: &mut 
     let mut starts = [0u32; 33];
     let mut lookaheads = [0u32; 1024];
     let mut fronts = [0u64; 32];
-    let mut table = [0u8; 2048];
+    let mut table = [255u8; 2048];
     let mut actions = [0u8; 1024];
     attempt(
         &mut text,
@@ -136,7 +136,7 @@ fn any_book(
     let mut starts = [0u32; 129];
     let mut lookaheads = [0u32; 4096];
     let mut fronts = [0u64; 128];
-    let mut table = [0u8; 8192];
+    let mut table = [255u8; 8192];
     let mut vanishes = [0u32; 576];
     let mut begins = [0u32; 576];
     let mut reached = [0u32; 576];

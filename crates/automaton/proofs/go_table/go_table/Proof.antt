@@ -15,30 +15,20 @@ abbrev μ-loop : tie.MeasureT-loop
 μ-loop goes count states table₀ i₀ table i = i
 
 -- the words of the line that is put in
-low : (c : tie.In-loop Inv-loop μ-loop) → LineLow (c .before .before .before .before .before .before .before .before .args .goes .now) (c .before .loop .i - 1)
+low : (c : tie.In-loop Inv-loop μ-loop) → LineLow (c .before .before .before .before .args .goes .now) (c .before .loop .i - 1)
 low c =
-    let start = c .before .before .before .before .before .before .before .before in
+    let start = c .before .before .before .before in
     line-low (start .pre .1 .1) (c .before .loop .i - 1) (omega (arith, c .before .loop .inv .1 .within))
 
 there : (c : tie.In-loop Inv-loop μ-loop)
-    → getD (c .before .before .before .before .before .before .before .before .args .goes .now) (3 * (c .before .loop .i - 1)) 0
-    < c .before .before .before .before .before .before .before .before .args .states
+    → getD (c .before .before .before .before .args .goes .now) (3 * (c .before .loop .i - 1)) 0
+    < c .before .before .before .before .args .states
 there c =
-    let start = c .before .before .before .before .before .before .before .before in
+    let start = c .before .before .before .before in
     line-state (start .pre .1 .1) (c .before .loop .i - 1) (omega (arith, c .before .loop .inv .1 .within))
 
-mul-fill : tie.Need-mul-fill Inv-loop μ-loop
-mul-fill c = omega (arith, c .before .before .before .pre .1 .1 .states-is, c .before .before .before .pre .1 .1 .limits .states-limit .high)
-
-fill-requires : tie.Need-fill-requires Inv-loop μ-loop
-fill-requires c κs = c .before .before .before .pre .0
-
 loop-holds : tie.Need-loop-holds Inv-loop μ-loop
-loop-holds c =
-    let s = c .before .before .before .before .before .before in (
-      refl,
-      rw (c .before .before .fill .ensures) (filled-none (s .args .goes .now) (s .args .table .now) (s .args .count) (s .args .states) (s .pre .0)),
-    )
+loop-holds c = let s = c .before .before in (refl, filled-none (s .args .goes .now) (s .args .count) (s .pre .0))
 
 sub-i : tie.Need-sub-i Inv-loop μ-loop
 sub-i c = search needs
@@ -101,8 +91,6 @@ go-table-spec =
     (tie.spec
     Inv-loop
     μ-loop
-    mul-fill
-    fill-requires
     loop-holds
     sub-i
     mul-word

@@ -76,7 +76,7 @@ moves-requires c κs =
     let (k, T) = kernels-at i .kernel-states .ensures b (H .kernels-held) (H .kernels-counted) in
     let I = i .fill-items .ensures b (H .kernels-held) (H .rules-counted) T in
     let W = held-fronts (H .kernels-held) (H .rules-counted) (f .fill-fronts .ensures) in
-    ((b, H .kernels-held, H .goes-in, H .goes-counted, T, I .closures-in, W), start (kernels-at i) .pre .1 .table-long (few H))
+    ((b, H .kernels-held, H .goes-in, H .goes-counted, T, I .closures-in, W), start (kernels-at i) .pre .1 .table-unset (few H))
 
 same-length-2 : tie.Need-same-length-2
 same-length-2 c = search needs

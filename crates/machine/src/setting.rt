@@ -1,8 +1,7 @@
 // The top cell of a move.
 // A contract asks that the arrays hold some book, and says its statement of every book that they hold.
 ghost use mathlib.Core.List.{List};
-ghost use Prim.Native.Nat.{ℕ, _*_, _<_, _≤_};
-ghost use lib.ListN.{length};
+ghost use Prim.Native.Nat.{ℕ, _*_, _<_};
 ghost use Rattle.grammar.specs.Data.Book.{Book};
 ghost use Rattle.grammar.specs.Evaluator.Machine.{Frame};
 ghost use Rattle.plans.specs.Plans.{PlansIn, PlansHeld};

@@ -1,7 +1,7 @@
 -- `check::check_state` meets its contract: the check of all items together, and where that fails, of the partial states.
 -- Assumes nothing.
 use Prim.Native.Nat.{suc}
-use mathlib.Core.Path.{refl, sym, _∙_}
+use mathlib.Core.Path.{sym, _∙_}
 use native.Mathlib.Omega.{arith}
 use borrow.Author.Needs.{needs}
 use Rattle.grammar.specs.Formulas.FormulaCheck as grammar

@@ -1,6 +1,6 @@
 -- `members::add` meets its contract: the line's bit is set.
 -- Assumes nothing.
-use Prim.Native.Nat.{_+_, _%_}
+use Prim.Native.Nat.{_%_}
 use mathlib.Core.Path.{refl}
 use native.Mathlib.Omega.{arith}
 use lib.Dec.{lit<}

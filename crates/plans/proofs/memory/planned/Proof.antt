@@ -1,6 +1,6 @@
 -- `memory::planned` meets its contract: a plan that is known is told; of the others, those of partial states without a definition have no lines, and any other
 -- is worked out. Assumes nothing.
-use Prim.Native.Nat.{_+_, _*_, _<_}
+use Prim.Native.Nat.{_+_, _*_}
 use native.Mathlib.Omega.{arith}
 use mathlib.Core.Path.{refl}
 use borrow.Author.Needs.{needs}

@@ -1,12 +1,15 @@
-"""Kernel lines whose lookaheads are those of the line before, changed in one place: more, fewer or other lookaheads, other bytes behind them."""
+"""Kernel lines whose lookaheads are those of the line before, or of one before lines with a single lookahead, changed in one place: more, fewer or other
+lookaheads, other bytes behind them."""
 
 import re
 
 from generate.books import random_book
 from oracle.answer import compiled
 
-PAIR = re.compile(rb"\(kernel [0-9]+ [0-9]+ [0-9]+((?: t[0-9]+)+)\)\n\(kernel [0-9]+ [0-9]+ [0-9]+(\1)\)\n")
-BASES = 16
+ITEM = rb"\(kernel [0-9]+ [0-9]+ [0-9]+"
+BESIDE = re.compile(ITEM + rb"((?: t[0-9]+)+)\)\n" + ITEM + rb"(\1)\)\n")
+APART = re.compile(ITEM + rb"((?: t[0-9]+)+)\)\n(?:" + ITEM + rb" t[0-9]+\)\n)+" + ITEM + rb"(\1)\)\n")
+BASES = {BESIDE: 16, APART: 4}
 LONG = range(14, 80)
 LONGEST = 2500
 
@@ -25,15 +28,21 @@ def changes(names):
         yield names[:at] + b"n" + names[at + 1 :]
 
 
-def fill(rng, group):
-    """Of each base the first two lines beside each other, one changed and then the other."""
+def fill_pairs(rng, group, pattern, wanted):
+    """Of each base the first two such lines, one changed and then the other."""
     bases = 0
-    while bases < BASES:
+    while bases < wanted:
         text = random_book(rng, most_each=1, mended=True)[2].encode()
-        found = next((pair for pair in PAIR.finditer(text) if len(pair[1]) in LONG), None)
+        found = next((pair for pair in pattern.finditer(text) if len(pair[1]) in LONG), None)
         if found and len(text) <= LONGEST and compiled(text)[0] == 0:
             bases += 1
             group.base(text)
             group.add(text)
             for line in (1, 2):
                 group.add_all(text[: found.start(line)] + change + text[found.end(line) :] for change in changes(found[line]))
+
+
+def fill(rng, group):
+    """Lines beside each other, then lines apart."""
+    for pattern, wanted in BASES.items():
+        fill_pairs(rng, group, pattern, wanted)

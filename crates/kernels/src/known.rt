@@ -1,4 +1,5 @@
-// Lookaheads that are known: lines often have those of the line before, and then the bytes are compared and not read again.
+// Lookaheads that are known: lines often have those of a line before, and then the bytes are compared and not read again. Few bytes are read sooner than
+// compared, so only long lookaheads are known, and short ones between two lines with the same leave them so.
 ghost use mathlib.Core.Path.{_≡_};
 ghost use mathlib.Core.Bool.{true};
 ghost use Prim.Native.Nat.{_+_, _≤_};
@@ -12,7 +13,10 @@ ghost use Rattle.kernels.specs.KnownLookaheads.{KnownIn, Again, Closed};
 use super::lookaheads::LookaheadsRead;
 use super::lookaheads::lookaheads;
 
-// The lookaheads that were read last: where they begin, how many bytes they have with the bracket behind them, and what was read. Without any, length is 0.
+// The bytes of the shortest lookaheads that are known, with the bracket behind them.
+const LONG: usize = 16;
+
+// The long lookaheads that were read last: where they begin, how many bytes they have with the bracket, and what was read. Without any, length is 0.
 pub struct Known {
     pub from: usize,
     pub length: usize,
@@ -50,13 +54,13 @@ fn same(text: &[u8], a: usize, b: usize, m: usize) -> bool
     bits == 0
 }
 
-// True only if the known lookaheads stand here too. Fewer than 16 bytes are read sooner than compared.
+// True only if the known lookaheads stand here too.
 fn as_before(text: &[u8], at: usize, known: Known) -> bool
     requires { ⌜ KnownIn (now text) known ⌝ }
     ensures { λ r. ⌜ (r ≡ true → Again (now (text .entry)) at known) ⌝ }
 {
     let n = text.len();
-    if known.length < 16 {
+    if known.length == 0 {
         return false;
     }
     if n < at {
@@ -84,7 +88,7 @@ pub fn next_lookaheads(t: &[u8; 256], text: &[u8], at: usize, known: Known) -> L
     lookaheads(t, text, at)
 }
 
-// What is known after a line that ends at `end`: its lookaheads, which begin at `from`, unless the line is misspelt.
+// What is known after a line that ends at `end`: its lookaheads, which begin at `from`, if they are long, unless the line is misspelt.
 pub fn known_after(
     text: &[u8],
     from: usize,
@@ -99,9 +103,13 @@ pub fn known_after(
     if n < end {
         return known;
     }
+    let length = read.at + 1 - from;
+    if length < LONG {
+        return known;
+    }
     Known {
         from,
-        length: read.at + 1 - from,
+        length,
         count: read.count,
         last: read.last,
         set: read.set,

@@ -1,9 +1,12 @@
 pub mod Alike
 pub mod Apart
 pub mod CheckLaws
+pub mod DefinitionLines
 pub mod Given
 pub mod Givers
 pub mod OneFormula
 pub mod PassLaws
 pub mod PassesLaws
+pub mod SameLines
 pub mod SingleState
+pub mod Twins

@@ -1,24 +1,20 @@
--- States to whose items each attribute is given by one definition at most, copies left out, as the words of the state and of `Given` tell it.
+-- States in which the definitions that give the same attribute are alike, copies left out, as the words of the state and of `GiversIn` tell it.
 -- Assumes nothing.
-use Prim.Native.Nat.{ℕ, zero, suc, _+_, _*_, _-_, _<_, _≤_}
+use Prim.Native.Nat.{ℕ, _+_, _*_, _-_, _<_, _≤_}
 use native.Mathlib.Omega.{arith}
 use mathlib.Core.Path.{_≡_, refl, sym, ap, _∙_}
 use mathlib.Core.Logic.{_⊎_, inl, inr}
 use mathlib.Core.Bool.{Bool, true, false, _&&_}
-use mathlib.Core.List.{List, [], _∷_}
-use lib.Dec.{ltb}
+use mathlib.Core.List.{List}
 use lib.Bits.{bitAnd, bitOr}
 use lib.ListN.{length, getD}
-use borrow.Author.Tests.{ltb-true, ltb-false}
 use Rattle.sets.specs.Sets.{bit}
 use Rattle.sets.specs.Operations.{bit-and}
 use Rattle.grammar.specs.Automaton.TestLaws.{both-true}
 use Rattle.grammar.specs.Data.Symbol.{leftOf}
 use Rattle.grammar.specs.Data.Book.{Book}
 use Rattle.grammar.specs.Data.ListLaws.{at-member}
-use Rattle.grammar.specs.Format.Ordered.{Ascends, ascends-∷, Ordered, inheritedKey}
-use Rattle.grammar.specs.Format.OrderLaws.{before-differs, ascends-above}
-use Rattle.grammar.specs.Conditions.Meaning.{Declared}
+use Rattle.grammar.specs.Format.Ordered.{Ordered}
 use Rattle.grammar.specs.Automaton.FirstSets.{setsOf}
 use Rattle.grammar.specs.Automaton.Items.{Closure}
 use Rattle.grammar.specs.Formulas.FormulaCheck as grammar
@@ -27,13 +23,15 @@ use Rattle.automaton.specs.StatesIn.{ItemsIn}
 use Rattle.automaton.specs.Lefts.{Least, none-bit}
 use Rattle.automaton.specs.Fronts.{FrontsIn}
 use Rattle.agreement.specs.Apart.{Apart, apart-none, apart-more, apart-past}
-use Rattle.agreement.specs.Givers.{Copies, GivenOnce}
+use Rattle.agreement.specs.Givers.{Copies, Alike, alike-sym, GivenAlike}
 use Rattle.agreement.specs.Given.{GivenIn}
+use Rattle.agreement.specs.SameLines.{three-ways, same-line}
+use Rattle.agreement.specs.Twins.{GivesAt, Agreed}
 use Rattle.attributes.specs.StateWords.{InLine, InFront, located}
 
--- no two definitions at items of the closure that are no copies give the same attribute
+-- of the definitions at items of the closure, any two that are no copies and give the same attribute are alike
 abbrev pub Single : Book → ℕ → Type 0
-Single b S = GivenOnce b (λ P D. (a : ℕ) × Closure b S P D a)
+Single b S = GivenAlike b (λ P D. (a : ℕ) × Closure b S P D a)
 
 -- What the test looks at
 
@@ -45,45 +43,6 @@ chosenOf false attributes = 0
 -- the attributes that are given at the front of rule P, if it is among some
 abbrev pub frontWord : ℕ → List ℕ → ℕ → ℕ
 frontWord rules given P = chosenOf (bit rules P) (getD given (9 * P) 0)
-
--- those that are given at the item of a kernel line
-abbrev pub lineWord : List ℕ → List ℕ → ℕ → ℕ
-lineWord kernels given i = getD given (9 * getD kernels (5 * i + 1) 0 + getD kernels (5 * i + 2) 0) 0
-
--- Places in order
-
-three-ways : {C : Type 0} (i j : ℕ) → (i < j → C) → (j < i → C) → (i ≡ j → C) → C
-three-ways {C} i j less more same = by (ltb i j) (ltb j i) refl refl
-  where
-    by : (s t : Bool) → ltb i j ≡ s → ltb j i ≡ t → C
-    by true t p q = less (ltb-true i j p)
-    by false true p q = more (ltb-true j i q)
-    by false false p q = same (omega (arith, ltb-false i j p, ltb-false j i q))
-
--- keys that ascend are of different places
-ascends-place : {A : Type 0} {key : A → List ℕ} {last : List ℕ} (xs : List A) (x : A) → Ascends key last xs → (i j : ℕ) → i < j → j < length xs
-    → key (getD xs i x) ≡ key (getD xs j x) → ⊥
-ascends-place [] x a i j l h e = absurd (omega arith)
-ascends-place (y ∷ xs) x (ascends-∷ b a) i zero l h e = absurd (omega arith)
-ascends-place (y ∷ xs) x (ascends-∷ b a) zero (suc j) l h e = before-differs (ascends-above a (at-member xs j x (omega arith))) e
-ascends-place (y ∷ xs) x (ascends-∷ b a) (suc i) (suc j) l h e = ascends-place xs x a i j (omega arith) (omega arith) e
-
--- one definition of an attribute at an item
-same-line : {b : Book} → Ordered b → Declared b → (d e : ℕ) → d < grammar.definitions b → e < grammar.definitions b
-    → lineAt b d .rule ≡ lineAt b e .rule → dotOf (lineAt b d) ≡ dotOf (lineAt b e) → lineAt b d .attribute ≡ lineAt b e .attribute → d ≡ e
-unfolding inheritedKey
-same-line {b} ordered declared d e h k p q r =
-    three-ways d e (λ l. absurd (ascends-place (b .inheritedDefinitions) noDefinition (ordered .inherited) d e l k key))
-    (λ l. absurd (ascends-place (b .inheritedDefinitions) noDefinition (ordered .inherited) e d l h (sym key))) (λ s. s)
-  where
-    low : (c : ℕ) → c < grammar.definitions b → 1 ≤ lineAt b c .position
-    low c l = declared .inherited-declared (lineAt b c) (at-member (b .inheritedDefinitions) c noDefinition l) .position-there .low
-
-    position : lineAt b d .position ≡ lineAt b e .position
-    position = omega (arith, q, low d h, low e k)
-
-    key : inheritedKey (lineAt b d) ≡ inheritedKey (lineAt b e)
-    key = rw (p, position, r)
 
 -- The walk over the rules of the closure at whose front something is given
 
@@ -139,7 +98,7 @@ module _ {b : Book} {rules kernels starts closures fronts given : List ℕ} {lea
     (I : ItemsIn b (setsOf (b .rules)) rules kernels starts closures) (W : FrontsIn b rules closures fronts)
     (G : GivenIn b (grammar.definitions b) given leaders) {S first last : ℕ} (s : S < b .states) (first-is : first ≡ getD starts S 0)
     (last-is : last ≡ getD starts (S + 1) 0) {bits all : ℕ} (F : Apart (frontWord (bitAnd (getD fronts S 0) leaders) given) 0 0 64 bits)
-    (K : Apart (lineWord kernels given) bits first last all) where
+    (K : Agreed b kernels bits first last all) where
   -- where the words of the state speak of the definition in line d
   abbrev AtLine : ℕ → Type 0
   AtLine d = InLine kernels first last (lineAt b d .rule) (dotOf (lineAt b d))
@@ -166,10 +125,11 @@ module _ {b : Book} {rules kernels starts closures fronts given : List ℕ} {lea
             ∙ W .idle S _ s rule-there e))
 
     module _ (n : Copies (lineAt b d) → ⊥) where
-      -- the words have its attribute
-      line-has : (i : AtLine d) → bit (lineWord kernels given (i .line)) (lineAt b d .attribute) ≡ true
-      line-has i = rw (i .rule-is, i .dot-is) (G .item-is d l n)
+      -- the kernel line is given its attribute
+      line-gives : (i : AtLine d) → GivesAt b kernels (i .line) d
+      line-gives i = record { there = l; no-copy = n; rule-is = i .rule-is; dot-is = i .dot-is }
 
+      -- the words of the fronts have it
       front-has : AtFront d → bit (frontWord (bitAnd (getD fronts S 0) leaders) given (lineAt b d .rule)) (lineAt b d .attribute) ≡ true
       front-has (z, i) =
           let P : ℕ = lineAt b d .rule in
@@ -181,21 +141,20 @@ module _ {b : Book} {rules kernels starts closures fronts given : List ℕ} {lea
   module _ (d e : ℕ) (l : d < grammar.definitions b) (k : e < grammar.definitions b) (n : Copies (lineAt b d) → ⊥) (o : Copies (lineAt b e) → ⊥)
       (same : lineAt b d .attribute ≡ lineAt b e .attribute) where
     -- two kernel lines, a line and a front, two fronts
-    lines : AtLine d → AtLine e → d ≡ e
+    lines : AtLine d → AtLine e → (d ≡ e) ⊎ Alike (lineAt b d) (lineAt b e)
     lines i j =
-        let p = line-has d l n i in
-        let q = rw (← same) at (line-has e k o j) in
-        three-ways (i .line) (j .line) (λ less. absurd (K .apart (i .line) (j .line) _ (i .low) less (j .high) p q))
-        (λ more. absurd (K .apart (j .line) (i .line) _ (j .low) more (i .high) q p))
-        (λ at. same-line ordered (I .states-in .grammar-in .declared) d e l k
+        let p = line-gives d l n i in
+        let q = line-gives e k o j in
+        three-ways (i .line) (j .line) (λ less. inr (K .alike (i .line) (j .line) d e (i .low) less (j .high) p q same))
+        (λ more. inr (alike-sym (K .alike (j .line) (i .line) e d (j .low) more (i .high) q p (sym same))))
+        (λ at. inl (same-line ordered (I .states-in .grammar-in .declared) d e l k
         (sym (i .rule-is) ∙ ap (λ (x : ℕ). getD kernels (5 * x + 1) 0) at ∙ j .rule-is)
-        (sym (i .dot-is) ∙ ap (λ (x : ℕ). getD kernels (5 * x + 2) 0) at ∙ j .dot-is) same)
+        (sym (i .dot-is) ∙ ap (λ (x : ℕ). getD kernels (5 * x + 2) 0) at ∙ j .dot-is) same))
 
     line-front : AtLine d → AtFront e → ⊥
     line-front i j =
-        K .base-apart (i .line) (lineAt b d .attribute) (i .low) (i .high)
+        K .base-apart (i .line) d (i .low) (i .high) (line-gives d l n i)
         (F .held (lineAt b e .rule) (lineAt b d .attribute) (omega arith) (rule-low e k) (rw (← same) at (front-has e k o j)))
-        (line-has d l n i)
 
     at-fronts : AtFront d → AtFront e → d ≡ e
     at-fronts i j =
@@ -209,8 +168,8 @@ module _ {b : Book} {rules kernels starts closures fronts given : List ℕ} {lea
   pub single-state : Single b S
   single-state d e l k (a, c) (a′, c′) n o same = by (located ordered I s first-is last-is c) (located ordered I s first-is last-is c′)
     where
-      by : AtLine d ⊎ AtFront d → AtLine e ⊎ AtFront e → d ≡ e
+      by : AtLine d ⊎ AtFront d → AtLine e ⊎ AtFront e → (d ≡ e) ⊎ Alike (lineAt b d) (lineAt b e)
       by (inl i) (inl j) = lines d e l k n o same i j
       by (inl i) (inr j) = absurd (line-front d e l k n o same i j)
       by (inr i) (inl j) = absurd (line-front e d k l o n (sym same) j i)
-      by (inr i) (inr j) = at-fronts d e l k n o same i j
+      by (inr i) (inr j) = inl (at-fronts d e l k n o same i j)

@@ -4,23 +4,26 @@ ghost use mathlib.Core.Path.{_≡_};
 ghost use mathlib.Core.Bool.{true};
 ghost use mathlib.Core.List.{List};
 ghost use Prim.Native.Nat.{ℕ, _+_, _*_, _≤_, _<_};
-ghost use lib.ListN.{length};
+ghost use lib.Bits.{bitAnd};
+ghost use lib.ListN.{length, getD};
 ghost use Rattle.grammar.specs.Data.Book.{Book};
 ghost use Rattle.grammar.specs.Format.Ordered.{Ordered};
 ghost use Rattle.grammar.specs.Automaton.FirstSets.{setsOf};
 ghost use Rattle.grammar.specs.Formulas.FormulaCheck as grammar;
+ghost use Rattle.book.specs.Held.{RulesIn};
 ghost use Rattle.automaton.specs.StatesIn.{StatesIn, ItemsIn};
 ghost use Rattle.automaton.specs.Fronts.{FrontsIn};
 ghost use Rattle.agreement.specs.Apart.{Apart};
 ghost use Rattle.agreement.specs.Given.{GivenIn};
-ghost use Rattle.agreement.specs.SingleState.{Single, lineWord};
+ghost use Rattle.agreement.specs.SingleState.{Single, frontWord};
+ghost use Rattle.agreement.specs.Twins.{lineWord};
 ghost use Rattle.agreement.specs.OneFormula.{FrontsHeld, formulasRight};
 use automaton::lefts::behind;
 use automaton::lefts::least;
 use items::words::word;
 
 // The attributes given at the item of kernel line i.
-fn line_gives(kernels: &[u32], i: usize, given: &[u32]) -> u32
+pub fn line_gives(kernels: &[u32], i: usize, given: &[u32]) -> u32
     requires { ⌜ ((b : Book) × (rules : List ℕ) × (starts : List ℕ) × StatesIn b rules (now kernels) starts × (i < length (b .kernels))
         × (9 * length (b .rules) ≤ length (now given))) ⌝ }
     ensures { λ r. ⌜ r ≡ lineWord (now (kernels .entry)) (now (given .entry)) i ⌝ }
@@ -49,8 +52,37 @@ fn lines_apart(kernels: &[u32], first: usize, last: usize, base: u32, given: &[u
     true
 }
 
-// True only if no attribute is given to the items of a state by two definitions: `fronts` has the rules of each state's closure, and those of them at
-// whose front something is given are gone over first.
+// The attributes that are given at the fronts of a state, and whether each is given once there.
+pub struct FrontsGiven {
+    pub apart: bool,
+    pub bits: u32,
+}
+
+// Goes over the rules of a state's closure at whose front something is given; `fronts` has the rules of each state's closure.
+pub fn fronts_apart(fronts: &[u64], state: usize, given: &[u32], leaders: u64) -> FrontsGiven
+    requires { ⌜ ((b : Book) × (rules : List ℕ) × (closures : List ℕ) × RulesIn (b .rules) rules × FrontsIn b rules closures (now fronts)
+        × (state < b .states) × (9 * length (b .rules) ≤ length (now given))) ⌝ }
+    ensures { λ r. ⌜ (r .apart ≡ true
+        → Apart (frontWord (bitAnd (getD (now (fronts .entry)) state 0) leaders) (now (given .entry))) 0 0 64 (r .bits)) ⌝ }
+{
+    let mut rest = fronts[state] & leaders;
+    let mut bits = 0u32;
+    let mut rule = 0;
+    while rest != 0 {
+        let gap = least(rest);
+        rule += gap as usize;
+        let here = given[9 * rule];
+        if bits & here != 0 {
+            return FrontsGiven { apart: false, bits };
+        }
+        bits |= here;
+        rest = behind(rest, gap);
+        rule += 1;
+    }
+    FrontsGiven { apart: true, bits }
+}
+
+// True only if each attribute is given to the items of a state by one definition.
 pub fn single(
     kernels: &[u32],
     starts: &[u32],
@@ -65,23 +97,13 @@ pub fn single(
         → ItemsIn b (setsOf (b .rules)) rules (now (kernels .entry)) (now (starts .entry)) closures → FrontsIn b rules closures (now (fronts .entry))
         → GivenIn b (grammar.definitions b) (now (given .entry)) leaders → state < b .states → Single b state) ⌝ }
 {
-    let mut rest = fronts[state] & leaders;
-    let mut bits = 0u32;
-    let mut rule = 0;
-    while rest != 0 {
-        let gap = least(rest);
-        rule += gap as usize;
-        let here = given[9 * rule];
-        if bits & here != 0 {
-            return false;
-        }
-        bits |= here;
-        rest = behind(rest, gap);
-        rule += 1;
+    let fronted = fronts_apart(fronts, state, given, leaders);
+    if !fronted.apart {
+        return false;
     }
     let first = word(starts, state);
     let last = word(starts, state + 1);
-    lines_apart(kernels, first, last, bits, given)
+    lines_apart(kernels, first, last, fronted.bits, given)
 }
 
 // True only if that is so in all states.

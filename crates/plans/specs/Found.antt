@@ -29,7 +29,8 @@ use Rattle.attributes.specs.MarkLines.{itemOf, lines-start, lines-turn}
 use Rattle.attributes.specs.Telling.{core-decides}
 use Rattle.plans.specs.Lines.{lineBit, LinesIn}
 use Rattle.plans.specs.LinesAdded.{Added, Adding}
-use Rattle.plans.specs.Places.{itemAt, PlacesIn, FrontFree, front-empty, lines-ascend}
+use Rattle.agreement.specs.DefinitionLines.{itemAt, lines-ascend}
+use Rattle.plans.specs.Places.{PlacesIn, FrontFree, front-empty}
 
 -- a word without terminals
 pub no-bit : (a : ℕ) {w : ℕ} → 0 ≡ w → bit w a ≡ false

@@ -1,129 +1,46 @@
 -- `single::single` meets its contract: neither at the fronts nor at the kernel lines is an attribute given twice.
 -- Assumes nothing.
-use Prim.Native.Nat.{_+_, _-_, _<_}
 use mathlib.Core.Path.{refl}
 use native.Mathlib.Omega.{arith}
-use lib.Bits.{bitAnd}
-use lib.ListN.{length, getD}
+use borrow.Author.Tests.{not-false}
 use borrow.Author.Needs.{needs}
 use Rattle.grammar.specs.Automaton.TestLaws.{true-false}
 use Rattle.automaton.specs.StatesIn.{state-range}
-use Rattle.agreement.specs.SingleState.{Walk, and-first, walk-first, walk-last, walk-there, walk-more, single-state}
+use Rattle.agreement.specs.SingleState.{single-state}
+use Rattle.agreement.specs.Twins.{agreed-apart}
 use Rattle.agreement.proofs.single.single.Statement.{statement}
 use Rattle.agreement.proofs.single.single.Tie as tie
 
-abbrev Inv-loop : tie.InvT-loop
-Inv-loop kernels starts fronts state given leaders rest₀ bits₀ rule₀ rest bits rule = Walk (bitAnd (getD fronts state 0) leaders) given rest bits rule
+fronts-apart-requires : tie.Need-fronts-apart-requires
+fronts-apart-requires c κs = let g = c .before .before .before .before .pre in (g .0, g .1, g .2, g .3 .states-in .grammar-in .rules-in, g .4, g .5, g .6)
 
-abbrev μ-loop : tie.MeasureT-loop
-μ-loop kernels starts fronts state given leaders rest₀ bits₀ rule₀ rest bits rule = 64 - rule
+returns : tie.Need-returns
+returns c = λ e. absurd (true-false e refl)
 
--- the entry, as the loop knows it
-abbrev entry : tie.At-loop Inv-loop μ-loop → tie.Start Inv-loop μ-loop
-entry c = c .before .before .before .before .before .before
-
--- the next rule is one of the book
-within : (c : tie.After-least Inv-loop μ-loop)
-    → c .before .before .loop .rule + c .least .result < length (entry (c .before .before) .pre .0 .rules)
-within c =
-    let head = c .before .before in
-    let g = entry head .pre in
-    g .4 .low _ _ (g .5) (and-first _ _ _ (walk-there (head .loop .inv) (c .least .ensures)))
-
-there : (c : tie.After-least Inv-loop μ-loop) → c .before .before .loop .rule + c .least .result < 64
-there c = omega (arith, within c, entry (c .before .before) .pre .3 .states-in .grammar-in .rules-in .fits)
-
-mul-rest : tie.Need-mul-rest Inv-loop μ-loop
-mul-rest c = search needs
-
-shared-slice-read-rest : tie.Need-shared-slice-read-rest Inv-loop μ-loop
-shared-slice-read-rest c = search needs
-
-loop-holds : tie.Need-loop-holds Inv-loop μ-loop
-loop-holds c = walk-first _ _
-
-least-requires : tie.Need-least-requires Inv-loop μ-loop
-least-requires c κs = c .loop-test .taken
-
-cast-rule : tie.Need-cast-rule Inv-loop μ-loop
-cast-rule c = omega (arith, c .least .ensures .below)
-
-add-rule : tie.Need-add-rule Inv-loop μ-loop
-add-rule c = omega (arith, there c)
-
-mul-here : tie.Need-mul-here Inv-loop μ-loop
-mul-here c = omega (arith, there c)
-
-mul-here-2 : tie.Need-mul-here-2 Inv-loop μ-loop
-mul-here-2 c = omega (arith, there c)
-
-shared-slice-read-here : tie.Need-shared-slice-read-here Inv-loop μ-loop
-shared-slice-read-here c = let v = c .before in omega (arith, within v, entry (v .before .before) .pre .6)
-
-returns : tie.Need-returns Inv-loop μ-loop
-returns c = λ e. true-false e refl
-
-behind-requires : tie.Need-behind-requires Inv-loop μ-loop
-behind-requires c κs = c .before .before .least .ensures .below
-
-add-rule-2 : tie.Need-add-rule-2 Inv-loop μ-loop
-add-rule-2 c = omega (arith, there (c .before .before .before))
-
-loop-less : tie.Need-loop-less Inv-loop μ-loop
-loop-less c = omega (arith, there (c .before .before .before))
-
-loop-again : tie.Need-loop-again Inv-loop μ-loop
-loop-again c =
-    let v = c .before .before .before in
-    walk-more (v .before .before .loop .inv) (v .least .ensures) (c .behind .ensures) refl (c .before .if1 .left)
-
-word-requires : tie.Need-word-requires Inv-loop μ-loop
+word-requires : tie.Need-word-requires
 word-requires c κs = search needs
 
-add-word : tie.Need-add-word Inv-loop μ-loop
+add-word : tie.Need-add-word
 add-word c = search needs
 
-word-requires-2 : tie.Need-word-requires-2 Inv-loop μ-loop
+word-requires-2 : tie.Need-word-requires-2
 word-requires-2 c κs = search needs
 
-lines-apart-requires : tie.Need-lines-apart-requires Inv-loop μ-loop
+lines-apart-requires : tie.Need-lines-apart-requires
 lines-apart-requires c κs =
-    let s = entry (c .before .before .before) in
+    let s = c .before .before .before .before .before .before .before .before .before in
     let g = s .pre in
     let range = state-range (g .3 .states-in) (s .args .state) (g .5) in (
       (g .0, g .1, s .args .starts .now, g .3 .states-in, omega (arith, c .word2 .ensures, range .within), g .6),
       omega (arith, c .before .word .ensures, c .word2 .ensures, range .ordered),
     )
 
-returns-2 : tie.Need-returns-2 Inv-loop μ-loop
+returns-2 : tie.Need-returns-2
 returns-2 c =
     λ e b rules closures o I W G s.
-    let w = c .before .before in
     let (all, K) = c .lines-apart .ensures e in
-    single-state o I W G s (w .word .ensures) (c .before .word2 .ensures) (walk-last (w .before .before .loop .inv) (w .before .loop-test .left)) K
+    let F = c .before .before .before .before .before .fronts-apart .ensures (not-false _ (c .before .before .before .if1 .left)) in
+    single-state o I W G s (c .before .before .word .ensures) (c .before .word2 .ensures) F (agreed-apart G K)
 
 pub single-spec : {M : Type 1} → statement M
-single-spec =
-    tie.close
-    (tie.spec
-    Inv-loop
-    μ-loop
-    mul-rest
-    shared-slice-read-rest
-    loop-holds
-    least-requires
-    cast-rule
-    add-rule
-    mul-here
-    mul-here-2
-    shared-slice-read-here
-    returns
-    behind-requires
-    add-rule-2
-    loop-less
-    loop-again
-    word-requires
-    add-word
-    word-requires-2
-    lines-apart-requires
-    returns-2)
+single-spec = tie.close (tie.spec fronts-apart-requires returns word-requires add-word word-requires-2 lines-apart-requires returns-2)

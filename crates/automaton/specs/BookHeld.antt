@@ -11,13 +11,12 @@ use Rattle.grammar.specs.Format.OrderLaws.{before-first, ascends-above}
 use Rattle.grammar.specs.Conditions.Meaning.{WithinLimits, Declared}
 use Rattle.grammar.specs.Conditions.MeaningLaws.{right-length}
 use Rattle.grammar.specs.Automaton.Small.{Small}
-use Rattle.grammar.specs.BookFacts.{small-book}
+use Rattle.grammar.specs.BookFacts.{well-named, small-book}
 use Rattle.grammar.specs.Automaton.FirstSets.{setsOf}
 use Rattle.grammar.specs.Automaton.FirstSetsLaws.{sets-right}
 use Rattle.grammar.specs.Data.ListLaws.{at-member}
 use Rattle.book.specs.Held.{RulesIn, KernelsIn, kernelAt}
 use Rattle.items.specs.Arrays.{SuffixesIn, StartsIn}
-use Rattle.items.specs.Starts.{LinesIn}
 use Rattle.items.specs.Derives.{GrammarIn}
 use Rattle.items.specs.KernelLines.{KernelItemsIn}
 use Rattle.items.specs.Closures.{StateItemsIn}
@@ -48,16 +47,6 @@ module _ {b : Book} (ordered : Ordered b) (limits : WithinLimits b) (declared : 
   small : Small (b .rules)
   small = small-book ordered limits declared .small-rules
 
-  -- for where the lines of each state begin
-  pub lines-in : {kernels : List ℕ} → KernelsIn (b .kernels) kernels → LinesIn (b .kernels) (length (b .kernels)) (b .states) kernels
-  lines-in K = record {
-    kernels-in = K;
-    counted = refl;
-    few = limits .states-limit .high;
-    below = λ i h. kernel-there declared i h .state-there;
-    ascend = states-ascend (b .kernels) (ordered .kernels);
-  }
-
   module _ {rules nulls firsts : List ℕ} (R : RulesIn (b .rules) rules) (S : SuffixesIn (b .rules) (setsOf (b .rules)) nulls firsts) where
     pub grammar-in : GrammarIn b (setsOf (b .rules)) rules nulls firsts
     grammar-in = record {
@@ -80,19 +69,19 @@ module _ {b : Book} (ordered : Ordered b) (limits : WithinLimits b) (declared : 
           record { items-in = kernel-items-in; starts-in = T; counted = refl; states-are = refl; few = limits .states-limit .high }
 
   -- for the kernel rules
-  pub ruled-in : {rules kernels starts : List ℕ} → RulesIn (b .rules) rules → KernelsIn (b .kernels) kernels → StartsIn (b .kernels) (b .states) starts
-      → RuledIn b rules kernels starts (b .states)
-  ruled-in R K T = record {
+  pub ruled-in : {rules kernels : List ℕ} → RulesIn (b .rules) rules → KernelsIn (b .kernels) kernels → RuledIn b rules kernels (length (b .kernels))
+  ruled-in R K = record {
     named-in = record {
       spelled-in = record { kernels-in = K; lookaheads = every-line (b .kernels) (ordered .lookaheads) };
       rules-in = R;
       small = small;
       short = λ P h. right-length limits P;
+      few = limits .states-limit .high;
+      state-there = λ i h. kernel-there declared i h .state-there;
       rule-there = λ i h. kernel-there declared i h .rule-there;
       dot-there = λ i h. kernel-there declared i h .dot-there;
     };
-    starts-in = T;
-    states-are = refl;
-    some = limits .states-limit .low;
-    few = limits .states-limit .high;
+    well-named = well-named ordered limits declared;
+    ascend = states-ascend (b .kernels) (ordered .kernels);
+    counted = refl;
   }

@@ -1,250 +1,357 @@
--- The kernel rules (7): state 0, the other states, rule 0's lines, each as a loop over kernel lines tests it.
--- Assumes nothing.
+-- The kernel rules (7) by a walk over the kernel lines: they hold exactly if the first line is the one of state 0, each other line may stand behind
+-- the line before it, and the last line is of the last state. Assumes nothing.
 use Prim.Native.Nat.{ℕ, zero, suc, _+_, _*_, _-_, _<_, _≤_}
-use mathlib.Core.Path.{_≡_, refl, sym, ap, _∙_}
-use mathlib.Core.Bool.{Bool, true, false, _&&_}
-use mathlib.Core.List.{List, [], _∷_}
+use mathlib.Core.Path.{_≡_, sym, ap, subst, _∙_}
+use mathlib.Core.Logic.{_≢_}
+use mathlib.Core.Bool.{Bool, true, false, false≢true}
+use mathlib.Core.List.{List, List·Memᴰ as Mem}
 use native.Mathlib.Omega.{arith}
-use lib.Dec.{eqb, leb}
-use lib.ListN.{length, getD}
-use lib.Seq.{take-length}
-use borrow.Author.Tests.{eq-eqb, ne-eqb}
-use Rattle.grammar.specs.Limits.{MAX-STATES}
-use Rattle.grammar.specs.Data.Symbol.{Symbol, Rule, symbolAt}
+use lib.Dec.{eqb}
+use lib.ListN.{length, getD, set, length-set}
+use lib.Seq.{getD-set-same, getD-set-other}
+use borrow.Author.Tests.{eqb-true}
+use Rattle.text.specs.Positional.{by-less}
+use Rattle.grammar.specs.Data.Symbol.{Rule, symbolAt}
 use Rattle.grammar.specs.Data.Book.{Book, Kernel}
-use Rattle.grammar.specs.Automaton.Small.{numberOf}
-use Rattle.grammar.specs.Automaton.States.{sameSymbol}
-use Rattle.grammar.specs.Automaton.ClosureSets.{kernelsIn}
-use Rattle.grammar.specs.Automaton.StatesCheck.{endAlone, startState, oneSymbol, otherState, otherStates, startLookaheads, kernelRules}
+use Rattle.grammar.specs.Data.ListLaws.{at-member, member-at}
+use Rattle.grammar.specs.Conditions.Decides.{Decides, refutes, false-of, equivalent, eq-decides, decides-same}
+use Rattle.grammar.specs.Automaton.States.{startKernel, KernelRules}
+use Rattle.grammar.specs.Automaton.StatesCheck.{kernelRules}
+use Rattle.grammar.specs.Automaton.KernelRulesLaws.{kernelRules-decides}
+use Rattle.grammar.specs.Automaton.WellNamed.{Distinct, none, next, SameItem, WellNamed}
 use Rattle.book.specs.Layout.{symbolCode}
-use Rattle.book.specs.Held.{kernelAt}
+use Rattle.book.specs.Held.{kernelAt, noKernel}
 use Rattle.items.specs.Arrays.{StartsIn}
-use Rattle.items.specs.Starts.{by-order}
-use Rattle.items.specs.SymbolCodes.{code-low}
-use Rattle.items.specs.KernelLines.{lines, lines-none, lines-more, state-words}
-use Rattle.automaton.specs.KernelWords.{SpelledIn, NamedIn, startOrOther, hasBefore, wordBefore, before-low, behind-front, has-before}
+use Rattle.items.specs.SymbolCodes.{code-same}
+use Rattle.automaton.specs.KernelWords.{NamedIn, StartAlone, wordBefore, front-word, behind-word, before-low, word-low, Follows}
+use Rattle.automaton.specs.KernelStarts.{Cut, cut-more, cut-all, cuts-done}
 
--- a book's rules and kernel lines in arrays, and where the lines of each state begin
-pub record RuledIn (b : Book) (rules kernels starts : List ℕ) (states : ℕ) : Type 0 where
+-- a book's rules and kernel lines in arrays, the lines in the order of their states
+pub record RuledIn (b : Book) (rules kernels : List ℕ) (count : ℕ) : Type 0 where
   pub named-in : NamedIn b rules kernels
-  pub starts-in : StartsIn (b .kernels) states starts
-  pub states-are : b .states ≡ states
-  pub some : 1 ≤ states
-  pub few : states ≤ MAX-STATES
+  pub well-named : WellNamed b
+  pub ascend : (i j : ℕ) → i ≤ j → j < length (b .kernels) → kernelAt (b .kernels) i .state ≤ kernelAt (b .kernels) j .state
+  pub counted : count ≡ length (b .kernels)
 
--- ---- state 0: one line, of rule 0 with the dot in front, t0 alone
+-- ---- the walk
 
-abbrev startLine : Kernel → Bool
-startLine k = eqb (k .rule) 0 && (eqb (k .dot) 0 && endAlone (k .lookaheads))
+-- the first i lines are right, and the starts of their states and of the next are known
+pub record Walked (b : Book) (starts : List ℕ) (i : ℕ) : Type 0 where
+  pub some : 0 < i
+  pub within : i ≤ length (b .kernels)
+  pub first : kernelAt (b .kernels) 0 ≡ startKernel
+  pub follow : (j : ℕ) → 0 < j → j < i → Follows (b .rules) (kernelAt (b .kernels) (j - 1)) (kernelAt (b .kernels) j)
+  pub long : b .states + 1 ≤ length starts
+  pub cuts : (S : ℕ) → S ≤ kernelAt (b .kernels) (i - 1) .state + 1 → Cut (b .kernels) i S (getD starts S 0)
 
--- there is one line
-one-line : (ks : List Kernel) (from to : ℕ) → to ≡ from + 1 → to ≤ length ks → startState (lines ks from to) ≡ startLine (kernelAt ks from)
-unfolding startState
-one-line ks from to e h = rw (lines-more ks from to (omega arith) h, lines-none ks (from + 1) to (omega arith), startState)
-
--- there is none, or there are more
-other-lines : (ks : List Kernel) (from to : ℕ) → (to ≡ from + 1 → ⊥) → to ≤ length ks → startState (lines ks from to) ≡ false
-unfolding startState
-other-lines ks from to n h =
-    by-order from to
-    (λ l. rw (lines-more ks from to l h, lines-more ks (from + 1) to (omega arith) h, startState))
-    (λ l. rw (lines-none ks from to l, startState))
-
-pub start-many : (ks : List Kernel) (from to : ℕ) → (to ≡ from + 1 → ⊥) → to ≤ length ks → false ≡ startState (lines ks from to)
-start-many ks from to n h = sym (other-lines ks from to n h)
-
--- the one line by its words
-module _ {ks : List Kernel} {kernels : List ℕ} (H : SpelledIn ks kernels) (from to : ℕ) (e : to ≡ from + 1) (h : to ≤ length ks) where
-  inside : from < length ks
-  inside = omega arith
-
-  pub start-rule : (getD kernels (5 * from + 1) 0 ≡ 0 → ⊥) → false ≡ startState (lines ks from to)
-  start-rule n = sym (one-line ks from to e h ∙ rw (ne-eqb (kernelAt ks from .rule) 0 (λ z. n (H .kernels-in .rule-is from inside ∙ z))))
-
-  module _ (r : getD kernels (5 * from + 1) 0 ≡ 0) where
-    rule-zero : eqb (kernelAt ks from .rule) 0 ≡ true
-    rule-zero = eq-eqb (kernelAt ks from .rule) 0 (sym (H .kernels-in .rule-is from inside) ∙ r)
-
-    pub start-dot : (getD kernels (5 * from + 2) 0 ≡ 0 → ⊥) → false ≡ startState (lines ks from to)
-    start-dot n = sym (one-line ks from to e h ∙ rw (rule-zero, ne-eqb (kernelAt ks from .dot) 0 (λ z. n (H .kernels-in .dot-is from inside ∙ z))))
-
-    pub start-end : getD kernels (5 * from + 2) 0 ≡ 0 → endAlone (kernelAt ks from .lookaheads) ≡ startState (lines ks from to)
-    start-end d = sym (one-line ks from to e h ∙ rw (rule-zero, eq-eqb (kernelAt ks from .dot) 0 (sym (H .kernels-in .dot-is from inside) ∙ d)))
-
--- ---- a test of every line
-
-unfoldable pub allLines : (Kernel → Bool) → List Kernel → Bool
-allLines test [] = true
-allLines test (k ∷ ks) = elim (test k) [ true ↦ allLines test ks | false ↦ false ]
-
-module _ (test : Kernel → Bool) (ks : List Kernel) (i to : ℕ) where
-  pub all-none : to ≤ i → allLines test (lines ks i to) ≡ true
-  unfolding allLines
-  all-none h = rw (lines-none ks i to h, allLines)
-
-  module _ (h : i < to) (l : to ≤ length ks) where
-    pub all-more : test (kernelAt ks i) ≡ true → allLines test (lines ks (i + 1) to) ≡ allLines test (lines ks i to)
-    unfolding allLines
-    all-more e = sym (rw (lines-more ks i to h l, allLines) (rw e))
-
-    pub all-fails : test (kernelAt ks i) ≡ false → false ≡ allLines test (lines ks i to)
-    unfolding allLines
-    all-fails e = sym (rw (lines-more ks i to h l, allLines) (rw e))
-
--- behind a test
-behind : (test : Bool) {x y : Bool} → x ≡ y → _≡_ {A = Bool} (elim test [ true ↦ x | false ↦ false ]) (elim test [ true ↦ y | false ↦ false ])
-behind true e = e
-behind false e = refl
-
--- ---- one symbol before every dot
-
-pub one-symbol : (G : List Rule) (X : Symbol) (ks : List Kernel) → oneSymbol G X ks ≡ allLines (hasBefore G X) ks
-unfolding oneSymbol allLines hasBefore
-one-symbol G X [] = refl
-one-symbol G X (k ∷ ks) = behind (leb 1 (k .dot) && sameSymbol (symbolAt G (k .rule) (k .dot)) X) (one-symbol G X ks)
-
--- ---- rule 0's lookaheads
-
-pub start-lookaheads : (ks : List Kernel) → startLookaheads ks ≡ allLines startOrOther ks
-unfolding startLookaheads allLines startOrOther
-start-lookaheads [] = refl
-start-lookaheads (k ∷ ks) = go (k .rule) (start-lookaheads ks)
+-- the first line
+walked-first : {b : Book} (starts : List ℕ) → 0 < length (b .kernels) → kernelAt (b .kernels) 0 ≡ startKernel → 0 < b .states
+    → b .states + 1 ≤ length starts → Walked b (set (set starts 0 0) 1 1) 1
+walked-first {b} starts h e s l =
+    record {
+      some = omega arith;
+      within = h;
+      first = e;
+      follow = λ j p q. absurd (omega arith);
+      long = simp length-set l;
+      cuts = λ S q. by-less S 1 (λ z. first-cut S (omega arith)) (λ z. second-cut S (omega (arith, state-zero)));
+    }
   where
-    go : (P : ℕ) → startLookaheads ks ≡ allLines startOrOther ks
-        → _≡_ {A = Bool}
-        (elim P [ zero ↦ elim (endAlone (k .lookaheads)) [ true ↦ startLookaheads ks | false ↦ false ] | suc Q ↦ startLookaheads ks ])
-        (elim (elim P as (λ _. Bool) [ zero ↦ endAlone (k .lookaheads) | suc Q ↦ true ]) [ true ↦ allLines startOrOther ks | false ↦ false ])
-    go zero e = behind (endAlone (k .lookaheads)) e
-    go (suc Q) e = e
+    state-zero : kernelAt (b .kernels) 0 .state ≡ 0
+    state-zero = ap (λ (k : Kernel). k .state) e
 
--- ---- the two loops over lines: those that are left answer for all
+    first-cut : (S : ℕ) → S ≡ 0 → Cut (b .kernels) 1 S (getD (set (set starts 0 0) 1 1) S 0)
+    first-cut S z =
+        let w : getD (set (set starts 0 0) 1 1) 0 0 ≡ 0 =
+        getD-set-other (set starts 0 0) 1 0 1 0 (λ q. omega arith) ∙ getD-set-same starts 0 0 0 (omega arith) in
+        rw (z, w) (record { within = omega arith; lower = λ i p. absurd (omega arith); upper = λ i p q. omega arith })
 
-abbrev pub OneSymbol : (rules kernels : List ℕ) (from to symbol i : ℕ) → Type 0
-OneSymbol rules kernels from to symbol i =
-    (b : Book) (X : Symbol) → NamedIn b rules kernels → to ≤ length (b .kernels) → numberOf X < 32 → symbolCode X ≡ symbol
-    → allLines (hasBefore (b .rules) X) (lines (b .kernels) i to) ≡ allLines (hasBefore (b .rules) X) (lines (b .kernels) from to)
+    second-cut : (S : ℕ) → S ≡ 1 → Cut (b .kernels) 1 S (getD (set (set starts 0 0) 1 1) S 0)
+    second-cut S z =
+        let w : getD (set (set starts 0 0) 1 1) 1 0 ≡ 1 = getD-set-same (set starts 0 0) 1 1 0 (omega (arith, length-set starts 0 0)) in
+        rw (z, w) (cut-all (λ i p. let q : i ≡ 0 = omega arith in rw q (omega (arith, state-zero))))
 
-abbrev pub StartLines : (kernels : List ℕ) (count i : ℕ) → Type 0
-StartLines kernels count i =
-    (ks : List Kernel) → SpelledIn ks kernels → length ks ≡ count → allLines startOrOther (lines ks i count) ≡ allLines startOrOther (lines ks 0 count)
+-- the state stays or is the next
+follow-state : {G : List Rule} {k l : Kernel} → Follows G k l → l .state ≤ k .state + 1
+follow-state {k = k} {l = l} F = by-less (k .state) (l .state) (λ m. omega (arith, F .next (λ z. omega arith))) (λ m. omega arith)
 
--- ---- the lines of another state
+-- no line behind the first is the same
+apart-first : {ks : List Kernel} → Distinct SameItem ks → (i : ℕ) → 0 < i → i < length ks → kernelAt ks 0 ≢ kernelAt ks i
+apart-first none i p h e = absurd (omega arith)
+apart-first (next apart d) zero p h e = absurd (omega arith)
+apart-first (next {l = ks} apart d) (suc i) p h e =
+    apart (kernelAt ks i) (at-member ks i noKernel (omega arith)) (record { same-state = cc; same-rule = cc; same-dot = cc })
 
-pub other-none : (G : List Rule) (ks : List Kernel) (from to : ℕ) → to ≤ from → false ≡ otherState G (lines ks from to)
-unfolding otherState
-other-none G ks from to h = sym (rw (lines-none ks from to h, otherState))
+module _ {b : Book} {rules kernels : List ℕ} {count : ℕ} (H : RuledIn b rules kernels count) where
+  abbrev lineAt : ℕ → Kernel
+  lineAt i = kernelAt (b .kernels) i
 
-module _ {b : Book} {rules kernels : List ℕ} (H : NamedIn b rules kernels) (from to : ℕ) (h : from < to) (l : to ≤ length (b .kernels)) where
-  there : from < length (b .kernels)
-  there = omega arith
+  -- by the words of the first line
+  pub walked-start : (starts : List ℕ) {states : ℕ} → (count ≡ 0 → ⊥) → states ≡ b .states → states + 1 ≤ length starts
+      → {t : Bool} → Decides t (lineAt 0 ≡ startKernel) → t ≡ true → Walked b (set (set starts 0 0) 1 1) 1
+  walked-start starts n s l d r =
+      let some : 0 < length (b .kernels) = omega (arith, H .counted) in
+      walked-first starts some (d .sound r) (omega (arith, H .named-in .state-there 0 some)) (omega arith)
 
-  -- the symbol before the first line's dot
-  abbrev pub firstBefore : Symbol
-  firstBefore = symbolAt (b .rules) (kernelAt (b .kernels) from .rule) (kernelAt (b .kernels) from .dot)
-
-  pub first-low : numberOf firstBefore < 32
-  first-low = before-low H from there
-
-  -- all lines have it
-  pub other-one : oneSymbol (b .rules) firstBefore (lines (b .kernels) from to) ≡ otherState (b .rules) (lines (b .kernels) from to)
-  unfolding otherState
-  other-one = rw (lines-more (b .kernels) from to h l, otherState)
-
-  module _ (w : ℕ) (e : w ≡ wordBefore (b .rules) (kernelAt (b .kernels) from)) where
-    -- the dot is in front
-    pub other-front : w ≡ 64 → false ≡ otherState (b .rules) (lines (b .kernels) from to)
-    other-front q =
-        all-fails (hasBefore (b .rules) firstBefore) (b .kernels) from to h l
-        (has-before H from there firstBefore first-low ∙ ne-eqb _ (symbolCode firstBefore) (λ z. omega (arith, code-low firstBefore first-low)))
-        ∙ sym (one-symbol (b .rules) firstBefore (lines (b .kernels) from to)) ∙ other-one
-
-    -- it is not
-    pub first-word : (w ≡ 64 → ⊥) → symbolCode firstBefore ≡ w
-    unfolding wordBefore
-    first-word n = go (kernelAt (b .kernels) from .dot) refl
-      where
-        go : (D : ℕ) → kernelAt (b .kernels) from .dot ≡ D → symbolCode firstBefore ≡ w
-        go zero z = absurd (n (e ∙ rw (z, wordBefore)))
-        go (suc D) z = behind-front H from there (λ q. omega arith) ∙ sym e
-
--- an answer for the lines of state S, by words read from the starts
-pub state-told : {b : Book} {rules kernels starts : List ℕ} {states : ℕ} → RuledIn b rules kernels starts states → (f : List Kernel → Bool) (S : ℕ)
-    {from to : ℕ} {answer r : Bool} → S < states → from ≡ getD starts S 0 → to ≡ getD starts (S + 1) 0 → r ≡ answer
-    → (to ≤ length (b .kernels) → r ≡ f (lines (b .kernels) from to)) → answer ≡ f (lines (b .kernels) (getD starts S 0) (getD starts (S + 1) 0))
-state-told H f S h p q e told = sym e ∙ told (state-words (H .starts-in) S h p q .within) ∙ rw (p, q)
-
--- ---- the states from the last down to 1
-
-module _ (b : Book) where
-  others-true : (n : ℕ) → 0 < n → true ≡ otherState (b .rules) (kernelsIn (b .kernels) n) → otherStates b n ≡ otherStates b (n - 1)
-  unfolding otherStates
-  others-true zero p e = absurd (omega arith)
-  others-true (suc n) p e = let m : suc n - 1 ≡ n = omega arith in rw (m, sym e, otherStates)
-
-  others-false : (n : ℕ) → 0 < n → false ≡ otherState (b .rules) (kernelsIn (b .kernels) n) → otherStates b n ≡ false
-  unfolding otherStates
-  others-false zero p e = absurd (omega arith)
-  others-false (suc n) p e = rw (sym e, otherStates)
-
-pub record Testing (rules kernels starts : List ℕ) (states n : ℕ) : Type 0 where
-  pub within : n < states
-  pub goes : (b : Book) → RuledIn b rules kernels starts states → otherStates b n ≡ otherStates b (b .states - 1)
-
-module _ {rules kernels starts : List ℕ} {states : ℕ} where
-  pub test-first : 1 ≤ states → Testing rules kernels starts states (states - 1)
-  test-first h = record { within = omega arith; goes = λ b H. rw (H .states-are) }
-
-  module _ {n : ℕ} (T : Testing rules kernels starts states n) where
-    pub test-all : n ≤ 0 → (b : Book) → RuledIn b rules kernels starts states → true ≡ otherStates b (b .states - 1)
-    unfolding otherStates
-    test-all h b H = let z : n ≡ 0 = omega arith in rw z at (T .goes b H)
-
-    module _ (p : 0 < n) where
-      -- the lines of state n
-      abbrev own : Book → List Kernel
-      own b = lines (b .kernels) (getD starts n 0) (getD starts (n + 1) 0)
-
-      pub test-more : ((b : Book) → RuledIn b rules kernels starts states → true ≡ otherState (b .rules) (own b))
-          → Testing rules kernels starts states (n - 1)
-      test-more f = record {
+  -- a line more
+  walked-on : {starts : List ℕ} {i : ℕ} → Walked b starts i → i < length (b .kernels) → Follows (b .rules) (lineAt (i - 1)) (lineAt i)
+      → Walked b (set starts (lineAt i .state + 1) (i + 1)) (i + 1)
+  walked-on {starts} {i} W h F =
+      record {
+        some = omega arith;
         within = omega arith;
-        goes = λ b H. sym (others-true b n p (f b H ∙ ap (otherState (b .rules)) (sym (H .starts-in .lines-are n (T .within))))) ∙ T .goes b H;
+        first = W .first;
+        follow = λ j p q. by-less j i (λ l. W .follow j p l) (λ l. let e : j ≡ i = omega arith in rw e F);
+        long = simp length-set (W .long);
+        cuts = λ S q. by-less S (state + 1) (λ l. known S (omega arith)) (λ l. new S (omega (arith, ap (λ (j : ℕ). lineAt j .state) back)));
       }
+    where
+      state : ℕ
+      state = lineAt i .state
 
-      pub test-fails : (b : Book) → RuledIn b rules kernels starts states → false ≡ otherState (b .rules) (own b) → false ≡ otherStates b (b .states - 1)
-      test-fails b H e = sym (others-false b n p (e ∙ ap (otherState (b .rules)) (sym (H .starts-in .lines-are n (T .within))))) ∙ T .goes b H
+      back : i + 1 - 1 ≡ i
+      back = omega arith
 
--- ---- all of it
+      known : (S : ℕ) → S ≤ state → Cut (b .kernels) (i + 1) S (getD (set starts (state + 1) (i + 1)) S 0)
+      known S l =
+          rw (getD-set-other starts (state + 1) S (i + 1) 0 (λ e. omega arith))
+          (cut-more (W .cuts S (omega (arith, follow-state F))) l)
 
-lines-all : (ks : List Kernel) → lines ks 0 (length ks) ≡ ks
-lines-all ks = let n : length ks - 0 ≡ length ks = omega arith in rw n (take-length ks)
+      new : (S : ℕ) → S ≡ state + 1 → Cut (b .kernels) (i + 1) S (getD (set starts (state + 1) (i + 1)) S 0)
+      new S e =
+          let w : getD (set starts (state + 1) (i + 1)) (state + 1) 0 ≡ i + 1 =
+          getD-set-same starts (state + 1) (i + 1) 0 (omega (arith, W .long, H .named-in .state-there i h)) in
+          rw (e, w) (cut-all (λ j q. omega (arith, H .ascend j i (omega arith) h)))
 
--- every line of rule 0
-pub start-all : (ks : List Kernel) {to : ℕ} → length ks ≡ to → allLines startOrOther (lines ks 0 to) ≡ startLookaheads ks
-start-all ks e = rw (← e, lines-all ks) (sym (start-lookaheads ks))
+  -- by the word of its state
+  module _ {starts : List ℕ} {i w : ℕ} (W : Walked b starts i) (h : i < count) (e : w ≡ getD kernels (5 * i) 0) where
+    inside : i < length (b .kernels)
+    inside = omega (arith, H .counted)
 
-module _ {b : Book} {rules kernels starts : List ℕ} {states : ℕ} (H : RuledIn b rules kernels starts states) where
-  -- state 0's lines
-  abbrev first-lines : List Kernel
-  first-lines = lines (b .kernels) (getD starts 0 0) (getD starts (0 + 1) 0)
+    word-is : w ≡ lineAt i .state
+    word-is = e ∙ H .named-in .spelled-in .kernels-in .state-is i inside
 
-  zero-lines : kernelsIn (b .kernels) 0 ≡ first-lines
-  zero-lines = H .starts-in .lines-are 0 (omega (arith, H .some))
+    pub walked-place : w + 1 < length starts
+    walked-place = omega (arith, word-is, H .named-in .state-there i inside, W .long)
 
-  pub rules-start : false ≡ startState first-lines → false ≡ kernelRules b
-  unfolding kernelRules
-  rules-start e = sym (rw (zero-lines, ← e))
+    pub walked-more : {t : Bool} → Decides t (Follows (b .rules) (lineAt (i - 1)) (lineAt i)) → t ≡ true
+        → Walked b (set starts (w + 1) (i + 1)) (i + 1)
+    walked-more d r = rw word-is (walked-on W inside (d .sound r))
 
-  module _ (s : true ≡ startState first-lines) where
-    pub rules-others : false ≡ otherStates b (b .states - 1) → false ≡ kernelRules b
-    unfolding kernelRules
-    rules-others e = sym (rw (zero-lines, ← s, ← e))
+  -- ---- the rules hold: each line is right
 
-    pub rules-all : true ≡ otherStates b (b .states - 1) → startLookaheads (b .kernels) ≡ kernelRules b
-    unfolding kernelRules
-    rules-all e = sym (rw (zero-lines, ← s, ← e))
+  module _ (K : KernelRules b) where
+    -- each state has a line
+    line-of : (S : ℕ) → S < b .states → (j : ℕ) × (j < length (b .kernels)) × (lineAt j .state ≡ S)
+    line-of zero l = let (j, h, e) = member-at (b .kernels) noKernel (K .start-there) in (j, h, ap (λ (k : Kernel). k .state) e)
+    line-of (suc S) l =
+        let (k, m, s) = K .has-kernel (suc S) (omega arith) l in
+        let (j, h, e) = member-at (b .kernels) noKernel m in
+        (j, h, ap (λ (k : Kernel). k .state) e ∙ s)
 
--- opens every definition of this module
-unfoldable pub opens : Unit {0}
-unfolding allLines
-opens = tt
+    some-line : 0 < length (b .kernels)
+    some-line = let (j, h, e) = member-at (b .kernels) noKernel (K .start-there) in omega arith
+
+    first-is : lineAt 0 ≡ startKernel
+    first-is =
+        let (j, h, e) = member-at (b .kernels) noKernel (K .start-there) in
+        let s : lineAt j .state ≡ 0 = ap (λ (k : Kernel). k .state) e in
+        K .start-only (lineAt 0) (at-member (b .kernels) 0 noKernel some-line) (omega (arith, H .ascend 0 j (omega arith) h))
+
+    -- state 0 has the first line alone
+    later : (i : ℕ) → 0 < i → i < length (b .kernels) → lineAt i .state ≢ 0
+    later i p h z =
+        apart-first (H .well-named .distinct-kernels) i p h
+        (first-is ∙ sym (K .start-only (lineAt i) (at-member (b .kernels) i noKernel h) z))
+
+    last-is : lineAt (length (b .kernels) - 1) .state + 1 ≡ b .states
+    last-is =
+        let there = H .named-in .state-there (length (b .kernels) - 1) (omega (arith, some-line)) in
+        let (j, h, e) = line-of (b .states - 1) (omega arith) in
+        omega (arith, H .ascend j (length (b .kernels) - 1) (omega arith) (omega arith))
+
+    module _ (i : ℕ) (p : 0 < i) (h : i < length (b .kernels)) where
+      abbrev here : Kernel
+      here = lineAt i
+
+      abbrev before : Kernel
+      before = lineAt (i - 1)
+
+      here-in : Mem here (b .kernels)
+      here-in = at-member (b .kernels) i noKernel h
+
+      before-in : Mem before (b .kernels)
+      before-in = at-member (b .kernels) (i - 1) noKernel (omega arith)
+
+      -- no state is left out
+      next-state : here .state ≢ before .state → here .state ≡ before .state + 1
+      next-state n =
+          by-less (before .state + 1) (here .state)
+          (λ less. let (j, l, e) = line-of (before .state + 1) (omega (arith, H .named-in .state-there i h)) in
+          absurd (by-less j i (λ q. let z : ⊥ = omega (arith, H .ascend j (i - 1) (omega arith) (omega arith)) in z)
+          (λ q. let z : ⊥ = omega (arith, H .ascend i j q l) in z)))
+          (λ more. omega (arith, H .ascend (i - 1) i (omega arith) h))
+
+      follow-is : Follows (b .rules) before here
+      follow-is =
+          record {
+            behind = behind;
+            alone = K .start-lookahead here here-in;
+            same = λ e. sym (behind-word (b .rules) here behind)
+                ∙ ap symbolCode (K .one-symbol here before here-in before-in (later i p h) e)
+                ∙ behind-word (b .rules) before (K .dots before before-in (λ z. later i p h (e ∙ z)));
+            next = next-state;
+          }
+        where
+          behind : 1 ≤ here .dot
+          behind = K .dots here here-in (later i p h)
+
+  -- ---- each line is right: the rules hold
+
+  module _ {starts : List ℕ} (W : Walked b starts (length (b .kernels))) where
+    state-zero : lineAt 0 .state ≡ 0
+    state-zero = ap (λ (k : Kernel). k .state) (W .first)
+
+    -- each line but the first stands right behind another
+    line-follows : (i : ℕ) → suc i < length (b .kernels) → Follows (b .rules) (lineAt i) (lineAt (suc i))
+    line-follows i h = let e : suc i - 1 ≡ i = omega arith in rw e at (W .follow (suc i) (omega arith) h)
+
+    -- no other line is of state 0: its dot would be in front
+    past-zero : (i : ℕ) → 0 < i → i < length (b .kernels) → lineAt i .state ≢ 0
+    past-zero i p h z =
+        let F : Follows (b .rules) (lineAt 0) (lineAt 1) = line-follows 0 (omega arith) in
+        let e : lineAt 1 .state ≡ lineAt 0 .state = omega (arith, H .ascend 1 i (omega arith) h, state-zero) in
+        omega (
+          arith,
+          F .same e,
+          front-word (b .rules) (lineAt 0) (ap (λ (k : Kernel). k .dot) (W .first)),
+          word-low (H .named-in) 1 (omega arith) (F .behind),
+        )
+
+    not-first : (i : ℕ) → lineAt i .state ≢ 0 → 0 < i
+    not-first zero n = absurd (n state-zero)
+    not-first (suc i) n = omega arith
+
+    dot-behind : (i : ℕ) → i < length (b .kernels) → lineAt i .state ≢ 0 → 1 ≤ lineAt i .dot
+    dot-behind i h n = W .follow i (not-first i n) h .behind
+
+    -- each state up to that of a line has one
+    found : (i : ℕ) → i < length (b .kernels) → (S : ℕ) → S ≤ lineAt i .state → (j : ℕ) × (j < length (b .kernels)) × (lineAt j .state ≡ S)
+    found zero h S l = (0, h, omega (arith, state-zero))
+    found (suc i) h S l =
+        let F : Follows (b .rules) (lineAt i) (lineAt (suc i)) = line-follows i h in
+        by-less S (lineAt (suc i) .state) (λ less. found i (omega arith) S (omega (arith, follow-state F))) (λ all. (suc i, h, omega arith))
+
+    -- lines of one state have one word before their dots
+    one-word : (i j : ℕ) → i ≤ j → j < length (b .kernels) → lineAt i .state ≡ lineAt j .state
+        → wordBefore (b .rules) (lineAt i) ≡ wordBefore (b .rules) (lineAt j)
+    one-word i zero l h e = let z : i ≡ 0 = omega arith in rw z
+    one-word i (suc j) l h e =
+        let F : Follows (b .rules) (lineAt j) (lineAt (suc j)) = line-follows j h in
+        by-less i (suc j)
+        (λ less.
+        let s : lineAt j .state ≡ lineAt (suc j) .state =
+        omega (arith, H .ascend i j (omega arith) (omega arith), H .ascend j (suc j) (omega arith) h) in
+        one-word i j (omega arith) (omega arith) (e ∙ sym s) ∙ sym (F .same (sym s)))
+        (λ all. let z : i ≡ suc j = omega arith in rw z)
+
+    -- so they have one symbol
+    symbols-same : (i j : ℕ) → i < length (b .kernels) → j < length (b .kernels) → lineAt i .state ≢ 0 → lineAt i .state ≡ lineAt j .state
+        → symbolAt (b .rules) (lineAt i .rule) (lineAt i .dot) ≡ symbolAt (b .rules) (lineAt j .rule) (lineAt j .dot)
+    symbols-same i j h l n e =
+        code-same _ _ (before-low (H .named-in) i h) (before-low (H .named-in) j l)
+        (behind-word (b .rules) (lineAt i) (dot-behind i h n)
+        ∙ by-less i j (λ o. one-word i j (omega arith) l e) (λ o. sym (one-word j i o h (sym e)))
+        ∙ sym (behind-word (b .rules) (lineAt j) (dot-behind j l (λ z. n (e ∙ z)))))
+
+    start-lines : (i : ℕ) → i < length (b .kernels) → lineAt i .state ≡ 0 → lineAt i ≡ startKernel
+    start-lines zero h z = W .first
+    start-lines (suc i) h z = absurd (past-zero (suc i) (omega arith) h z)
+
+    ends-alone : (i : ℕ) → i < length (b .kernels) → StartAlone (lineAt i)
+    ends-alone zero h z = ap (λ (k : Kernel). k .lookaheads) (W .first)
+    ends-alone (suc i) h z = line-follows i h .alone z
+
+    -- what holds of each line by its number
+    each-line : (Q : Kernel → Type 0) → ((i : ℕ) → i < length (b .kernels) → Q (lineAt i)) → (k : Kernel) → Mem k (b .kernels) → Q k
+    each-line Q f k m = let (i, h, e) = member-at (b .kernels) noKernel m in subst Q e (f i h)
+
+    rules-hold : lineAt (length (b .kernels) - 1) .state + 1 ≡ b .states → KernelRules b
+    rules-hold last =
+        record {
+          start-there = rw (W .first) at (at-member (b .kernels) 0 noKernel (W .some));
+          start-only = each-line (λ k. k .state ≡ 0 → k ≡ startKernel) start-lines;
+          has-kernel = λ S p l.
+              let (j, h, e) = found (length (b .kernels) - 1) (omega (arith, W .some)) S (omega arith) in
+              (lineAt j, at-member (b .kernels) j noKernel h, e);
+          dots = each-line (λ k. k .state ≢ 0 → 1 ≤ k .dot) dot-behind;
+          one-symbol = λ k l m m′.
+              each-line (λ k. k .state ≢ 0 → k .state ≡ l .state → symbolAt (b .rules) (k .rule) (k .dot) ≡ symbolAt (b .rules) (l .rule) (l .dot))
+              (λ i h. each-line (λ l. lineAt i .state ≢ 0 → lineAt i .state ≡ l .state
+              → symbolAt (b .rules) (lineAt i .rule) (lineAt i .dot) ≡ symbolAt (b .rules) (l .rule) (l .dot))
+              (λ j q. symbols-same i j h q) l m′) k m;
+          start-lookahead = each-line StartAlone ends-alone;
+        }
+
+    -- and it is known where the lines of each state begin
+    starts-known : lineAt (length (b .kernels) - 1) .state + 1 ≡ b .states → StartsIn (b .kernels) (b .states) starts
+    starts-known last = cuts-done (b .kernels) (b .states) starts (W .long) (H .named-in .state-there) (λ S l. W .cuts S (omega arith))
+
+-- ---- what the walk over all lines tells
+
+pub record Walks (b : Book) (r : Bool) (starts : List ℕ) : Type 0 where
+  pub right : r ≡ true → Walked b starts (length (b .kernels))
+  pub wrong : r ≡ false → KernelRules b → ⊥
+
+-- what the whole test tells
+pub record Ruled (b : Book) (r : Bool) (starts : List ℕ) : Type 0 where
+  pub told : r ≡ kernelRules b
+  pub starts-in : r ≡ true → StartsIn (b .kernels) (b .states) starts
+
+module _ {b : Book} {rules kernels : List ℕ} {count : ℕ} (H : RuledIn b rules kernels count) {starts : List ℕ} where
+  pub walks-all : {i : ℕ} → Walked b starts i → count ≤ i → Walks b true starts
+  walks-all {i} W h = record { right = λ _. rw e at W; wrong = λ f. absurd (false≢true (sym f)) }
+    where
+      e : i ≡ length (b .kernels)
+      e = omega (arith, W .within, H .counted)
+
+  pub walks-fails : {i : ℕ} → 0 < i → i < count → {t : Bool}
+      → Decides t (Follows (b .rules) (kernelAt (b .kernels) (i - 1)) (kernelAt (b .kernels) i)) → t ≡ false → Walks b false starts
+  walks-fails {i} p h d f = record {
+    right = λ z. absurd (false≢true z);
+    wrong = λ _ K. refutes (rw f at d) (follow-is H K i p (omega (arith, H .counted)));
+  }
+
+  refused : (KernelRules b → ⊥) → Ruled b false starts
+  refused n = record { told = sym (false-of (kernelRules-decides (H .well-named)) n); starts-in = λ z. absurd (false≢true z) }
+
+  -- there is no line
+  pub ruled-none : count ≡ 0 → Ruled b false starts
+  ruled-none z = refused λ K. omega (arith, some-line H K, H .counted)
+
+  pub ruled-first : {t : Bool} → Decides t (kernelAt (b .kernels) 0 ≡ startKernel) → t ≡ false → Ruled b false starts
+  ruled-first d f = refused λ K. refutes (rw f at d) (first-is H K)
+
+  pub ruled-lines : {t : Bool} → Walks b t starts → t ≡ false → Ruled b false starts
+  ruled-lines w f = refused (w .wrong f)
+
+  -- the last line is of the last state
+  pub ruled-last : {t : Bool} → Walks b t starts → t ≡ true → {states last : ℕ} → states ≡ b .states → last ≡ getD kernels (5 * (count - 1)) 0
+      → Ruled b (eqb (last + 1) states) starts
+  ruled-last w e {states} {last} s l = record {
+    told = decides-same
+        (equivalent (λ q. rules-hold H W (known q)) (λ K. omega (arith, last-state, last-is H K)) (eq-decides (last + 1) states))
+        (kernelRules-decides (H .well-named));
+    starts-in = λ q. starts-known H W (known (eqb-true (last + 1) states q));
+  }
+    where
+      W : Walked b starts (length (b .kernels))
+      W = w .right e
+
+      last-state : last ≡ kernelAt (b .kernels) (length (b .kernels) - 1) .state
+      last-state =
+          l ∙ ap (λ (n : ℕ). getD kernels (5 * (n - 1)) 0) (H .counted)
+          ∙ H .named-in .spelled-in .kernels-in .state-is (length (b .kernels) - 1) (omega (arith, W .some))
+
+      known : last + 1 ≡ states → kernelAt (b .kernels) (length (b .kernels) - 1) .state + 1 ≡ b .states
+      known q = omega (arith, last-state)

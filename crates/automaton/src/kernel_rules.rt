@@ -1,47 +1,45 @@
 // The kernel rules (7): state 0 has the one kernel (0, 0) with t0 alone; any other state has a kernel, all dots at least 1, one and the same symbol
-// before every dot; rule 0's kernels have t0 alone.
-// A contract asks that the arrays hold some book, and says its equation of every book that they hold.
+// before every dot; rule 0's kernels have t0 alone. The lines ascend by their states: one walk over them tells the rules, and where the lines of each
+// state begin.
+// A contract asks that the arrays hold some book, and says what it says of every book that they hold.
 ghost use mathlib.Core.Path.{_≡_};
 ghost use mathlib.Core.List.{List};
-ghost use Prim.Native.Nat.{_-_, _≤_, _<_};
+ghost use Prim.Native.Nat.{_+_, _-_, _≤_, _<_};
 ghost use lib.ListN.{length};
-ghost use Rattle.grammar.specs.Data.Symbol.{Symbol};
 ghost use Rattle.grammar.specs.Data.Book.{Book, Kernel};
-ghost use Rattle.grammar.specs.Automaton.Small.{numberOf};
-ghost use Rattle.grammar.specs.Automaton.StatesCheck.{endAlone, startState, oneSymbol, otherState, otherStates, startLookaheads, kernelRules};
-ghost use Rattle.book.specs.Layout.{symbolCode};
+ghost use Rattle.grammar.specs.Conditions.Decides.{Decides};
+ghost use Rattle.grammar.specs.Automaton.States.{startKernel};
 ghost use Rattle.book.specs.Held.{kernelAt};
-ghost use Rattle.items.specs.KernelLines.{lines};
-ghost use Rattle.automaton.specs.KernelWords.{SpelledIn, NamedIn, wordBefore, startOrOther};
-ghost use Rattle.automaton.specs.KernelRules.{RuledIn};
+ghost use Rattle.automaton.specs.KernelWords.{SpelledIn, NamedIn, EndAlone, StartAlone, wordBefore, Follows};
+ghost use Rattle.automaton.specs.KernelRules.{RuledIn, Walked, Walks, Ruled};
 use items::words::word;
 
 // Whether kernel line i has t0 alone. Lookaheads ascend, so the largest tells.
 fn end_alone(kernels: &[u32], i: usize) -> bool
     requires { ⌜ ((ks : List Kernel) × SpelledIn ks (now kernels) × (i < length ks)) ⌝ }
-    ensures { λ r. ⌜ ((ks : List Kernel) → SpelledIn ks (now (kernels .entry)) → i < length ks → r ≡ endAlone (kernelAt ks i .lookaheads)) ⌝ }
+    ensures { λ r. ⌜ ((ks : List Kernel) → SpelledIn ks (now (kernels .entry)) → i < length ks → Decides r (EndAlone (kernelAt ks i))) ⌝ }
 {
     kernels[5 * i + 3] == 0
 }
 
-// State 0, whose kernel lines stand from one up to another.
-fn start_state(kernels: &[u32], from: usize, to: usize) -> bool
-    requires { ⌜ ((ks : List Kernel) × SpelledIn ks (now kernels) × (to ≤ length ks)) ⌝ }
-    ensures { λ r. ⌜ ((ks : List Kernel) → SpelledIn ks (now (kernels .entry)) → to ≤ length ks → r ≡ startState (lines ks from to)) ⌝ }
+// Whether the first kernel line is of state 0 and rule 0, with the dot in front and t0 alone.
+fn start_line(kernels: &[u32]) -> bool
+    requires { ⌜ ((ks : List Kernel) × SpelledIn ks (now kernels) × (0 < length ks)) ⌝ }
+    ensures { λ r. ⌜ ((ks : List Kernel) → SpelledIn ks (now (kernels .entry)) → 0 < length ks → Decides r (kernelAt ks 0 ≡ startKernel)) ⌝ }
 {
-    if to <= from {
-        return false;
+    let own = (kernels[0] == 0) & (kernels[1] == 0) & (kernels[2] == 0);
+    own & end_alone(kernels, 0)
+}
+
+// Whether kernel line i, if it is of rule 0, has t0 alone.
+fn start_or_other(kernels: &[u32], i: usize) -> bool
+    requires { ⌜ ((ks : List Kernel) × SpelledIn ks (now kernels) × (i < length ks)) ⌝ }
+    ensures { λ r. ⌜ ((ks : List Kernel) → SpelledIn ks (now (kernels .entry)) → i < length ks → Decides r (StartAlone (kernelAt ks i))) ⌝ }
+{
+    if kernels[5 * i + 1] != 0 {
+        return true;
     }
-    if to - from != 1 {
-        return false;
-    }
-    if kernels[5 * from + 1] != 0 {
-        return false;
-    }
-    if kernels[5 * from + 2] != 0 {
-        return false;
-    }
-    end_alone(kernels, from)
+    end_alone(kernels, i)
 }
 
 // The word of the symbol before the dot of kernel line i; 64, which no symbol has, where the dot is in front.
@@ -58,90 +56,68 @@ fn symbol_before(rules: &[u32], kernels: &[u32], i: usize) -> u32
     rules[10 * rule + 1 + dot]
 }
 
-// Whether the kernel lines from one up to another have their dots behind one symbol, given by its word.
-fn one_symbol(rules: &[u32], kernels: &[u32], from: usize, to: usize, symbol: u32) -> bool
-    requires { ⌜ ((b : Book) × NamedIn b (now rules) (now kernels) × (to ≤ length (b .kernels))) ⌝ }
-    ensures { λ r. ⌜ ((b : Book) (X : Symbol) → NamedIn b (now (rules .entry)) (now (kernels .entry)) → to ≤ length (b .kernels)
-        → numberOf X < 32 → symbolCode X ≡ symbol → r ≡ oneSymbol (b .rules) X (lines (b .kernels) from to)) ⌝ }
+// Whether kernel line i, which is not the first, may stand behind the line before it: its dot is not in front; rule 0 has t0 alone; it is of the same
+// state, with the same symbol before its dot, or of the next state.
+fn line_right(rules: &[u32], kernels: &[u32], i: usize) -> bool
+    requires { ⌜ ((b : Book) × NamedIn b (now rules) (now kernels) × (0 < i) × (i < length (b .kernels))) ⌝ }
+    ensures { λ r. ⌜ ((b : Book) → NamedIn b (now (rules .entry)) (now (kernels .entry)) → 0 < i → i < length (b .kernels)
+        → Decides r (Follows (b .rules) (kernelAt (b .kernels) (i - 1)) (kernelAt (b .kernels) i))) ⌝ }
 {
-    let mut i = from;
-    while i < to {
-        if symbol_before(rules, kernels, i) != symbol {
-            return false;
-        }
-        i += 1;
-    }
-    true
-}
-
-// A state other than 0, whose kernel lines stand from one up to another.
-fn other_state(rules: &[u32], kernels: &[u32], from: usize, to: usize) -> bool
-    requires { ⌜ ((b : Book) × NamedIn b (now rules) (now kernels) × (to ≤ length (b .kernels))) ⌝ }
-    ensures { λ r. ⌜ ((b : Book) → NamedIn b (now (rules .entry)) (now (kernels .entry)) → to ≤ length (b .kernels)
-        → r ≡ otherState (b .rules) (lines (b .kernels) from to)) ⌝ }
-{
-    if to <= from {
-        return false;
-    }
-    let symbol = symbol_before(rules, kernels, from);
+    let symbol = symbol_before(rules, kernels, i);
     if symbol == 64 {
         return false;
     }
-    one_symbol(rules, kernels, from, to, symbol)
-}
-
-// All states but 0, from the last down.
-fn other_states(rules: &[u32], kernels: &[u32], starts: &[u32], states: usize) -> bool
-    requires { ⌜ ((b : Book) × RuledIn b (now rules) (now kernels) (now starts) states) ⌝ }
-    ensures { λ r. ⌜ ((b : Book) → RuledIn b (now (rules .entry)) (now (kernels .entry)) (now (starts .entry)) states
-        → r ≡ otherStates b (b .states - 1)) ⌝ }
-{
-    let mut n = states - 1;
-    while 0 < n {
-        if !other_state(rules, kernels, word(starts, n), word(starts, n + 1)) {
-            return false;
-        }
-        n -= 1;
+    if !start_or_other(kernels, i) {
+        return false;
     }
-    true
-}
-
-// Whether kernel line i, if it is of rule 0, has t0 alone.
-fn start_or_other(kernels: &[u32], i: usize) -> bool
-    requires { ⌜ ((ks : List Kernel) × SpelledIn ks (now kernels) × (i < length ks)) ⌝ }
-    ensures { λ r. ⌜ ((ks : List Kernel) → SpelledIn ks (now (kernels .entry)) → i < length ks → r ≡ startOrOther (kernelAt ks i)) ⌝ }
-{
-    if kernels[5 * i + 1] != 0 {
-        return true;
+    let state = kernels[5 * i];
+    let last = kernels[5 * (i - 1)];
+    if state == last {
+        return symbol == symbol_before(rules, kernels, i - 1);
     }
-    end_alone(kernels, i)
+    state == last + 1
 }
 
-// Rule 0's kernel lines.
-fn start_lookaheads(kernels: &[u32], count: usize) -> bool
-    requires { ⌜ ((ks : List Kernel) × SpelledIn ks (now kernels) × (length ks ≡ count)) ⌝ }
-    ensures { λ r. ⌜ ((ks : List Kernel) → SpelledIn ks (now (kernels .entry)) → length ks ≡ count → r ≡ startLookaheads ks) ⌝ }
+// Whether every kernel line behind the first may stand there; `starts` is filled as far as the lines go.
+fn lines_right(rules: &[u32], kernels: &[u32], count: usize, starts: &mut [u32]) -> bool
+    requires { ⌜ ((b : Book) × RuledIn b (now rules) (now kernels) count × Walked b (now starts) 1) ⌝ }
+    ensures { λ r. ⌜ ((b : Book) → RuledIn b (now (rules .entry)) (now (kernels .entry)) count → Walked b (now (starts .entry)) 1
+        → Walks b r (now (starts .exit))) ⌝ }
 {
-    let mut i = 0;
+    let mut i = 1;
     while i < count {
-        if !start_or_other(kernels, i) {
+        if !line_right(rules, kernels, i) {
             return false;
         }
+        let state = word(kernels, 5 * i);
+        starts[state + 1] = (i + 1) as u32;
         i += 1;
     }
     true
 }
 
-// Condition 7.
-pub fn kernel_rules(rules: &[u32], kernels: &[u32], starts: &[u32], states: u32) -> bool
-    requires { ⌜ ((b : Book) × RuledIn b (now rules) (now kernels) (now starts) states) ⌝ }
-    ensures { λ r. ⌜ ((b : Book) → RuledIn b (now (rules .entry)) (now (kernels .entry)) (now (starts .entry)) states → r ≡ kernelRules b) ⌝ }
+// Condition 7. If it holds, `starts` is filled: the lines of state S stand from word S up to word S + 1.
+pub fn kernel_rules(
+    rules: &[u32],
+    kernels: &[u32],
+    count: u32,
+    states: u32,
+    starts: &mut [u32],
+) -> bool
+    requires { ⌜ ((b : Book) × RuledIn b (now rules) (now kernels) count × (states ≡ b .states)) × (states + 1 ≤ length (now starts)) ⌝ }
+    ensures { λ r. ⌜ ((b : Book) → RuledIn b (now (rules .entry)) (now (kernels .entry)) count → states ≡ b .states
+        → Ruled b r (now (starts .exit))) ⌝ }
 {
-    if !start_state(kernels, word(starts, 0), word(starts, 1)) {
+    if count == 0 {
         return false;
     }
-    if !other_states(rules, kernels, starts, states as usize) {
+    if !start_line(kernels) {
         return false;
     }
-    start_lookaheads(kernels, word(starts, states as usize))
+    starts[0] = 0;
+    starts[1] = 1;
+    if !lines_right(rules, kernels, count as usize, starts) {
+        return false;
+    }
+    word(kernels, 5 * (count as usize - 1)) + 1 == states as usize
 }

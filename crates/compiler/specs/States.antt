@@ -20,7 +20,6 @@ use Rattle.book.specs.declared.Room.{Room}
 use Rattle.book.specs.Held.{RulesIn, KernelsIn, GoesIn}
 use Rattle.book.specs.Spelling.{Complete}
 use Rattle.items.specs.Arrays.{SuffixesIn, StartsIn, ClosuresIn, GoTableIn, ActionsIn}
-use Rattle.items.specs.Starts.{LinesIn}
 use Rattle.items.specs.Closures.{StateItemsIn, Blank}
 use Rattle.automaton.specs.KernelRules.{RuledIn}
 use Rattle.items.specs.GrammarIn.{GrammarIn}
@@ -30,7 +29,7 @@ use Rattle.automaton.specs.GoTable.{GoLinesIn, Unset, unset-fewer}
 use Rattle.automaton.specs.StatesIn.{StatesIn, ItemsIn, AutomatonIn}
 use Rattle.automaton.specs.Fronts.{Fronts, FrontsIn, fronts-asked}
 use Rattle.automaton.specs.ActionTable.{Acted}
-use Rattle.automaton.specs.BookHeld.{lines-in, state-items-in, ruled-in}
+use Rattle.automaton.specs.BookHeld.{state-items-in, ruled-in}
 
 -- the rules and the kernel lines
 pub record KernelsHeld (b : Book) (rules kernels : List ℕ) (states : ℕ) : Type 0 where
@@ -158,8 +157,8 @@ pub record Tabled (b : Book) (r : ℕ) (rules vanishes begins reached starts clo
 -- ---- what the functions over these arrays ask
 
 module _ {b : Book} {rules kernels : List ℕ} {states : ℕ} (h : KernelsHeld b rules kernels states) where
-  pub held-lines : {count : ℕ} → count ≡ length (b .kernels) → LinesIn (b .kernels) count states kernels
-  held-lines e = rw (e, h .states-are) (lines-in (h .ordered) (h .limits) (h .declared) (h .kernels-in))
+  pub held-rules : {count : ℕ} → count ≡ length (b .kernels) → RuledIn b rules kernels count
+  held-rules e = rw e (ruled-in (h .ordered) (h .limits) (h .declared) (h .rules-in) (h .kernels-in))
 
   pub held-grammar : {count : ℕ} → count ≡ length (b .rules) → GrammarHeld (b .rules) rules count
   held-grammar e = book-grammar (h .limits) (small-book (h .ordered) (h .limits) (h .declared)) (h .rules-in) e
@@ -180,27 +179,20 @@ module _ {b : Book} {rules kernels : List ℕ} {states : ℕ} (h : KernelsHeld b
     pub held-fronts : {fronts : List ℕ} → Fronts rules count closures states fronts → FrontsIn b rules closures fronts
     held-fronts W = rw (e, h .states-are) at W
 
-  module _ {starts : List ℕ} where
-    pub held-starts : StartsIn (b .kernels) states starts → StartsIn (b .kernels) (b .states) starts
-    held-starts T = rw (h .states-are) at T
+  module _ {starts : List ℕ} (T : StartsIn (b .kernels) (b .states) starts) where
+    pub held-items : {count : ℕ} {vanishes begins : List ℕ} → count ≡ length (b .rules) → SuffixesIn (b .rules) (setsOf (b .rules)) vanishes begins
+        → StateItemsIn b (setsOf (b .rules)) rules count kernels starts states vanishes begins
+    held-items e S = rw (e, h .states-are) (state-items-in (h .ordered) (h .limits) (h .declared) (h .rules-in) S (h .kernels-in) T)
 
-    module _ (T : StartsIn (b .kernels) (b .states) starts) where
-      pub held-rules : RuledIn b rules kernels starts states
-      held-rules = rw (h .states-are) (ruled-in (h .ordered) (h .limits) (h .declared) (h .rules-in) (h .kernels-in) T)
+    pub held-states : StatesIn b rules kernels starts
+    held-states = record { grammar-in = rules-held; kernels-in = h .kernels-in; starts-in = T }
 
-      pub held-items : {count : ℕ} {vanishes begins : List ℕ} → count ≡ length (b .rules) → SuffixesIn (b .rules) (setsOf (b .rules)) vanishes begins
-          → StateItemsIn b (setsOf (b .rules)) rules count kernels starts states vanishes begins
-      held-items e S = rw (e, h .states-are) (state-items-in (h .ordered) (h .limits) (h .declared) (h .rules-in) S (h .kernels-in) T)
+    module _ {closures : List ℕ} (C : ClosuresIn b (setsOf (b .rules)) closures) where
+      pub held-closures : ItemsIn b (setsOf (b .rules)) rules kernels starts closures
+      held-closures = record { states-in = held-states; closures-in = C }
 
-      pub held-states : StatesIn b rules kernels starts
-      held-states = record { grammar-in = rules-held; kernels-in = h .kernels-in; starts-in = T }
-
-      module _ {closures : List ℕ} (C : ClosuresIn b (setsOf (b .rules)) closures) where
-        pub held-closures : ItemsIn b (setsOf (b .rules)) rules kernels starts closures
-        held-closures = record { states-in = held-states; closures-in = C }
-
-        pub held-automaton : {table : List ℕ} → GoTableIn b table → AutomatonIn b (setsOf (b .rules)) rules kernels starts closures table
-        held-automaton G = record { states-in = held-states; closures-in = C; table-in = G }
+      pub held-automaton : {table : List ℕ} → GoTableIn b table → AutomatonIn b (setsOf (b .rules)) rules kernels starts closures table
+      held-automaton G = record { states-in = held-states; closures-in = C; table-in = G }
 
 -- ---- the refusal, by what was asked first
 

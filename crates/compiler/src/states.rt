@@ -1,11 +1,10 @@
 // The arrays of a book's states, and the first of 7, 8 and 9 that applies.
 // A contract asks that the arrays hold some book, and says what it says of every book that they hold.
 ghost use mathlib.Core.Path.{_≡_};
-ghost use Prim.Native.Nat.{_+_, _*_, _≤_};
+ghost use Prim.Native.Nat.{_*_, _≤_};
 ghost use lib.ListN.{length};
 ghost use Rattle.grammar.specs.Data.Book.{Book};
 ghost use Rattle.grammar.specs.Automaton.FirstSets.{setsOf};
-ghost use Rattle.grammar.specs.Automaton.StatesCheck.{kernelRules};
 ghost use Rattle.book.specs.Held.{GoesIn};
 ghost use Rattle.items.specs.Arrays.{StartsIn, ClosuresIn, GoTableIn};
 ghost use Rattle.items.specs.Closures.{Blank};
@@ -19,23 +18,6 @@ use automaton::kernel_rules::kernel_rules;
 use automaton::lefts::fill_fronts;
 use items::closures::closures;
 use items::rests::rests;
-use items::starts::kernel_starts;
-
-// Where the kernel lines of each state begin, and whether the kernel rules (7) hold.
-fn kernel_states(
-    rules: &[u32],
-    kernels: &[u32],
-    count: u32,
-    states: u32,
-    starts: &mut [u32],
-) -> bool
-    requires { ⌜ ((b : Book) × KernelsHeld b (now rules) (now kernels) states × (count ≡ length (b .kernels))) × (states + 1 ≤ length (now starts)) ⌝ }
-    ensures { λ r. ⌜ ((b : Book) → KernelsHeld b (now (rules .entry)) (now (kernels .entry)) states → count ≡ length (b .kernels)
-        → (r ≡ kernelRules b) × StartsIn (b .kernels) (b .states) (now (starts .exit))) ⌝ }
-{
-    kernel_starts(kernels, count, states, starts);
-    kernel_rules(rules, kernels, starts, states)
-}
 
 // The sets of the rules' rests, and the closures.
 fn fill_items(
@@ -129,7 +111,7 @@ pub fn tables(
         → Tabled b r (now (rules .entry)) (now (vanishes .exit)) (now (begins .exit)) (now (reached .exit)) (now (starts .exit))
         (now (lookaheads .exit)) (now (fronts .exit)) (now (table .exit)) (now (cells .exit))) ⌝ }
 {
-    if !kernel_states(rules, kernels, items, states, starts) {
+    if !kernel_rules(rules, kernels, items, states, starts) {
         return 7;
     }
     fill_items(

@@ -7,6 +7,7 @@ use mathlib.Core.List.{List}
 use native.Mathlib.Omega.{arith}
 use lib.ListN.{length, getD, take, drop, replicate, length-replicate, length-drop}
 use lib.Seq.{length-take-le, getD-take, getD-drop, ext-getD}
+use Rattle.text.specs.Positional.{by-less}
 use Rattle.grammar.specs.Limits.{MAX-STATES}
 use Rattle.grammar.specs.Data.Book.{Book}
 use Rattle.grammar.specs.Automaton.Fixpoint.{setAt, least}
@@ -14,7 +15,6 @@ use Rattle.grammar.specs.Automaton.FirstSets.{Sets}
 use Rattle.grammar.specs.Automaton.ClosureSets.{fromKernels, closureRule, closureSets}
 use Rattle.items.specs.Arrays.{StartsIn, ClosuresIn}
 use Rattle.items.specs.Part.{putBack, back-long, back-before, back-within, back-behind}
-use Rattle.items.specs.Starts.{by-order}
 use Rattle.items.specs.ClosurePasses.{none-at, none-least}
 use Rattle.items.specs.KernelLines.{lines, KernelItemsIn, StateIn, Begun}
 
@@ -95,7 +95,7 @@ module _ {rules : List ℕ} {count : ℕ} {kernels starts : List ℕ} {states : 
       within = omega arith;
       long = omega (arith, back-long (32 * s) size closures looks fits exact, C .long);
       rest = λ i m. back-behind (32 * s) size closures looks fits exact i (omega arith) ∙ C .rest i (omega arith);
-      done = λ b F H S B m n. by-order S s
+      done = λ b F H S B m n. by-less S s
           (λ o. back-before (32 * s) size closures looks fits exact (32 * S + B) (omega arith) ∙ C .done b F H S B o n)
           (λ o. let q : S ≡ s = omega arith in
           rw q (back-within (32 * s) size closures looks fits exact B (omega arith) ∙ ap (λ (x : List ℕ). getD x B 0) (is b F H)));

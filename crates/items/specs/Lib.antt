@@ -18,7 +18,6 @@ pub mod ReachLoops
 pub mod RestSets
 pub mod Rests
 pub mod Searches
-pub mod Starts
 pub mod SuffixLoops
 pub mod SymbolCodes
 pub mod Turned

@@ -1,4 +1,4 @@
-// The items of the states: what a rest of a rule can begin with, vanish into and reach, where the kernel lines of a state stand, and the closures.
+// The items of the states: what a rest of a rule can begin with, vanish into and reach, and the closures.
 pub mod closure;
 pub mod closures;
 pub mod first;
@@ -8,6 +8,5 @@ pub mod passes;
 pub mod reach;
 pub mod rests;
 pub mod rules;
-pub mod starts;
 pub mod suffixes;
 pub mod words;

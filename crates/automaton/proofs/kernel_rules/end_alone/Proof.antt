@@ -1,7 +1,6 @@
 -- `automaton::kernel_rules::end_alone` meets its contract: ascending lookaheads are t0 alone if the largest is t0.
 -- Assumes nothing.
-use mathlib.Core.Path.{sym}
-use Rattle.automaton.specs.KernelWords.{end-word}
+use Rattle.automaton.specs.KernelWords.{end-decides}
 use borrow.Author.Needs.{needs}
 use Rattle.automaton.proofs.kernel_rules.end_alone.Statement.{statement}
 use Rattle.automaton.proofs.kernel_rules.end_alone.Tie as tie
@@ -19,7 +18,7 @@ shared-slice-read-result : tie.Need-shared-slice-read-result
 shared-slice-read-result c = search needs
 
 returns : tie.Need-returns
-returns c = λ ks H h. sym (end-word H (c .before .args .i) h)
+returns c = λ ks H h. end-decides H (c .before .args .i) h
 
 pub end-alone-spec : {M : Type 1} → statement M
 end-alone-spec =

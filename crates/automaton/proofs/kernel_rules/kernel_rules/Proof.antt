@@ -1,71 +1,113 @@
--- `automaton::kernel_rules::kernel_rules` meets its contract: state 0, the other states, rule 0's lines.
+-- `automaton::kernel_rules::kernel_rules` meets its contract: the first line, the lines behind it, the last state.
 -- Assumes nothing.
-use mathlib.Core.Path.{sym, _∙_}
+use Prim.Native.Nat.{_-_, _<_}
+use native.Mathlib.Omega.{arith}
+use mathlib.Core.Path.{_≡_, _∙_}
+use lib.ListN.{length, set, length-set}
 use borrow.Author.Tests.{not-true, not-false}
-use Rattle.grammar.specs.Automaton.StatesCheck.{startState}
-use Rattle.items.specs.KernelLines.{state-words}
-use Rattle.automaton.specs.KernelRules.{state-told, rules-start, rules-others, rules-all}
+use Rattle.grammar.specs.Data.Book.{Book}
+use Rattle.automaton.specs.KernelWords.{line-long, state-low}
+use Rattle.automaton.specs.KernelRules.{RuledIn, Walked, walked-start, ruled-none, ruled-first, ruled-lines, ruled-last}
 use borrow.Author.Needs.{needs}
 use Rattle.automaton.proofs.kernel_rules.kernel_rules.Statement.{statement}
 use Rattle.automaton.proofs.kernel_rules.kernel_rules.Tie as tie
 
-word-requires : tie.Need-word-requires
-word-requires c κs = search needs
+-- from each step back to the one before
 
-word-requires-2 : tie.Need-word-requires-2
-word-requires-2 c κs = search needs
+abbrev start : tie.Else1 → tie.Start
+start c = c .before .before .before .before
 
-start-state-requires : tie.Need-start-state-requires
-start-state-requires c κs =
-    let g = c .before .before .before .before .before .pre in
-    (g .0 .kernels, g .1 .named-in .spelled-in, state-words (g .1 .starts-in) 0 (g .1 .some) (c .before .word .ensures) (c .word2 .ensures) .within)
+abbrev some-at : tie.Else2 → tie.Else1
+some-at c = c .before .before
+
+abbrev first-at : tie.After-lines-right → tie.Else2
+first-at c = c .before .before
+
+abbrev lines-at : tie.After-slice-known2 → tie.After-lines-right
+lines-at c = c .before .before
+
+-- there is a line
+some : (c : tie.Else1) {b : Book} → RuledIn b (start c .args .rules .now) (start c .args .kernels .now) (start c .args .count)
+    → 0 < length (b .kernels)
+some c H = omega (arith, H .counted, c .if1 .left)
+
+-- the first one is right
+walked : (c : tie.Else2) {b : Book}
+    → RuledIn b (start (some-at c) .args .rules .now) (start (some-at c) .args .kernels .now) (start (some-at c) .args .count)
+    → start (some-at c) .args .states ≡ b .states → Walked b (set (set (start (some-at c) .args .starts .now) 0 0) 1 1) 1
+walked c {b} H s =
+    walked-start H (start (some-at c) .args .starts .now) (some-at c .if1 .left) s (start (some-at c) .pre .1)
+    (c .before .start-line .ensures (b .kernels) (H .named-in .spelled-in) (some (some-at c) H)) (not-false _ (c .if2 .left))
 
 returns : tie.Need-returns
-returns c =
-    λ b H.
-    rules-start H
-    (state-told H startState 0 (H .some) (c .before .before .before .word .ensures) (c .before .before .word2 .ensures) (not-true _ (c .if1 .taken))
-    (c .before .start-state .ensures (b .kernels) (H .named-in .spelled-in)))
+returns c = λ b H s. ruled-none H (c .if1 .taken)
 
-other-states-requires : tie.Need-other-states-requires
-other-states-requires c κs = search needs
+start-line-requires : tie.Need-start-line-requires
+start-line-requires c κs = let (b, H, s) = start c .pre .0 in (b .kernels, H .named-in .spelled-in, some c H)
 
 returns-2 : tie.Need-returns-2
-returns-2 c =
-    λ b H.
-    rules-others H
-    (state-told H startState 0 (H .some) (c .before .before .before .before .before .word .ensures) (c .before .before .before .before .word2 .ensures)
-    (not-false _ (c .before .before .if1 .left)) (c .before .before .before .start-state .ensures (b .kernels) (H .named-in .spelled-in)))
-    (sym (not-true _ (c .if2 .taken)) ∙ c .before .other-states .ensures b H)
+returns-2 c = λ b H s.
+    ruled-first H (c .before .start-line .ensures (b .kernels) (H .named-in .spelled-in) (some (c .before .before) H)) (not-true _ (c .if2 .taken))
 
-word-requires-3 : tie.Need-word-requires-3
-word-requires-3 c κs = search needs
+slice-write-starts : tie.Need-slice-write-starts
+slice-write-starts c = omega (arith, start (some-at c) .pre .1)
 
-start-lookaheads-requires : tie.Need-start-lookaheads-requires
-start-lookaheads-requires c κs =
-    let g = c .before .before .before .before .before .before .before .before .before .before .pre in
-    (g .0 .kernels, g .1 .named-in .spelled-in, sym (c .word3 .ensures ∙ g .1 .starts-in .last-is))
+slice-write-starts-2 : tie.Need-slice-write-starts-2
+slice-write-starts-2 c =
+    let ((b, H, s), l) = start (some-at c) .pre in simp length-set (omega (arith, H .named-in .state-there 0 (some (some-at c) H)))
+
+lines-right-requires : tie.Need-lines-right-requires
+lines-right-requires c κs = let (b, H, s) = start (some-at (c .before)) .pre .0 in (b, H, walked (c .before) H s)
+
+same-length : tie.Need-same-length
+same-length c = lines-at (c .before) .lines-right .kept .1 .1 .1 .0 ∙ simp length-set
 
 returns-3 : tie.Need-returns-3
 returns-3 c =
-    λ b H.
-    c .start-lookaheads .ensures (b .kernels) (H .named-in .spelled-in) (sym (c .before .word3 .ensures ∙ H .starts-in .last-is))
-    ∙ rules-all H
-    (state-told H startState 0 (H .some) (c .before .before .before .before .before .before .before .word .ensures)
-    (c .before .before .before .before .before .before .word2 .ensures) (not-false _ (c .before .before .before .before .if1 .left))
-    (c .before .before .before .before .before .start-state .ensures (b .kernels) (H .named-in .spelled-in)))
-    (sym (not-false _ (c .before .before .if2 .left)) ∙ c .before .before .before .other-states .ensures b H)
+    let l = lines-at (c .before) in
+    λ b H s. ruled-lines H (l .lines-right .ensures b H (walked (first-at l) H s)) (not-true _ (c .if3 .taken))
+
+sub-word : tie.Need-sub-word
+sub-word c = search needs
+
+mul-word : tie.Need-mul-word
+mul-word c = search needs
+
+word-requires : tie.Need-word-requires
+word-requires c κs =
+    let o = some-at (first-at (lines-at (c .before))) in
+    let (b, H, s) = start o .pre .0 in
+    omega (arith, line-long (H .named-in .spelled-in) (start o .args .count - 1) (omega (arith, H .counted, some o H)))
+
+add-result : tie.Need-add-result
+add-result c =
+    let o = some-at (first-at (lines-at (c .before .before))) in
+    let (b, H, s) = start o .pre .0 in
+    omega (arith, c .word .ensures, state-low (H .named-in) (start o .args .count - 1) (omega (arith, H .counted, some o H)))
+
+same-length-2 : tie.Need-same-length-2
+same-length-2 c = lines-at (c .before .before) .lines-right .kept .1 .1 .1 .0 ∙ simp length-set
+
+returns-4 : tie.Need-returns-4
+returns-4 c =
+    let l = lines-at (c .before .before) in
+    λ b H s. ruled-last H (l .lines-right .ensures b H (walked (first-at l) H s)) (not-false _ (c .before .if3 .left)) s (c .word .ensures)
 
 pub kernel-rules-spec : {M : Type 1} → statement M
 kernel-rules-spec =
     tie.close
     (tie.spec
-    word-requires
-    word-requires-2
-    start-state-requires
     returns
-    other-states-requires
+    start-line-requires
     returns-2
-    word-requires-3
-    start-lookaheads-requires
-    returns-3)
+    slice-write-starts
+    slice-write-starts-2
+    lines-right-requires
+    same-length
+    returns-3
+    sub-word
+    mul-word
+    word-requires
+    add-result
+    same-length-2
+    returns-4)

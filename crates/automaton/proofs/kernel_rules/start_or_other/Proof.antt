@@ -1,6 +1,5 @@
 -- `automaton::kernel_rules::start_or_other` meets its contract: a line of rule 0 is asked for t0 alone.
 -- Assumes nothing.
-use mathlib.Core.Path.{_∙_}
 use Rattle.automaton.specs.KernelWords.{line-other, line-start}
 use borrow.Author.Needs.{needs}
 use Rattle.automaton.proofs.kernel_rules.start_or_other.Statement.{statement}
@@ -25,7 +24,7 @@ end-alone-requires : tie.Need-end-alone-requires
 end-alone-requires c κs = search needs
 
 returns-2 : tie.Need-returns-2
-returns-2 c = λ ks H h. c .end-alone .ensures ks H h ∙ line-start H (c .before .before .before .before .args .i) h (c .before .if1 .left)
+returns-2 c = λ ks H h. line-start H (c .before .before .before .before .args .i) h (c .before .if1 .left) (c .end-alone .ensures ks H h)
 
 pub start-or-other-spec : {M : Type 1} → statement M
 start-or-other-spec =

@@ -1,5 +1,7 @@
 -- `states::tables` meets its contract: each step prepares what the next one asks, and the first that fails is told. Assumes nothing.
 use Prim.Native.Nat.{ℕ, _≤_}
+use mathlib.Core.Path.{_≡_}
+use mathlib.Core.Bool.{true}
 use mathlib.Core.List.{List}
 use native.Mathlib.Omega.{arith}
 use Rattle.grammar.specs.Limits.{MAX-RULES, MAX-STATES}
@@ -7,7 +9,8 @@ use Rattle.grammar.specs.Data.Book.{Book}
 use borrow.Author.Needs.{needs}
 use borrow.Author.Tests.{not-true, not-false}
 use Rattle.grammar.specs.Automaton.FirstSets.{setsOf}
-use Rattle.compiler.specs.States.{BookHeld, held-closures, ask-fronts, held-fronts, tabled-kernels, tabled-goes, tabled-acts, tabled-all}
+use Rattle.compiler.specs.States.{BookHeld, held-rules, held-closures, ask-fronts, held-fronts}
+use Rattle.compiler.specs.States.{tabled-kernels, tabled-goes, tabled-acts, tabled-all}
 use Rattle.compiler.proofs.states.tables.Statement.{statement}
 use Rattle.compiler.proofs.states.tables.Tie as tie
 
@@ -21,11 +24,15 @@ few-rules H = omega (arith, H .rules-counted, H .kernels-held .rules-in .fits)
 
 -- from each call back to the one before
 
-abbrev start : tie.After-kernel-states → tie.Start
+abbrev start : tie.After-kernel-rules → tie.Start
 start c = c .before .before .before .before .before .before .before .before .before .before .before .before .before
 
-abbrev kernels-at : tie.After-fill-items → tie.After-kernel-states
+abbrev kernels-at : tie.After-fill-items → tie.After-kernel-rules
 kernels-at c = c .before .before .before .before .before .before .before .before .before
+
+-- the kernel rules hold
+rules-right : (c : tie.After-fill-items) → kernels-at c .kernel-rules .result ≡ true
+rules-right c = not-false _ (c .before .before .before .before .before .before .if1 .left)
 
 abbrev items-at : tie.After-fill-fronts → tie.After-fill-items
 items-at c = c .before .before .before .before .before .before .before .before .before .before .before
@@ -36,18 +43,19 @@ fronts-at c = c .before .before .before .before .before .before .before
 abbrev moves-at : tie.After-actions → tie.After-moves
 moves-at c = c .before .before .before .before .before .before .before .before
 
-kernel-states-requires : tie.Need-kernel-states-requires
-kernel-states-requires c κs =
+kernel-rules-requires : tie.Need-kernel-rules-requires
+kernel-rules-requires c κs =
     let s = c .before .before .before .before .before .before .before .before .before .before .before .before in
     let (b, H) = s .pre .0 in
-    ((b, H .kernels-held, H .kernels-counted), s .pre .1 .starts-long (few H))
+    ((b, held-rules (H .kernels-held) (H .kernels-counted), H .kernels-held .states-are), s .pre .1 .starts-long (few H))
 
 same-length : tie.Need-same-length
 same-length c = search needs
 
 returns : tie.Need-returns
 returns c = λ b H.
-    tabled-kernels (c .before .before .before .kernel-states .ensures b (H .kernels-held) (H .kernels-counted) .0) (not-true _ (c .if1 .taken))
+    let R = c .before .before .before .kernel-rules .ensures b (held-rules (H .kernels-held) (H .kernels-counted)) (H .kernels-held .states-are) in
+    tabled-kernels (R .told) (not-true _ (c .if1 .taken))
 
 fill-items-requires : tie.Need-fill-items-requires
 fill-items-requires c κs =
@@ -55,7 +63,8 @@ fill-items-requires c κs =
     let (b, H) = start s .pre .0 in
     let room = start s .pre .1 in
     let low = few-rules H in
-    let (k, T) = s .kernel-states .ensures b (H .kernels-held) (H .kernels-counted) in (
+    let R = s .kernel-rules .ensures b (held-rules (H .kernels-held) (H .kernels-counted)) (H .kernels-held .states-are) in
+    let T = R .starts-in (not-false _ (c .before .before .before .before .before .if1 .left)) in (
       (b, H .kernels-held, H .rules-counted, T),
       (room .vanishes-long low, room .begins-long low, room .reached-long low, room .closures-blank (few H)),
     )
@@ -64,7 +73,8 @@ fill-fronts-requires : tie.Need-fill-fronts-requires
 fill-fronts-requires c κs =
     let i = c .before .before .before .before .before .before .before .before .before .before in
     let (b, H) = start (kernels-at i) .pre .0 in
-    let (k, T) = kernels-at i .kernel-states .ensures b (H .kernels-held) (H .kernels-counted) in
+    let R = kernels-at i .kernel-rules .ensures b (held-rules (H .kernels-held) (H .kernels-counted)) (H .kernels-held .states-are) in
+    let T = R .starts-in (rules-right i) in
     let I = i .fill-items .ensures b (H .kernels-held) (H .rules-counted) T in
     ask-fronts (H .kernels-held) (H .rules-counted) (I .closures-in) (start (kernels-at i) .args .fronts .now) (start (kernels-at i) .pre .1 .fronts-long (few H))
 
@@ -73,7 +83,8 @@ moves-requires c κs =
     let f = c .before .before .before .before .before .before in
     let i = items-at f in
     let (b, H) = start (kernels-at i) .pre .0 in
-    let (k, T) = kernels-at i .kernel-states .ensures b (H .kernels-held) (H .kernels-counted) in
+    let R = kernels-at i .kernel-rules .ensures b (held-rules (H .kernels-held) (H .kernels-counted)) (H .kernels-held .states-are) in
+    let T = R .starts-in (rules-right i) in
     let I = i .fill-items .ensures b (H .kernels-held) (H .rules-counted) T in
     let W = held-fronts (H .kernels-held) (H .rules-counted) (f .fill-fronts .ensures) in
     ((b, H .kernels-held, H .goes-in, H .goes-counted, T, I .closures-in, W), start (kernels-at i) .pre .1 .table-unset (few H))
@@ -104,18 +115,20 @@ returns-2 c = λ b H.
     let m = c .before .before .before in
     let f = fronts-at m in
     let i = items-at f in
-    let (k, T) = kernels-at i .kernel-states .ensures b (H .kernels-held) (H .kernels-counted) in
+    let R = kernels-at i .kernel-rules .ensures b (held-rules (H .kernels-held) (H .kernels-counted)) (H .kernels-held .states-are) in
+    let T = R .starts-in (rules-right i) in
     let I = i .fill-items .ensures b (H .kernels-held) (H .rules-counted) T in
     let W = held-fronts (H .kernels-held) (H .rules-counted) (f .fill-fronts .ensures) in
     let (g, G) = m .moves .ensures b (H .kernels-held) (H .goes-in) (H .goes-counted) T (I .closures-in) W in
-    tabled-goes k (not-false _ (i .before .before .before .before .before .before .if1 .left)) g (not-true _ (c .if2 .taken))
+    tabled-goes (R .told) (rules-right i) g (not-true _ (c .if2 .taken))
 
 actions-requires : tie.Need-actions-requires
 actions-requires c κs =
     let f = fronts-at (c .before .before .before .before .before .before .before) in
     let i = items-at f in
     let (b, H) = start (kernels-at i) .pre .0 in
-    let (k, T) = kernels-at i .kernel-states .ensures b (H .kernels-held) (H .kernels-counted) in
+    let R = kernels-at i .kernel-rules .ensures b (held-rules (H .kernels-held) (H .kernels-counted)) (H .kernels-held .states-are) in
+    let T = R .starts-in (rules-right i) in
     let I = i .fill-items .ensures b (H .kernels-held) (H .rules-counted) T in
     let W = held-fronts (H .kernels-held) (H .rules-counted) (f .fill-fronts .ensures) in
     let K = held-closures (H .kernels-held) T (I .closures-in) in
@@ -131,7 +144,7 @@ same-length-11 : tie.Need-same-length-11
 same-length-11 c = search needs
 
 same-length-12 : tie.Need-same-length-12
-same-length-12 c = kernels-at (items-at (fronts-at (moves-at (c .before .before .before)))) .kernel-states .kept .1 .1 .1 .1 .0
+same-length-12 c = kernels-at (items-at (fronts-at (moves-at (c .before .before .before)))) .kernel-rules .kept .1 .1 .1 .1 .0
 
 same-length-13 : tie.Need-same-length-13
 same-length-13 c = search needs
@@ -150,13 +163,14 @@ returns-3 c = λ b H.
     let m = moves-at (c .before .before .before) in
     let f = fronts-at m in
     let i = items-at f in
-    let (k, T) = kernels-at i .kernel-states .ensures b (H .kernels-held) (H .kernels-counted) in
+    let R = kernels-at i .kernel-rules .ensures b (held-rules (H .kernels-held) (H .kernels-counted)) (H .kernels-held .states-are) in
+    let T = R .starts-in (rules-right i) in
     let I = i .fill-items .ensures b (H .kernels-held) (H .rules-counted) T in
     let W = held-fronts (H .kernels-held) (H .rules-counted) (f .fill-fronts .ensures) in
     let (g, G) = m .moves .ensures b (H .kernels-held) (H .goes-in) (H .goes-counted) T (I .closures-in) W in
     let K = held-closures (H .kernels-held) T (I .closures-in) in
     let A = c .before .before .before .actions .ensures b (setsOf (b .rules)) K (H .terminals-are) (H .kernels-held .states-are) W in
-    tabled-acts k (not-false _ (i .before .before .before .before .before .before .if1 .left))
+    tabled-acts (R .told) (rules-right i)
     g (not-false _ (c .before .before .before .before .before .before .before .before .if2 .left)) A
     (not-true _ (c .if3 .taken))
 
@@ -170,7 +184,7 @@ same-length-19 : tie.Need-same-length-19
 same-length-19 c = search needs
 
 same-length-20 : tie.Need-same-length-20
-same-length-20 c = kernels-at (items-at (fronts-at (moves-at (c .before .before .before)))) .kernel-states .kept .1 .1 .1 .1 .0
+same-length-20 c = kernels-at (items-at (fronts-at (moves-at (c .before .before .before)))) .kernel-rules .kept .1 .1 .1 .1 .0
 
 same-length-21 : tie.Need-same-length-21
 same-length-21 c = search needs
@@ -189,13 +203,14 @@ returns-4 c = λ b H.
     let m = moves-at (c .before .before .before) in
     let f = fronts-at m in
     let i = items-at f in
-    let (k, T) = kernels-at i .kernel-states .ensures b (H .kernels-held) (H .kernels-counted) in
+    let R = kernels-at i .kernel-rules .ensures b (held-rules (H .kernels-held) (H .kernels-counted)) (H .kernels-held .states-are) in
+    let T = R .starts-in (rules-right i) in
     let I = i .fill-items .ensures b (H .kernels-held) (H .rules-counted) T in
     let W = held-fronts (H .kernels-held) (H .rules-counted) (f .fill-fronts .ensures) in
     let (g, G) = m .moves .ensures b (H .kernels-held) (H .goes-in) (H .goes-counted) T (I .closures-in) W in
     let K = held-closures (H .kernels-held) T (I .closures-in) in
     let A = c .before .before .before .actions .ensures b (setsOf (b .rules)) K (H .terminals-are) (H .kernels-held .states-are) W in
-    tabled-all k (not-false _ (i .before .before .before .before .before .before .if1 .left))
+    tabled-all (R .told) (rules-right i)
     g (not-false _ (c .before .before .before .before .before .before .before .before .if2 .left)) A
     (not-false _ (c .if3 .left)) I T G W
 
@@ -203,7 +218,7 @@ pub tables-spec : {M : Type 1} → statement M
 tables-spec =
     tie.close
     (tie.spec
-    kernel-states-requires
+    kernel-rules-requires
     same-length
     returns
     fill-items-requires

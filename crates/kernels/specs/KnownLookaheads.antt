@@ -45,6 +45,17 @@ same-more text a b n bits before e =
 pub same-all : (text : List ℕ) (a b : ℕ) {n m : ℕ} → Same text a text b n → m ≤ n → Same text a text b m
 same-all text a b all l = record { each = λ i h. all .each i (omega arith) }
 
+-- the bytes behind those
+pub same-on : (text : List ℕ) (a b n : ℕ) {m : ℕ} → Same text a text b n → Same text (a + n) text (b + n) m → Same text a text b (n + m)
+same-on text a b n {m} front back = record { each = λ i l. by i l (ltb i n) refl }
+  where
+    by : (i : ℕ) → i < n + m → (t : Bool) → ltb i n ≡ t → getD text (a + i) 0 ≡ getD text (b + i) 0
+    by i l true e = front .each i (ltb-true i n e)
+    by i l false e =
+        let p : a + i ≡ a + n + (i - n) = omega (arith, ltb-false i n e) in
+        let q : b + i ≡ b + n + (i - n) = omega (arith, ltb-false i n e) in
+        rw (p, q) (back .each (i - n) (omega (arith, ltb-false i n e)))
+
 same-taken : (text : List ℕ) (a b m : ℕ) → a + m ≤ length text → b + m ≤ length text → Same text a text b m → take m (drop a text) ≡ take m (drop b text)
 same-taken text a b m h k same =
     let long : length (take m (drop a text)) ≡ m = length-take-le m (drop a text) (omega (arith, length-drop a text)) in

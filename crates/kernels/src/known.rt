@@ -40,18 +40,34 @@ impl Known {
     }
 }
 
-// True only if the same m bytes stand at two places: the bits in which they differ are gathered, with no way out of the loop.
-fn same(text: &[u8], a: usize, b: usize, m: usize) -> bool
-    requires { ⌜ (a + m ≤ length (now text)) × (b + m ≤ length (now text)) ⌝ }
-    ensures { λ r. ⌜ (r ≡ true → Same (now (text .entry)) a (now (text .entry)) b m) ⌝ }
+// The bits in which 16 bytes differ that stand at two places, gathered with no way out of the loop.
+fn sixteen(text: &[u8], a: usize, b: usize) -> u8
+    requires { ⌜ (a + 16 ≤ length (now text)) × (b + 16 ≤ length (now text)) ⌝ }
+    ensures { λ r. ⌜ (r ≡ 0 → Same (now (text .entry)) a (now (text .entry)) b 16) ⌝ }
 {
     let mut bits = 0u8;
     let mut i = 0;
-    while i < m {
+    while i < 16 {
         bits |= text[a + i] ^ text[b + i];
         i += 1;
     }
-    bits == 0
+    bits
+}
+
+// True only if the same m bytes stand at two places: sixteen by sixteen, and the last sixteen, some of them once more.
+fn same(text: &[u8], a: usize, b: usize, m: usize) -> bool
+    requires { ⌜ (a + m ≤ length (now text)) × (b + m ≤ length (now text)) × (16 ≤ m) ⌝ }
+    ensures { λ r. ⌜ (r ≡ true → Same (now (text .entry)) a (now (text .entry)) b m) ⌝ }
+{
+    let last = m - 16;
+    let mut i = 0;
+    while i < last {
+        if sixteen(text, a + i, b + i) != 0 {
+            return false;
+        }
+        i += 16;
+    }
+    sixteen(text, a + last, b + last) == 0
 }
 
 // True only if the known lookaheads stand here too.
@@ -60,7 +76,7 @@ fn as_before(text: &[u8], at: usize, known: Known) -> bool
     ensures { λ r. ⌜ (r ≡ true → Again (now (text .entry)) at known) ⌝ }
 {
     let n = text.len();
-    if known.length == 0 {
+    if known.length < LONG {
         return false;
     }
     if n < at {

@@ -13,7 +13,7 @@ returns-3 : tie.Need-returns-3
 returns-3 c = λ e. absurd (false≢true e)
 
 same-requires : tie.Need-same-requires
-same-requires c κs = (c .before .before .before .before .before .before .pre .inside, omega arith)
+same-requires c κs = (c .before .before .before .before .before .before .pre .inside, omega arith, omega arith)
 
 returns-4 : tie.Need-returns-4
 returns-4 c = λ e. record { some = omega arith; inside = omega arith; same = c .same .ensures e }

@@ -5,7 +5,7 @@ import argparse
 import random
 from collections import Counter
 
-from cases import TESTS, damaged, limits, messages, named, neighbours, readings, sizes, slips
+from cases import TESTS, alike, damaged, limits, messages, named, neighbours, readings, sizes, slips
 from cases.group import Group
 
 DATA = TESTS.parent / "crates" / "vectors" / "data"
@@ -14,6 +14,7 @@ GROUPS = {
     "readings": readings,
     "messages": messages,
     "slips": slips,
+    "alike": alike,
     "damaged": damaged,
     "neighbours": neighbours,
     "sizes": sizes,

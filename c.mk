@@ -6,6 +6,7 @@
 #   make differ        the engine against the baseline (SECONDS=10 SEED=1)
 #   make stack         how much stack the calls need
 #   make conformance   the stored cases through the two calls
+#   make prologues     whether compiled functions make their stack frames first (tests/check_prologues.py says why)
 #
 # BASELINE=1 puts the baseline in the place of the engine.
 CFLAGS = -std=c11 -O2 -g -Wall -Wextra -Wconversion -Wshadow -Wpedantic -D_DEFAULT_SOURCE -Iinclude
@@ -25,7 +26,7 @@ endif
 BUILD = mkdir -p $(@D) && $(CC) $(CFLAGS) $(NAMES)
 HEADERS = include/message_book.h $(wildcard host/*.h bench/*.h bench/baseline/*.h)
 
-.PHONY: host trials bench differ stack conformance books
+.PHONY: host trials bench differ stack conformance prologues books
 host: $(OUT)/station $(OUT)/trials
 trials: host $(OUT)/station-sanitized $(OUT)/trials-sanitized
 	sh host/check.sh $(OUT)
@@ -37,6 +38,8 @@ stack: $(OUT)/stack
 	$< bench/books
 conformance: $(OUT)/conformance
 	$< crates/vectors/data/*.txt
+prologues: target/staticlib/libengine.a
+	python3 tests/check_prologues.py $< $(wildcard target/bin/*)
 
 # The books of the benchmark, written anew by Python; they are kept in the repository.
 books:

@@ -8,6 +8,7 @@
 oracle:
 	python3 tests/test_named.py
 	python3 tests/test_tools.py
+	python3 tests/test_prologues.py
 	python3 tests/check_vectors.py
 vectors:
 	python3 tests/make_vectors.py

@@ -25,10 +25,6 @@ module _ {words marks table heads nexts : List ℕ} {used known count : ℕ} {sp
   reached-split (apart s) e = refl
 
 module _ (b : Book) (member : ℕ → ℕ → Bool) where
-  pub visits-start : (s : Progress) → visits (visit b member) 0 s ≡ s
-  unfolding visits
-  visits-start s = refl
-
   pub visits-turn : (i : ℕ) (s : Progress) → visits (visit b member) (i + 1) s ≡ visit b member i (visits (visit b member) i s)
   unfolding visits
   visits-turn i s = rw (add-one i, visits)

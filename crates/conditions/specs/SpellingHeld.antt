@@ -7,13 +7,10 @@ use mathlib.Core.Option.{Option, none, some}
 use Prim.Native.Nat.{ℕ}
 use Rattle.grammar.specs.Data.Book.{Book as Lines}
 use Rattle.grammar.specs.Format.Parse.{parseBook}
-use Rattle.grammar.specs.Format.ParseLaws.{print-parse}
 use Rattle.book.specs.declared.Book.{Book}
 use Rattle.book.specs.declared.Room.{Room}
-use Rattle.book.specs.Counts.{countsOf}
 use Rattle.book.specs.Held.{Held, kept}
 use Rattle.book.specs.HeldLaws.{held}
-use Rattle.conditions.specs.Asked.{Counted, Kept}
 use Rattle.book.specs.Spelling.{Arrays, Roomy, isBook, Spelling, Complete}
 
 module _ {text : List ℕ} {before stored : Arrays} {spelled : Bool} {numbers : Book} (room : Room) (s : Spelling room text before spelled numbers stored) where
@@ -36,36 +33,6 @@ module _ {text : List ℕ} {before stored : Arrays} {spelled : Bool} {numbers : 
       go (some b) e = absurd (false≢true (sym h ∙ rw (e, isBook) at (s .spelled-is)))
 
   module _ (b : Lines) (e : parseBook text ≡ some b) where
-    pub numbers-counted : Counted numbers b
-    unfolding countsOf
-    numbers-counted =
-        rw (s .numbers-are b e)
-        (record {
-          terminals-are = refl;
-          nonterminals-are = refl;
-          states-are = refl;
-          inherited-are = refl;
-          synthesized-are = refl;
-          rules-are = refl;
-          inherited-definitions-are = refl;
-          synthesized-definitions-are = refl;
-          kernels-are = refl;
-          goes-are = refl;
-        })
-
     module _ (r : Roomy room before) (complete : Complete room numbers) where
       pub arrays-held : Held (kept b) (stored .inherited) (stored .synthesized) (stored .rules) (stored .definitions) (stored .kernels) (stored .goes)
       arrays-held = rw (s .lines-are b e) (held room b (rw (s .numbers-are b e) at complete) before r)
-
-      -- all but the go lines
-      pub arrays-kept : Kept numbers (stored .inherited) (stored .synthesized) (stored .rules) (stored .definitions) (stored .kernels) b
-      arrays-kept =
-          record {
-            counted = numbers-counted;
-            ordered = print-parse text b e .1 .ordered;
-            inherited-in = arrays-held .inherited-in;
-            synthesized-in = arrays-held .synthesized-in;
-            rules-in = arrays-held .rules-in;
-            definitions-in = arrays-held .definitions-in;
-            kernels-in = arrays-held .kernels-in;
-          }

@@ -69,9 +69,6 @@ module _ {b : Book} {F : Sets} {rules kernels nulls firsts : List ℕ} (H : Kern
   pub line-rule : getD kernels (5 * i + 1) 0 < length (b .rules)
   line-rule = rw (H .kernels-in .rule-is i h) (H .rule-there i h)
 
-  pub line-place : 5 * i + 4 < length kernels
-  line-place = omega (arith, H .kernels-in .long, H .kernels-in .fits)
-
   pub line-told : {sets next : List ℕ} {r : Bool} (P D M : ℕ) → P ≡ getD kernels (5 * i + 1) 0 → D ≡ getD kernels (5 * i + 2) 0
       → M ≡ getD kernels (5 * i + 4) 0 → Told (visit (derivesInto F (after (b .rules) P D) (λ _. M)) sets) sets next r
       → Told (visit (lineInto b F i) sets) sets next r

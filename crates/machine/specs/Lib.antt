@@ -1,8 +1,6 @@
-pub mod Answers
 pub mod CellReads
 pub mod Moving
 pub mod MovingLaws
-pub mod Owners
 pub mod ReduceMove
 pub mod Running
 pub mod RunningLaws

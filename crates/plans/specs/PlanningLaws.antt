@@ -11,7 +11,7 @@ use lib.ListN.{length, getD, set, length-set, length-replicate, length-append, L
 use Rattle.grammar.specs.Limits.{MAX-INHERITED}
 use Rattle.grammar.specs.Automaton.TestLaws.{by-test, true-false}
 use Rattle.grammar.specs.Data.Book.{Book}
-use Rattle.grammar.specs.Formulas.Passes.{Larger, Keeps, Growing, passes-keep, passes-same}
+use Rattle.grammar.specs.Formulas.Passes.{Larger, Keeps, Growing, passes-keep}
 use Rattle.grammar.specs.Formulas.FormulaCheck.{dotOf, doneIn, definitions, lineAt}
 use Rattle.grammar.specs.Formulas.FormulaCheckSteps.{done-more, done-length}
 use Rattle.grammar.specs.Formulas.FormulaCheckAll.{SameItems}
@@ -149,15 +149,3 @@ module _ (b : Book) (member other : ℕ → ℕ → Bool) (agree : SameItems b m
   due-same : (d : ℕ) → d < definitions b → (known : List Bool) → dueIn b member known (lineAt b d) ≡ dueIn b other known (lineAt b d)
   unfolding dueIn
   due-same d l known = ap (λ t. elim t [ true ↦ readyIn b known (lineAt b d .rule) (dotOf (lineAt b d)) | false ↦ false ]) (agree d l)
-
-  line-same : (d : ℕ) → d < definitions b → (s : Planning) → planLine b member d s ≡ planLine b other d s
-  unfolding planLine
-  line-same d l (planning lines known) =
-      ap (λ u. elim (getD known (lineAt b d .attribute) true) [
-        | true ↦ planning lines known
-        | false ↦ elim u [ true ↦ planning (lines ++ d ∷ []) (set known (lineAt b d .attribute) true) | false ↦ planning lines known ]
-      ]) (due-same d l known)
-
-  pub plan-same : plan b member ≡ plan b other
-  unfolding plan planned
-  plan-same = ap linesOf (passes-same (planLine b member) (planLine b other) knownIn (definitions b) line-same unplanned)

@@ -9,24 +9,19 @@ use lib.ListN.{length, getD, drop, set, replicate, length-set, length-append, le
 use lib.Seq.{getD-set-same, getD-set-other}
 use Rattle.grammar.specs.Limits.{MAX-INHERITED}
 use Rattle.grammar.specs.Data.Book.{Book}
-use Rattle.grammar.specs.Format.Ordered.{Ordered, Spelled}
+use Rattle.grammar.specs.Format.Ordered.{Ordered}
 use Rattle.grammar.specs.Conditions.Meaning.{WithinLimits, Declared}
 use Rattle.grammar.specs.BookFacts.{small-book}
-use Rattle.grammar.specs.Refusal.{Sound}
-use Rattle.grammar.specs.Engine.{tablesOf}
 use Rattle.grammar.specs.Automaton.FirstSets.{setsOf}
 use Rattle.grammar.specs.Automaton.ReachSets.{reachSets}
 use Rattle.grammar.specs.Automaton.ItemsRightLaws.{book-items-right}
-use Rattle.grammar.specs.Evaluator.Machine.{Frame, cell}
 use Rattle.grammar.specs.Formulas.PartialLaws.{partialAt, partial-items}
 use Rattle.grammar.specs.Formulas.FormulaCheck.{definitions, listed}
 use Rattle.grammar.specs.Formulas.FormulaCheckLaws.{Tells}
 use Rattle.grammar.specs.Formulas.FormulaCheckAll.{listed-tells}
 use Rattle.plans.specs.Lines.{LinesIn}
 use Rattle.plans.specs.LinesAdded.{lines-none}
-use Rattle.plans.specs.Planning.{applied}
 use Rattle.plans.specs.PlanningLaws.{plan-short, plan-none}
-use Rattle.plans.specs.PlanCell.{planned-cell}
 use Rattle.plans.specs.PlanRows.{Elsewhere}
 use Rattle.plans.specs.Plans.{planOf, PlanIn, lastSlot, PlanNoted, PlansIn, NoneNoted, NoneListed}
 
@@ -40,12 +35,6 @@ module _ {b : Book} (ordered : Ordered b) (limits : WithinLimits b) (declared : 
   pub plan-empty : {found : List ℕ} → LinesIn b (listed (partialAt b (setsOf (b .rules)) (reachSets (b .rules) (setsOf (b .rules))) S a)) found
       → definitions b ≤ 128 → bitOr (getD found 0 0) (getD found 1 0) ≡ 0 → planOf b S a ≡ []
   plan-empty {found} L few e = plan-none b _ λ d l. sym (L .line-is d l) ∙ lines-none found d e (omega arith)
-
--- "Set the top cell's inherited values by the partial state's formulas, 0 where there is none"
-pub plan-sets-cell : {b : Book} → Spelled b → Sound b → (S a : ℕ) (st : List Frame) (K : ℕ)
-    → getD (applied b st (planOf b S a) (replicate MAX-INHERITED 0)) K 0 ≡ cell (tablesOf b) S a st K
-plan-sets-cell {b} spelled s S a =
-    planned-cell spelled s S a _ (listed-tell (spelled .ordered) (s .limits) (s .names) S a)
 
 -- The memory
 

@@ -2,11 +2,11 @@
 -- Assumes nothing.
 use mathlib.Core.Path.{_≡_, refl}
 use mathlib.Core.Bool.{true, false}
-use Rattle.sets.specs.Sets.{bit, empty, single, union, meet, with, subset, meets, opens}
+use Rattle.sets.specs.Sets.{bit, empty, single, union, with, subset, meets, opens}
 
-unions : (union 5 3 ≡ 7) × (meet 5 3 ≡ 1) × (with (with empty 31) 0 ≡ 2147483649) × (with 5 2 ≡ 5)
+unions : (union 5 3 ≡ 7) × (with (with empty 31) 0 ≡ 2147483649) × (with 5 2 ≡ 5)
 unfolding opens
-unions = (refl, refl, refl, refl)
+unions = (refl, refl, refl)
 
 members : (bit 5 2 ≡ true) × (bit 5 1 ≡ false) × (bit (single 31) 31 ≡ true) × (bit empty 0 ≡ false)
 unfolding opens

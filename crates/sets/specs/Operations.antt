@@ -1,5 +1,5 @@
--- The operations of `Sets` on numbers below 2 ^ 32 are the machine's: union is `|`, meet is `&`, the
--- numbers that a set does not hold are those of `^` with all of them, and the two tests compare an `&`.
+-- The operations of `Sets` on numbers below 2 ^ 32 are the machine's: union is `|`, the numbers that a
+-- set does not hold are those of `^` with all of them, and the two tests compare an `&`.
 -- Assumes nothing.
 use Prim.Native.Nat.{ℕ, zero, suc, _+_, _*_, _/_, _%_, _^_, _<_, min, max}
 use mathlib.Core.Path.{_≡_, refl, sym, ap, _∙_}
@@ -8,9 +8,9 @@ use native.Mathlib.Omega.{arith}
 use lib.Dec.{eqb}
 use lib.Bits.{bitAnd, bitOr, bitXor, differ, and-step, or-step, xor-step, and-shr, or-shr, xor-shr, and-lt, or-lt, or-add-and, and-le-l, and-le-r}
 use borrow.Author.Tests.{eq-eqb, ne-eqb, eqb-true}
-use Rattle.sets.specs.Sets.{bit, empty, collect, union, meet, subset, meets}
+use Rattle.sets.specs.Sets.{bit, empty, collect, union, subset, meets}
 use Rattle.sets.specs.Bits.{bit-collect}
-use Rattle.sets.specs.SetsLaws.{bit-empty, bit-union, bit-meet, empty-lt, union-lt, meet-lt, same-set, subset-holds, subset-true, meets-holds, meets-false}
+use Rattle.sets.specs.SetsLaws.{bit-empty, bit-union, empty-lt, union-lt, same-set, subset-holds, subset-true, meets-holds, meets-false}
 
 -- ---- the bits of `|` and `&`
 
@@ -58,10 +58,6 @@ or-none a b e = (omega (arith, or-add-and a b, and-le-r a b), omega (arith, or-a
 pub union-or : (a b : ℕ) → a < 2 ^ 32 → b < 2 ^ 32 → union a b ≡ bitOr a b
 union-or a b la lb =
     same-set (union a b) (bitOr a b) (union-lt a b) (or-lt 32 a b la lb) (λ i h. bit-union a b i h ∙ sym (bit-or a b i))
-
-pub meet-and : (a b : ℕ) → a < 2 ^ 32 → b < 2 ^ 32 → meet a b ≡ bitAnd a b
-meet-and a b la lb =
-    same-set (meet a b) (bitAnd a b) (meet-lt a b) (and-lt 32 a b la lb) (λ i h. bit-meet a b i h ∙ sym (bit-and a b i))
 
 -- ---- the numbers below 32 that a set does not hold
 

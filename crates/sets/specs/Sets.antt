@@ -35,10 +35,6 @@ single i = 2 ^ i
 unfoldable pub union : ℕ → ℕ → ℕ
 union a b = collect 32 (λ i. bit a i || bit b i)
 
--- what is in a and in b
-unfoldable pub meet : ℕ → ℕ → ℕ
-meet a b = collect 32 (λ i. bit a i && bit b i)
-
 -- s and i besides
 unfoldable pub with : ℕ → ℕ → ℕ
 with s i = union s (single i)
@@ -53,5 +49,5 @@ meets a b = exists 32 (λ i. bit a i && bit b i)
 
 -- opens every definition of this module
 unfoldable pub opens : Unit {0}
-unfolding bit collect every exists empty single union meet with subset meets
+unfolding bit collect every exists empty single union with subset meets
 opens = tt

@@ -9,7 +9,7 @@ use native.Mathlib.Nat.{le-antisymm, eq-or-lt-of-le}
 use lib.Dec.{eqb, ltb}
 use lib.Pow.{pow-pos, pow-mono, pow-lt}
 use borrow.Author.Tests.{eq-eqb, ne-eqb, ltb-true, ltb-false}
-use Rattle.sets.specs.Sets.{bit, empty, single, union, meet, with, subset, meets}
+use Rattle.sets.specs.Sets.{bit, empty, single, union, with, subset, meets}
 use Rattle.sets.specs.Bits.{bit-past, bit-top, bit-under, bits-le, collect-lt, bit-collect, every-holds, every-true, exists-holds, exists-true}
 
 -- ---- what a set holds
@@ -39,10 +39,6 @@ pub bit-union : (a b i : ℕ) → i < 32 → bit (union a b) i ≡ (bit a i || b
 unfolding union
 bit-union a b = bit-collect (λ i. bit a i || bit b i) 32
 
-pub bit-meet : (a b i : ℕ) → i < 32 → bit (meet a b) i ≡ (bit a i && bit b i)
-unfolding meet
-bit-meet a b = bit-collect (λ i. bit a i && bit b i) 32
-
 pub bit-with : (s i j : ℕ) → j < 32 → bit (with s i) j ≡ (bit s j || eqb i j)
 unfolding with
 bit-with s i j h = bit-union s (single i) j h ∙ ap (λ (t : Bool). bit s j || t) (bit-single i j)
@@ -71,10 +67,6 @@ single-lt i h = pow-lt h
 pub union-lt : (a b : ℕ) → union a b < 2 ^ 32
 unfolding union
 union-lt a b = collect-lt (λ i. bit a i || bit b i) 32
-
-pub meet-lt : (a b : ℕ) → meet a b < 2 ^ 32
-unfolding meet
-meet-lt a b = collect-lt (λ i. bit a i && bit b i) 32
 
 pub with-lt : (s i : ℕ) → with s i < 2 ^ 32
 unfolding with
@@ -171,9 +163,6 @@ union-grows a b l = bits-le 32 a (union a b) l (union-left a b)
 
 pub union-more : (a b : ℕ) → a < 2 ^ 32 → (union a b ≡ a → ⊥) → a < union a b
 union-more a b l h = ⊎-elim (λ e. absurd (h (sym e))) (λ m. m) (eq-or-lt-of-le (union-grows a b l))
-
-pub union-same : (a b : ℕ) → union a b ≡ a → subset b a ≡ true
-union-same a b e = subset-true b a (λ i h p. ap (λ (x : ℕ). bit x i) (sym e) ∙ union-right a b i h p)
 
 pub subset-union : (a b : ℕ) → a < 2 ^ 32 → subset b a ≡ true → union a b ≡ a
 subset-union a b l e =

@@ -3,20 +3,16 @@
 use Prim.Native.Nat.{ℕ, zero, suc, _<_, _≤_}
 use native.Mathlib.Omega.{arith}
 use mathlib.Core.Path.{_≡_, sym, _∙_}
-use mathlib.Core.Option.{Option, none, some}
+use mathlib.Core.Option.{some}
 use mathlib.Core.List.{List, [], _∷_}
 use lib.ListN.{length}
-use Rattle.grammar.specs.Data.Symbol.{Symbol, rightOf}
+use Rattle.grammar.specs.Data.Symbol.{Symbol}
 use Rattle.grammar.specs.Data.Book.{Book}
 use Rattle.grammar.specs.Conditions.Meaning.{Declared}
 use Rattle.grammar.specs.Automaton.Items.{Closure}
-use Rattle.grammar.specs.Automaton.States.{Action, shift, accept, reduce}
 use Rattle.grammar.specs.Automaton.GoLines.{LineTo, go-line}
-use Rattle.grammar.specs.Evaluator.Tree.{Token, next}
 use Rattle.grammar.specs.Evaluator.Decorated.{Values, Result}
-use Rattle.grammar.specs.Evaluator.Rows.{Row}
-use Rattle.grammar.specs.Evaluator.Machine.{Tables, Frame, frame, Config, config, more, cell, Popped, popped, pop, shiftToken, pushLeft, perform, step}
-use Rattle.grammar.specs.Evaluator.Moves.{row-more, symbol-more, rule-more, arrive-more}
+use Rattle.grammar.specs.Evaluator.Machine.{Tables, Frame, frame, Popped, popped, pop}
 use Rattle.grammar.specs.Evaluator.Premises.{Premises}
 use Rattle.grammar.specs.Evaluator.PremisesLaws.{dotted, start-only, go-back}
 
@@ -25,9 +21,6 @@ module _ (T : Tables) where
   pub data Path : ℕ → List Frame → Type 0 where
     bottom : Path 0 []
     above : {S M p : ℕ} {i : Values} {c : Result} {X : Symbol} {st : List Frame} → Path S st → T .go S X ≡ some M → Path M (frame S i c p ∷ st)
-
-  abbrev pub OnPath : Config → Type 0
-  OnPath (config st S z p rs) = Path S st
 
   abbrev pub PoppedPath : Popped → Type 0
   PoppedPath (popped S i q st cs) = Path S st
@@ -39,31 +32,6 @@ module _ (T : Tables) where
   pop-path (suc n) i p cs (above {p = r} {i = j} {c = c} q g) = pop-path n j r (c ∷ cs) q
 
 module _ (b : Book) (T : Tables) where
-  shift-path : (k : Token) {S : ℕ} {st : List Frame} (z : List Token) (p : ℕ) (rs : List Row) {c : Config} → Path T S st
-      → shiftToken b T k st S z p rs ≡ more c → OnPath T c
-  unfolding shiftToken
-  shift-path k z p rs q e = let (M, g, ec) = arrive-more _ _ z (suc p) _ e in rw ec (above q g)
-
-  push-path : (P : ℕ) (x : Popped) (z : List Token) (p : ℕ) (rs : List Row) {c : Config} → PoppedPath T x → pushLeft b T P x z p rs ≡ more c → OnPath T c
-  unfolding pushLeft
-  push-path P (popped S i q st cs) z p rs w e = let (M, g, ec) = arrive-more _ _ z p _ e in rw ec (above w g)
-
-  perform-path : (S : ℕ) (st : List Frame) (z : List Token) (p : ℕ) (rs : List Row) {c : Config} (x : Option Action) → Path T S st
-      → perform b T x st S z p rs ≡ more c → OnPath T c
-  unfolding perform
-  perform-path S st z p rs none q e = let f : _≡_ {A = ℕ} 0 1 = cc in absurd (omega arith)
-  perform-path S st z p rs (some accept) q e = let f : _≡_ {A = ℕ} 0 1 = cc in absurd (omega arith)
-  perform-path S st [] p rs (some shift) q e = let f : _≡_ {A = ℕ} 0 1 = cc in absurd (omega arith)
-  perform-path S st (k ∷ z) p rs (some shift) q e = shift-path k z p rs q (symbol-more st (row-more rs e .1))
-  perform-path S st z p rs (some (reduce P)) q e =
-      push-path P _ z p rs (pop-path T (length (rightOf (b .rules) P)) (cell T S (next z) st) p [] q)
-      (rule-more (rightOf (b .rules) P) st (row-more rs e .1))
-
-  -- a move keeps to a path
-  pub path-moves : (c : Config) {d : Config} → OnPath T c → step b T c ≡ more d → OnPath T d
-  unfolding step
-  path-moves (config st S z p rs) q e = perform-path S st z p rs (T .act S (next z)) q e
-
   module _ (H : Premises b T) where
     -- an item of the state on top finds a frame for each symbol before its dot
     pub deep : {S P a : ℕ} {st : List Frame} → Path T S st → (D : ℕ) → Closure b S P D a → D ≤ length st

@@ -2,7 +2,7 @@
 -- Assumes nothing.
 use Prim.Native.Nat.{ℕ, suc, _+_, _*_, _≤_, _<_}
 use mathlib.Core.Path.{_≡_, refl, sym, ap, _∙_}
-use mathlib.Core.Bool.{Bool, true, false, false≢true}
+use mathlib.Core.Bool.{Bool, true, false}
 use mathlib.Core.List.{List, [], _∷_}
 use native.Mathlib.Omega.{arith}
 use lib.Dec.{ltb, eqb}
@@ -11,7 +11,7 @@ use borrow.Author.Tests.{eqb-true, eq-eqb, ne-eqb}
 use Rattle.text.specs.Class.{classOf, digit}
 use Rattle.text.specs.ClassLaws.{range-digit}
 use Rattle.text.specs.Rest.{Rest, lost, left, found, mark, size}
-use Rattle.text.specs.RestLaws.{lost≢left, left-is, found-got, found-left, must-got, mark-other, size-must}
+use Rattle.text.specs.RestLaws.{lost≢left, left-is, found-got, must-got, mark-other, size-must}
 use Rattle.text.specs.Numeral.{System, decimal, letters, Read, bad, got, digitOf, digits, numeral, write, numberOf, restOf, read, value, past, keyword}
 use Rattle.text.specs.Positional.{Positional, decimal-positional, letters-positional, no-digit, written-number, read-written, written-begins}
 
@@ -70,10 +70,6 @@ written-head n r k =
 pub mark-number : (c n : ℕ) (r : List ℕ) → (digit ≡ c → ⊥) → mark c (left (write decimal n r)) ≡ lost
 mark-number c n r h = written-head n r λ b bs e p. ap (λ x. mark c (left x)) e ∙ mark-other b c bs (λ q. h (sym p ∙ q))
 
--- where a number stands, no byte of another class does
-pub mark-past : {r : List ℕ} (c : ℕ) (o : Rest) → (digit ≡ c → ⊥) → past decimal o ≡ left r → mark c o ≡ lost
-mark-past {r} c o h e = number-got o e λ bs p q l. rw (p, q) (mark-number c (value decimal o) r h)
-
 -- a byte of another class ends a number
 pub no-digit-other : (b : ℕ) (r : List ℕ) → (classOf b ≡ digit → ⊥) → no-digit decimal (b ∷ r) ≡ true
 unfolding no-digit digitOf
@@ -121,19 +117,6 @@ module _ (S : System) where
   unfolding size past read
   less-past o h = found-got o h λ bs e. rw e (omega (arith, less-numeral bs))
 
-  -- a number that was found was passed
-  pub found-past : (o : Rest) → found (past S o) ≡ true → size (past S o) < size o
-  unfolding past read restOf found
-  found-past lost h = absurd (false≢true h)
-  found-past (left bs) h = less-past (left bs) refl
-
 pub size-keyword : (w : ℕ) (o : Rest) → size (keyword w o) ≤ size o
 unfolding keyword
 size-keyword w o = omega (arith, size-must (eqb (value letters o) w) (past letters o), size-past letters o)
-
-pub less-keyword : (w : ℕ) (o : Rest) → found o ≡ true → size (keyword w o) < size o
-unfolding keyword
-less-keyword w o h = omega (arith, size-must (eqb (value letters o) w) (past letters o), less-past letters o h)
-
-pub found-keyword : (w : ℕ) (o : Rest) → found (keyword w o) ≡ true → size (keyword w o) < size o
-found-keyword w o h = found-got (keyword w o) h λ r e. keyword-got w o e λ bs p q. less-keyword w o (found-left o p)

@@ -46,15 +46,6 @@ rest-end {C} text at h out end = go (leb at (length text)) refl
     go true q = end (rw (q, rest, drop-of-length-le text h))
     go false q = out (rw (q, rest))
 
--- reading goes on at every position but those past the end
-pub found-at : (text : List ℕ) (at : ℕ) → found (rest text at) ≡ leb at (length text)
-unfolding rest found
-found-at text at = go (leb at (length text)) refl
-  where
-    go : (t : Bool) → leb at (length text) ≡ t → found (rest text at) ≡ leb at (length text)
-    go true q = rw (q, rest)
-    go false q = rw (q, rest)
-
 pub found-in : (text : List ℕ) (at : ℕ) → at ≤ length text → found (rest text at) ≡ true
 unfolding found
 found-in text at h = ap found (rest-in text at h)
@@ -99,10 +90,6 @@ pub mark-other : (b c : ℕ) (r : List ℕ) → (classOf b ≡ c → ⊥) → ma
 unfolding mark markIn must
 mark-other b c r e = rw (ne-eqb (classOf b) c e)
 
-pub mark-lost : (c : ℕ) → mark c lost ≡ lost
-unfolding mark
-mark-lost c = refl
-
 pub must-true : (t : Bool) (o : Rest) → t ≡ true → must t o ≡ o
 unfolding must
 must-true t o e = rw e
@@ -125,11 +112,6 @@ pub size-must : (t : Bool) (o : Rest) → size (must t o) ≤ size o
 unfolding size must
 size-must true o = omega arith
 size-must false o = omega arith
-
--- what is left can be read on, so it is something
-pub size-found : (o : Rest) → found o ≡ true → 0 < size o
-unfolding size
-size-found o h = found-got o h λ bs e. rw e (omega arith)
 
 mark-less : (c : ℕ) (bs : List ℕ) → size (markIn c bs) ≤ length bs
 unfolding size markIn

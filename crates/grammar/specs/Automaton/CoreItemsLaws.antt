@@ -131,9 +131,6 @@ module _ {b : Book} {F : Sets} (H : SmallBook b) (R : SetsRight (b .rules) F) wh
           (a, subst (λ (x : ℕ). bit x a ≡ true) (o .set-is) (setOf-holds (o .line .lookaheads) a (H .low-lookaheads (o .line) here a l) l))
       go (inr o) = member M (core-low S P D M m) (o .some)
 
-  pub core-not-empty : (S P D M : ℕ) → Mem (core P D M) (coreItems b F S) → M ≡ 0 → ⊥
-  core-not-empty S P D M m = let (a, e) = core-some S P D M m in some-not-none M a e
-
   pub core-closure : (S P D M a : ℕ) → Mem (core P D M) (coreItems b F S) → bit M a ≡ true → Closure b S P D a
   core-closure S P D M a m e = go (source b F S P D M m)
     where

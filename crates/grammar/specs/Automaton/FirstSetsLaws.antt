@@ -188,10 +188,6 @@ module _ {G : List Rule} {F : Sets} (R : SetsRight G F) where
   pub first-told : {β : List Symbol} {a b : ℕ} → Low β → First G β b a → (bit (first F β) a ≡ true) ⊎ ((a ≡ b) × (null F β ≡ true))
   first-told {β} {a} l f = ⊎-elim (λ s. inl (R .starts-told β a l s)) (λ n. inr (n .0, R .null-told β (n .1))) (first-shape G f)
 
-  pub told-first : (β : List Symbol) (a b : ℕ) → (bit (first F β) a ≡ true) ⊎ ((a ≡ b) × (null F β ≡ true)) → First G β b a
-  told-first β a b (inl e) = starts-first G (R .told-starts β a e) b
-  told-first β a b (inr n) = rw (n .0) (null-first G (R .told-null β (n .1)) b)
-
   -- ---- FIRST(β b) for all b of a set
 
   by-with : (β : List Symbol) (M : ℕ) (Q : ℕ → Type 0) → (null F β ≡ true → Q (union (first F β) M)) → (null F β ≡ false → Q (first F β))

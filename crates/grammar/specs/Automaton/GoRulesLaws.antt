@@ -292,9 +292,6 @@ module _ {b : Book} {F : Sets} {R : List ℕ} (w : WellNamed b) (right : ItemsRi
       by true e = items-at b F S (ltb-true S (b .states) e)
       by false e = let h : b .states ≤ S = ltb-false S (b .states) e in items-past b F S h ∙ nothing h (coreItems b F S) refl
 
-  -- 8, by the listed items and by their table
-  pub goCore-decides : Decides (goRules b (coreItems b F)) (GoRules b)
-  goCore-decides = goRules-decides w right (coreItems b F) (λ S h. refl)
-
+  -- 8, by the table of the listed items
   pub goTable-decides : Decides (goRules b (itemsAt b (itemsTable b F))) (GoRules b)
   goTable-decides = goRules-decides w right (itemsAt b (itemsTable b F)) (λ S h. items-listed S)

@@ -1,14 +1,14 @@
 -- The reached sets are right: `reachWith` holds the terminals that items with the lookaheads of a set reach.
 -- Assumes nothing.
 use Prim.Native.Nat.{ℕ, _^_, _<_}
-use mathlib.Core.Path.{_≡_, refl, sym, subst}
+use mathlib.Core.Path.{_≡_, refl, subst}
 use mathlib.Core.Bool.{Bool, true, false}
 use mathlib.Core.Logic.{_⊎_, inl, inr, ⊎-elim}
 use mathlib.Core.List.{List, [], _∷_}
 use native.Mathlib.Omega.{arith}
 use lib.ListN.{length, replicate}
 use borrow.Author.Tests.{eqb-false, ne-eqb}
-use Rattle.sets.specs.Sets.{bit, single, union}
+use Rattle.sets.specs.Sets.{bit, union}
 use Rattle.sets.specs.SetsLaws.{bit-lt, single-lt, union-lt, union-left, union-right, union-either}
 use Rattle.grammar.specs.Automaton.TestLaws.{by-test, true-false}
 use Rattle.grammar.specs.Automaton.Members.{none-in, some-not-none, member, single-in, single-is}
@@ -178,12 +178,3 @@ module _ {G : List Rule} {F : Sets} (H : Small G) (R : SetsRight G F) where
       → (c : ℕ) × (bit M c ≡ true) × Reaches G a P D c
   with-reaches P D M a d m e =
       ⊎-elim (λ s. (d, m, strict-reaches G s d P D refl)) (λ n. (a, n .1, null-reaches G (n .0) a P D refl)) (with-strict P D M a e)
-
-  -- with one lookahead
-  pub reaches-single : (P D a c : ℕ) → c < 32 → Reaches G a P D c → bit (reachWith F (reachSets G F) (after G P D) (single c)) a ≡ true
-  reaches-single P D a c l = reaches-with P D (single c) a c (single-lt c l) (single-in c)
-
-  pub single-reaches : (P D a c : ℕ) → bit (reachWith F (reachSets G F) (after G P D) (single c)) a ≡ true → Reaches G a P D c
-  single-reaches P D a c e =
-      let (d, m, r) = with-reaches P D (single c) a c (single-in c) e in
-      subst (λ (x : ℕ). Reaches G a P D x) (sym (single-is c d m)) r

@@ -1,21 +1,21 @@
 -- What follows from the conditions 3 to 6 for every rule, place and attribute number, in the forms that later proofs use. Assumes nothing.
 use Prim.Native.Nat.{ℕ, zero, suc, _≤_, _<_, zero-le}
 use native.Mathlib.Omega.{arith}
-use mathlib.Core.Path.{_≡_, refl, ap, _∙_}
+use mathlib.Core.Path.{_≡_, refl}
 use mathlib.Core.Logic.{_≢_, _⊎_, inl, inr}
 use mathlib.Core.List.{List, [], _∷_, List·Memᴰ as Mem, List·Memᴰ·head as in-head, List·Memᴰ·tail as in-tail}
 use mathlib.Core.List.{List·Memᴰ·append-cases as in-append, List·Memᴰ·not-nil as not-in-nil}
 use lib.ListN.{length}
-use Rattle.grammar.specs.Limits.{MAX-RIGHT, MAX-NODES}
-use Rattle.grammar.specs.Data.Symbol.{Symbol, terminal, nonterminal, ruleAt, leftOf, rightOf, after, firstSymbol, goal}
-use Rattle.grammar.specs.Data.Term.{nodes, Leaves, in-number}
+use Rattle.grammar.specs.Limits.{MAX-RIGHT}
+use Rattle.grammar.specs.Data.Symbol.{Symbol, terminal, nonterminal, ruleAt, leftOf, rightOf, after}
+use Rattle.grammar.specs.Data.Term.{Leaves, in-number}
 use Rattle.grammar.specs.Data.LeavesLaws.{leaves-map, leaves-join}
 use Rattle.grammar.specs.Data.Book.{Place, own, at, val, Book, ownerAt, inheritedOwner, synthesizedOwner, inheritedExpr, synthesizedExpr}
 use Rattle.grammar.specs.Automaton.First.{First, past, here, expand}
 use Rattle.grammar.specs.Automaton.Items.{KernelItem, kernel-item, derives, Closure, kernel, close}
-use Rattle.grammar.specs.Conditions.Meaning.{Before, WithinLimits, IsNonterminal, IsTerminal, IsState, IsInherited, IsSynthesized, IsRule, IsPosition}
+use Rattle.grammar.specs.Conditions.Meaning.{Before, WithinLimits, IsNonterminal, IsState, IsInherited, IsSynthesized, IsRule, IsPosition}
 use Rattle.grammar.specs.Conditions.Meaning.{RightSymbol, DeclaredPlace, DeclaredKernel, Declared, NonterminalAt, TerminalAt, OwnedPlace, Owned}
-use Rattle.grammar.specs.Conditions.Meaning.{DefinesInherited, DefinesSynthesized, Defined}
+use Rattle.grammar.specs.Conditions.Meaning.{DefinesInherited, Defined}
 use Rattle.grammar.specs.Data.AfterLaws.{getD-all, drop-in, after-rule, after-position, after-symbol}
 use Rattle.grammar.specs.Data.DefinitionLaws.{inherited-by, synthesized-by}
 
@@ -25,26 +25,15 @@ owner-inside [] K h = absurd (omega arith)
 owner-inside (A ∷ owners) zero h = omega arith
 owner-inside (A ∷ owners) (suc K) h = let l : K < length owners = owner-inside owners K h in omega arith
 
--- 3, at every number: where there is no such rule or definition, nothing is too long
+-- 3, at every number: where there is no such rule, nothing is too long
 module _ {b : Book} (w : WithinLimits b) where
   pub right-length : (P : ℕ) → length (rightOf (b .rules) P) ≤ MAX-RIGHT
   unfolding ruleAt
   right-length P = getD-all (λ r. length (r .right) ≤ MAX-RIGHT) (b .rules) P _ (w .right-limit) zero-le
 
-  pub inherited-size : (P J K : ℕ) → nodes (inheritedExpr b P J K) ≤ MAX-NODES
-  inherited-size P J K =
-      inherited-by (λ e. nodes e ≤ MAX-NODES) P J K (b .inheritedDefinitions) (λ none. unfold nodes in omega arith) (λ d m k. w .inherited-nodes d m)
-
-  pub synthesized-size : (P K : ℕ) → nodes (synthesizedExpr b P K) ≤ MAX-NODES
-  synthesized-size P K =
-      synthesized-by (λ e. nodes e ≤ MAX-NODES) P K (b .synthesizedDefinitions) (λ none. unfold nodes in omega arith) (λ d m k. w .synthesized-nodes d m)
-
   -- an attribute whose owner is a nonterminal of the book has a line
   pub inherited-exists : (K : ℕ) → IsNonterminal b (inheritedOwner b K) → IsInherited b K
   inherited-exists K n = owner-inside (b .inheritedOwners) K (omega arith)
-
-  pub synthesized-exists : (K : ℕ) → IsNonterminal b (synthesizedOwner b K) → IsSynthesized b K
-  synthesized-exists K n = owner-inside (b .synthesizedOwners) K (omega arith)
 
 -- 4, at every number
 module _ {b : Book} (h : Declared b) where
@@ -53,14 +42,7 @@ module _ {b : Book} (h : Declared b) where
   no-inherited-start K =
       getD-all (λ A. A ≢ 0) (b .inheritedOwners) K 32 (λ A m e. let n : IsNonterminal b A = h .inherited-owners A m in omega arith) (λ e. omega arith)
 
-  pub no-synthesized-start : (K : ℕ) → synthesizedOwner b K ≢ 0
-  no-synthesized-start K =
-      getD-all (λ A. A ≢ 0) (b .synthesizedOwners) K 32 (λ A m e. let n : IsNonterminal b A = h .synthesized-owners A m in omega arith) (λ e. omega arith)
-
-  pub no-own-start : (K : ℕ) → inheritedOwner b K ≢ leftOf (b .rules) 0
-  no-own-start K e = no-inherited-start K (e ∙ h .start-left)
-
-  -- every right symbol is declared, so n0 and t0 stand on no right side
+  -- every right symbol is declared
   pub symbols-declared : (P : ℕ) (X : Symbol) → Mem X (rightOf (b .rules) P) → RightSymbol b X
   unfolding ruleAt
   symbols-declared P = getD-all (λ r. (X : Symbol) → Mem X (r .right) → RightSymbol b X) (b .rules) P _ (h .right-symbols) λ X m. absurd (not-in-nil m)
@@ -68,22 +50,10 @@ module _ {b : Book} (h : Declared b) where
   pub right-declared : (P D : ℕ) {X : Symbol} {β : List Symbol} → after (b .rules) P D ≡ X ∷ β → RightSymbol b X
   right-declared P D {X} e = symbols-declared P X (drop-in D (rightOf (b .rules) P) e (in-head refl))
 
-  pub no-start-right : (P D : ℕ) {β : List Symbol} → after (b .rules) P D ≡ nonterminal 0 ∷ β → ⊥
-  no-start-right P D e = let n : IsNonterminal b 0 = right-declared P D e in omega arith
-
-  pub no-end-right : (P D : ℕ) {β : List Symbol} → after (b .rules) P D ≡ terminal 0 ∷ β → ⊥
-  no-end-right P D e = let n : IsTerminal b 0 = right-declared P D e in omega arith
-
-  -- rule 0 is there, it alone has the left side n0, and a whole message stands for a nonterminal
-  pub start-rule : IsRule b 0
-  start-rule = after-rule (b .rules) 0 0 (h .start-right .1)
-
+  -- rule 0 alone has the left side n0
   pub start-only : (P : ℕ) → IsRule b P → leftOf (b .rules) P ≡ 0 → P ≡ 0
   start-only zero p e = refl
   start-only (suc P) p e = let n : IsNonterminal b (leftOf (b .rules) (suc P)) = h .left-sides (suc P) (omega arith) p in absurd (omega arith)
-
-  pub goal-declared : (B : ℕ) × (goal (b .rules) ≡ nonterminal B) × IsNonterminal b B
-  goal-declared = let (B, e) = h .start-right in (B, ap firstSymbol e, right-declared 0 0 e)
 
   pub left-declared : (P : ℕ) → IsRule b P → leftOf (b .rules) P ≤ b .nonterminals
   left-declared zero p = rw (h .start-left) zero-le
@@ -119,18 +89,12 @@ module _ {b : Book} (h : Declared b) (o : Owned b) where
       synthesized-by (Leaves (Reads b P (suc (length (rightOf (b .rules) P))))) P K (b .synthesizedDefinitions) (λ none. in-number) λ d m (p, k).
       rw (← p) (leaves-map (reads-whole b (d .rule)) (leaves-join (h .synthesized-declared d m .leaves-there) (o .synthesized-owned d m .leaves-owned)))
 
--- 6, where it is used: the attributes of the symbol after a dot, and those of a left side, have the definition of some line
+-- 6, where it is used: the attributes of the symbol after a dot have the definition of some line
 module _ {b : Book} (w : WithinLimits b) (h : Declared b) (c : Defined b) where
   pub next-defined : (P D B K : ℕ) {β : List Symbol} → after (b .rules) P D ≡ nonterminal B ∷ β → inheritedOwner b K ≡ B → DefinesInherited b P (suc D) K
   next-defined P D B K e q =
       c .inherited-defined P (suc D) K (after-rule (b .rules) P D e) (after-position (b .rules) P D e) (inherited-exists w K (rw q (right-declared h P D e)))
       (rw q (after-symbol (b .rules) P D e))
-
-  pub left-defined : (P K : ℕ) → IsRule b P → synthesizedOwner b K ≡ leftOf (b .rules) P → DefinesSynthesized b P K
-  left-defined P K p q =
-      let n : synthesizedOwner b K ≢ 0 = no-synthesized-start h K in
-      let l : leftOf (b .rules) P ≤ b .nonterminals = left-declared h P p in
-      c .synthesized-defined P K p (synthesized-exists w K (record { low = omega arith; high = omega arith })) q
 
 -- an item that 4 lets stand: of a state of the book, a rule of the book, a dot in it, a terminal of the book or the end mark
 pub record DeclaredItem (b : Book) (S P D a : ℕ) : Type 0 where

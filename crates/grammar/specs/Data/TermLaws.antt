@@ -3,10 +3,6 @@ use Prim.Native.Nat.{ℕ}
 use mathlib.Core.Path.{_≡_, refl}
 use Rattle.grammar.specs.Data.Term.{Term, number, leaf, both, pick, eval, replace, Leaves, in-number, in-leaf, in-both, in-pick}
 
-pub eval-leaf : {A : Type 0} (a : A) (ρ : A → ℕ) → eval (leaf a) ρ ≡ ρ a
-unfolding eval
-eval-leaf a ρ = refl
-
 -- the value of a replaced term is the term's value, with the replacements' values at its leaves
 pub eval-replace : {A B : Type 0} (t : Term A) (f : A → Term B) (ρ : B → ℕ) → eval (replace t f) ρ ≡ eval t (λ a. eval (f a) ρ)
 unfolding eval replace

@@ -1,6 +1,6 @@
 -- An expression that was read was printed: where the loop ends with something left, the text is an expression in front of it.
 -- Assumes nothing.
-use Prim.Native.Nat.{ℕ, zero, suc, _+_, _≤_, _<_}
+use Prim.Native.Nat.{ℕ, zero, suc, _+_, _<_}
 use mathlib.Core.Path.{_≡_, refl, sym, ap, _∙_}
 use mathlib.Core.Bool.{Bool, true, false}
 use mathlib.Core.List.{List, [], _∷_, _++_, append-assoc}
@@ -106,29 +106,6 @@ begun-begins bs = go (found (mark open-bracket (left bs))) refl
     go : (t : Bool) → found (mark open-bracket (left bs)) ≡ t → Begins bs (begun (left bs))
     go true h = rw (begun-bracket (left bs) h) (bracket-begins bs (value letters word) (mark space (past letters word)) text)
     go false h = rw (begun-number (left bs) h) (number-begins bs)
-
--- an operator's bracket takes five bytes or more, which bounds how deep a text can nest
-pub opened-cost : (bs r : List ℕ) (w : Waiting) → begun (left bs) ≡ opened w (left r) → 5 + length r ≤ length bs
-unfolding printOperator literal bytes
-opened-cost bs r w e = go (begun (left bs)) (begun-begins bs) e
-  where
-    operator-length : (o : Operator) (r₁ : List ℕ) → length (printOperator o r₁) ≡ 5 + length r₁
-    operator-length add r₁ = omega arith
-    operator-length sub r₁ = omega arith
-    operator-length min r₁ = omega arith
-    operator-length max r₁ = omega arith
-
-    go : (b : Begun) → Begins bs b → b ≡ opened w (left r) → 5 + length r ≤ length bs
-    go b (by-operator o r₁ p) q =
-        let z : r₁ ≡ r = cc in
-        omega (arith, ap length p, operator-length o r₁, ap length z)
-    go b (by-pick r₁ p) q =
-        let z : r₁ ≡ r = cc in
-        omega (arith, ap length p, ap length z)
-    go b (by-number n r₁ p h) q = absurd (let z : _≡_ {A = ℕ} 0 1 = cc in let y : ⊥ = omega arith in y)
-    go b (by-place c r₁ p h) q = absurd (let z : _≡_ {A = ℕ} 0 1 = cc in let y : ⊥ = omega arith in y)
-    go b (by-fault-opened v) q = absurd (let z : _≡_ {A = ℕ} 0 1 = cc in let y : ⊥ = omega arith in y)
-    go b (by-fault s) q = absurd (let z : _≡_ {A = ℕ} 0 1 = cc in let y : ⊥ = omega arith in y)
 
 -- From the end of a run back to its beginning
 

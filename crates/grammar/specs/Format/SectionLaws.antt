@@ -10,10 +10,6 @@ use Rattle.text.specs.RestLaws.{lost≢left, left-is}
 use Rattle.grammar.specs.Format.Printer.{Printer}
 use Rattle.grammar.specs.Format.Reader.{Parsed, parsed, result, remaining, Reader, many, section}
 
-pub parsed-is : {A : Type 0} {x : A} {o : Rest} (p : Parsed A) → result p ≡ x → remaining p ≡ o → p ≡ parsed x o
-unfolding result remaining
-parsed-is (parsed y u) e f = cc
-
 -- each element fits the state in which it is met
 pub data Along {A S : Type 0} (Fine : S → A → Type 0) (next : S → A → S) : S → List A → Type 0 where
   along-[] : {s : S} → Along Fine next s []

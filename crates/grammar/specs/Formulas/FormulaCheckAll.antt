@@ -109,20 +109,6 @@ module _ (b : Book) (member other : ℕ → ℕ → Bool) where
   unfolding check ended
   check-same same = ap unsplit (passes-same (visit b member) (visit b other) advance (definitions b) (visit-same same) fresh)
 
-module _ (b : Book) (members : ℕ → ℕ → ℕ → Bool) where
-  -- a terminal with the items of one before it need not be checked
-  pub check-again : (i a : ℕ) → i < a → SameItems b (members i) (members a)
-      → allBelow (suc a) (λ c. check b (members c)) ≡ allBelow a (λ c. check b (members c))
-  unfolding allBelow
-  check-again i a l same = by (allBelow a (λ c. check b (members c))) refl
-    where
-      at : allBelow a (λ c. check b (members c)) ≡ true → check b (members i) ≡ true
-      at h = below-decides {P = λ c. check b (members c) ≡ true} a (λ c k. holds-decides) .sound h i l
-
-      by : (t : Bool) → allBelow a (λ c. check b (members c)) ≡ t → elim t [ true ↦ check b (members a) | false ↦ false ] ≡ t
-      by true e = sym (check-same b (members i) (members a) same) ∙ at e
-      by false e = refl
-
 -- ---------------------------------------------------------------- for a loop
 
 module _ (b : Book) (member : ℕ → ℕ → Bool) where
@@ -171,11 +157,6 @@ module _ {b : Book} (ordered : Ordered b) (limits : WithinLimits b) (declared : 
     (kernels : KernelRules b) where
   right-items : ItemsRight b (setsOf (b .rules)) (reachSets (b .rules) (setsOf (b .rules)))
   right-items = book-items-right b (small-book ordered limits declared)
-
-  pub book-check : (S a : ℕ) (member : ℕ → ℕ → Bool) → Tells b S a member → Decides (check b member) (OneFormula b S a)
-  book-check S a =
-      check-decides b (formula-premises limits declared owned kernels) (definition-premises ordered limits declared owned defined) S a _
-      (partial-items right-items S a)
 
   pub book-checkAll : (members : ℕ → ℕ → ℕ → ℕ → Bool) → ((S a : ℕ) → S < b .states → a ≤ b .terminals → Tells b S a (members S a))
       → checkAll b members ≡ oneFormula b (partsTable b (setsOf (b .rules)) (reachSets (b .rules) (setsOf (b .rules))) (itemsTable b (setsOf (b .rules))))

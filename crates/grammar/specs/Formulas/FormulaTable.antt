@@ -21,7 +21,7 @@ use Rattle.grammar.specs.Automaton.Compiled.{tabulate, Partials, partial
 use Rattle.grammar.specs.Automaton.CompiledTables.{tabulate-at, tabulate-past}
 use Rattle.grammar.specs.Formulas.PartialLaws.{partialAt, partial-items}
 use Rattle.grammar.specs.Formulas.FormulaPremises.{FormulaPremises}
-use Rattle.grammar.specs.Formulas.SlotsLaws.{slots-some, slots-none, slots-formula}
+use Rattle.grammar.specs.Formulas.SlotsLaws.{slots-some, slots-formula}
 
 module _ (b : Book) (F : Sets) (R : List ℕ) where
   abbrev pub formulaTable : List (List Partials)
@@ -66,11 +66,6 @@ module _ {b : Book} {F : Sets} {R : List ℕ} (right : ItemsRight b F R) (H : Fo
   -- a chain is of a state and a terminal of the book
   chain-at : {S a P D c : ℕ} → Chain b S a P D c → (K : ℕ) → formulaAt (formulaTable b F R) S a K ≡ slotAt (slotsOf b (partialAt b F R S a)) K
   chain-at {S} {a} {P} {D} {c} chain K = formula-at b F R S a K (H .chain-state S a P D c chain) (H .chain-terminal S a P D c chain)
-
-  -- nothing stands only where no chain ends before the owner
-  pub formula-none : (S a P D c K : ℕ) (β : List Symbol) → formulaAt (formulaTable b F R) S a K ≡ none → Chain b S a P D c
-      → after (b .rules) P D ≡ nonterminal (inheritedOwner b K) ∷ β → ⊥
-  formula-none S a P D c K β e chain h = slots-none b H S a (partialAt b F R S a) (partial-items right S a) K (sym (chain-at chain K) ∙ e) chain h
 
   module _ (attributed : LR-attributed b) where
     -- what stands is the formula of a chain that ends before the owner

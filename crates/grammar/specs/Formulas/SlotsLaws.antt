@@ -6,7 +6,7 @@ use Prim.Native.Nat.{ℕ, zero, suc, _<_}
 use native.Mathlib.Omega.{arith}
 use mathlib.Core.Path.{_≡_, refl, ap, sym, _∙_}
 use mathlib.Core.Bool.{true}
-use mathlib.Core.Option.{none, some}
+use mathlib.Core.Option.{some}
 use mathlib.Core.List.{List, _∷_, List·Memᴰ as Mem}
 use Rattle.grammar.specs.Conditions.Decides.{Decides}
 use Rattle.grammar.specs.Data.Symbol.{Symbol, nonterminal, leftOf, after}
@@ -96,14 +96,6 @@ module _ (b : Book) (H : FormulaPremises b) where
         by (suc D) k = refl
     slots-ready (longer chain (derives g p q f) r) =
         settledBelow-decides _ _ _ _ .complete λ J l o. ready-filled chain J (slots-ready chain) g (o ∙ q)
-
-    -- so a slot is empty only where no chain ends before its owner
-    pub slots-none : {P D c : ℕ} {β : List Symbol} (K : ℕ) → slotAt (slotsOf b items) K ≡ none → Chain b S a P D c
-        → after (b .rules) P D ≡ nonterminal (inheritedOwner b K) ∷ β → ⊥
-    slots-none K e chain h =
-        let (f, e′) = ready-filled chain K (slots-ready chain) h refl in
-        let z : _≡_ {A = ℕ} 0 1 = cc in
-        omega arith
 
     module _ (agree : OneFormula b S a) where
       -- a ready item gives its chains' formula, where all that stands is of chains

@@ -220,3 +220,30 @@ module _ {text line₀ codes line : List ℕ} {start : Scan} {depth at count : �
 
   pub working-end : due ≡ false → depth ≡ 0 → Expresses (outcome (scanAll start)) text line₀ count at line
   working-end d h = go-end text line₀ start d h (w .now-at)
+
+-- ---- the two loops
+
+-- an expression is due, where the text is not lost
+pub record Asking (text line₀ : List ℕ) (start : Scan) (codes : List ℕ) (depth at count : ℕ) (line : List ℕ) : Type 0 where
+  pub due : Bool
+  pub working : Working text line₀ start codes depth due at count line
+  pub asks : at ≤ length text → due ≡ true
+
+-- an operand was read up to `from`, and the brackets are closed that end with it: nothing waits any more, or the next operand is due
+pub record Closed (text line₀ : List ℕ) (start : Scan) (codes : List ℕ) (depth from at count : ℕ) (line : List ℕ) : Type 0 where
+  pub due : Bool
+  pub working : Working text line₀ start codes depth due at count line
+  pub ends : depth ≡ 0 → due ≡ false
+  pub asks : 0 < depth → at ≤ length text → due ≡ true
+  pub shorter : size (rest text at) ≤ size (rest text from)
+
+-- the expression that is due is one step
+pub asked-whole : {text line₀ codes line line′ : List ℕ} {start : Scan} {depth at count : ℕ} {opens : Bool} {c x y next : ℕ}
+    → Asking text line₀ start codes depth at count line → at ≤ length text → Shows (begun (rest text at)) text opens c x y next → opens ≡ false
+    → line′ ≡ putNode count (c ∷ x ∷ y ∷ []) line → Working text line₀ start codes depth false next (count + 1) line′
+asked-whole a h b e f = working-whole (a .working) h b e (a .asks h) f
+
+-- where something waits after it, the next operand is due
+pub closed-asks : {text line₀ codes line : List ℕ} {start : Scan} {depth from at count : ℕ} → Closed text line₀ start codes depth from at count line
+    → (depth ≡ 0 → ⊥) → Asking text line₀ start codes depth at count line
+closed-asks c h = record { due = c .due; working = c .working; asks = c .asks (omega arith) }

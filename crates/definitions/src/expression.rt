@@ -1,13 +1,14 @@
 // Expressions of any depth, read into nodes in postfix order: an operator's node is written when its bracket is closed.
 ghost use mathlib.Core.Path.{_≡_};
-ghost use mathlib.Core.List.{[], _∷_};
-ghost use Prim.Native.Nat.{_+_, _≤_};
+ghost use mathlib.Core.List.{List, [], _∷_};
+ghost use mathlib.Core.Bool.{false};
+ghost use Prim.Native.Nat.{ℕ, _+_, _≤_};
 ghost use lib.ListN.{length};
 ghost use Rattle.text.specs.Rest.{rest};
 ghost use Rattle.text.specs.Reading.{Lent};
-ghost use Rattle.grammar.specs.Format.Expression.{begun, bracket, ownPlace, atPlace, valPlace, wholeOf, expressionSteps};
+ghost use Rattle.grammar.specs.Format.Expression.{begun, bracket, ownPlace, atPlace, valPlace, wholeOf, Scan, expressionSteps};
 ghost use Rattle.definitions.specs.Expressions.{DEFINITION-WORDS, WaitsRoom, putNode, operatorCode, Shows};
-ghost use Rattle.definitions.specs.ExpressionsLoop.{Expresses};
+ghost use Rattle.definitions.specs.ExpressionsLoop.{Expresses, Working, Closed};
 ghost use Rattle.definitions.specs.ExpressionsShort.{OTHER, Short, Begins, Headed, headCode};
 use super::ended::ended;
 use book::Book;
@@ -384,6 +385,60 @@ fn begun(t: &[u8; 256], text: &[u8], at: usize) -> Beginning
     }
 }
 
+// How far an expression is read after an operand: how many operators wait, how many nodes it has, and where the text goes on.
+struct Progress {
+    depth: usize,
+    count: u32,
+    at: usize,
+}
+
+// After an operand: the brackets of operators that wait for no more are closed, up to one that waits for another operand, which is due then.
+fn close(
+    t: &[u8; 256],
+    text: &[u8],
+    at: usize,
+    waits: &mut [u8],
+    operators: usize,
+    line: &mut [u32],
+    nodes: u32,
+) -> Progress
+    requires { ⌜ Lent (now t) (now text) × WaitsRoom (now text) (now waits) × (length (now line) ≡ DEFINITION-WORDS)
+        × ((line₀ : List ℕ) × (start : Scan) × Working (now text) line₀ start (now waits) operators false at nodes (now line)) ⌝ }
+    ensures { λ r. ⌜ ((line₀ : List ℕ) (start : Scan) → Working (now (text .entry)) line₀ start (now (waits .entry)) operators false at nodes (now (line .entry))
+        → Closed (now (text .entry)) line₀ start (now (waits .exit)) (r .depth) at (r .at) (r .count) (now (line .exit))) ⌝ }
+{
+    let mut depth = operators;
+    let mut count = nodes;
+    let mut p = at;
+    while 0 < depth {
+        if text.len() < p {
+            return Progress {
+                depth,
+                count,
+                at: p,
+            };
+        }
+        let code = waits[depth - 1];
+        if 16 <= code {
+            waits[depth - 1] = code - 16;
+            return Progress {
+                depth,
+                count,
+                at: text::mark(t, text, p, text::SPACE),
+            };
+        }
+        p = text::mark(t, text, p, text::CLOSE);
+        put_node(line, count, code, 0, 0);
+        count += 1;
+        depth -= 1;
+    }
+    Progress {
+        depth,
+        count,
+        at: p,
+    }
+}
+
 // Reads an expression: its first nodes to the line, and the number of them all. `waits` is room for the operators that wait, whatever it holds.
 pub fn expression(
     t: &[u8; 256],
@@ -396,40 +451,27 @@ pub fn expression(
     ensures { λ r. ⌜ Expresses (expressionSteps (rest (now (text .entry)) at)) (now (text .entry)) (now (line .entry)) (r .value) (r .at) (now (line .exit)) ⌝ }
 {
     let mut depth: usize = 0;
-    let mut due = true;
     let mut p = at;
     let mut count: u32 = 0;
     while p <= text.len() {
-        if due {
-            let b = begun(t, text, p);
+        let b = begun(t, text, p);
+        if b.opens {
+            waits[depth] = b.code;
+            depth += 1;
             p = b.at;
-            if b.opens {
-                waits[depth] = b.code;
-                depth += 1;
-                continue;
-            }
-            put_node(line, count, b.code, b.x, b.y);
-            count += 1;
-            due = false;
             continue;
         }
+        put_node(line, count, b.code, b.x, b.y);
+        let next = close(t, text, b.at, waits, depth, line, count + 1);
+        depth = next.depth;
+        count = next.count;
+        p = next.at;
         if depth == 0 {
             return Cursor {
                 value: count,
                 at: p,
             };
         }
-        let code = waits[depth - 1];
-        if code < 16 {
-            p = text::mark(t, text, p, text::CLOSE);
-            put_node(line, count, code, 0, 0);
-            count += 1;
-            depth -= 1;
-            continue;
-        }
-        p = text::mark(t, text, p, text::SPACE);
-        waits[depth - 1] = code - 16;
-        due = true;
     }
     Cursor {
         value: count,

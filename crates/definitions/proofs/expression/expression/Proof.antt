@@ -1,22 +1,21 @@
+-- `expression::expression` meets its contract: each turn begins where an expression is due. Assumes nothing.
 use mathlib.Core.List.{[]}
 use mathlib.Core.Bool.{true}
-use mathlib.Core.Path.{_≡_, refl}
+use mathlib.Core.Path.{_≡_, refl, _∙_}
 use native.Mathlib.Omega.{arith}
 use lib.ListN.{length, length-set}
 use Rattle.text.specs.Rest.{rest, size}
 use Rattle.grammar.specs.Format.Expression.{scan, expressionSteps}
 use Rattle.definitions.specs.Expressions.{DEFINITION-WORDS, WaitsRoom}
 use Rattle.definitions.specs.ExpressionsLoop.{
-  Working,
+  Asking,
+  asked-whole,
+  closed-asks,
   working-start,
   begun-shorter,
-  mark-shorter,
   open-low,
   open-fits,
   working-open,
-  working-whole,
-  working-space,
-  working-close,
   working-lost,
   working-end,
 }
@@ -25,76 +24,85 @@ use Rattle.definitions.proofs.expression.expression.Statement.{statemen
 use Rattle.definitions.proofs.expression.expression.Tie as tie
 
 abbrev Inv-loop : tie.InvT-loop
-Inv-loop t text at waits₀ line₀ depth₀ due₀ p₀ count₀ waits line depth due p count =
+Inv-loop t text at waits₀ line₀ depth₀ p₀ count₀ waits line depth p count =
     (length waits ≡ length waits₀) × (length line ≡ DEFINITION-WORDS)
-    × Working text line₀ (scan true (rest text at) [] []) waits depth due p count line
+    × Asking text line₀ (scan true (rest text at) [] []) waits depth p count line
 
 abbrev μ-loop : tie.MeasureT-loop
-μ-loop t text at waits₀ line₀ depth₀ due₀ p₀ count₀ waits line depth due p count = size (rest text p)
+μ-loop t text at waits₀ line₀ depth₀ p₀ count₀ waits line depth p count = size (rest text p)
 
 -- in each turn the stack has its room
 waits-room : (c : tie.In-loop Inv-loop μ-loop)
     → WaitsRoom (c .before .before .before .before .before .args .text .now) (c .before .loop .waits)
 waits-room c = omega (arith, c .before .loop .inv .0, c .before .before .before .before .before .pre .1)
 
+-- back from the call
+abbrev node-at : tie.After-close-arg2 Inv-loop μ-loop → tie.After-put-node Inv-loop μ-loop
+node-at c = c .before .before .before .before
+
+abbrev left-at : tie.After-close-arg2 Inv-loop μ-loop → tie.Else1 Inv-loop μ-loop
+left-at c = node-at c .before .before
+
+abbrev begun-at : tie.After-close-arg2 Inv-loop μ-loop → tie.After-begun Inv-loop μ-loop
+begun-at c = left-at c .before
+
+abbrev turn-at : tie.After-close-arg2 Inv-loop μ-loop → tie.In-loop Inv-loop μ-loop
+turn-at c = begun-at c .before
+
 loop-holds : tie.Need-loop-holds Inv-loop μ-loop
-loop-holds c = (search needs, search needs, working-start _ _ _ _)
+loop-holds c = (search needs, search needs, record { due = true; working = working-start _ _ _ _; asks = λ h. refl })
 
 begun-requires : tie.Need-begun-requires Inv-loop μ-loop
 begun-requires c κs = search needs
 
 slice-write-waits : tie.Need-slice-write-waits Inv-loop μ-loop
 slice-write-waits c =
-    let begins = c .before in
-    let turn = begins .before .before in
-    open-fits (turn .before .loop .inv .2) (turn .loop-test .taken) (begins .begun .ensures) (c .if2 .taken) (waits-room turn)
+    let turn = c .before .before in
+    open-fits (turn .before .loop .inv .2 .working) (turn .loop-test .taken) (c .before .begun .ensures) (c .if1 .taken) (waits-room turn)
 
 add-depth : tie.Need-add-depth Inv-loop μ-loop
 add-depth c =
-    let begins = c .before in
-    let turn = begins .before .before in
+    let turn = c .before .before in
     let start = turn .before .before .before .before .before in
-    omega (arith, open-low (turn .before .loop .inv .2) (turn .loop-test .taken) (begins .begun .ensures) (c .if2 .taken), start .pre .0 .short)
+    omega (arith, open-low (turn .before .loop .inv .2 .working) (turn .loop-test .taken) (c .before .begun .ensures) (c .if1 .taken), start .pre .0 .short)
 
 loop-less : tie.Need-loop-less Inv-loop μ-loop
 loop-less c =
-    let begins = c .before in
-    let turn = begins .before .before in
-    begun-shorter (turn .before .loop .inv .2) (turn .loop-test .taken) (begins .begun .ensures)
+    let turn = c .before .before in
+    begun-shorter (turn .before .loop .inv .2 .working) (turn .loop-test .taken) (c .before .begun .ensures)
 
 loop-again : tie.Need-loop-again Inv-loop μ-loop
 loop-again c =
-    let begins = c .before in
-    let turn = begins .before .before in
+    let turn = c .before .before in
     let inv = turn .before .loop .inv in
-    let start = turn .before .before .before .before .before in (
+    let due = inv .2 .asks (turn .loop-test .taken) in (
       simp length-set (inv .0),
       inv .1,
-      working-open (inv .2) (turn .loop-test .taken) (begins .begun .ensures) (c .if2 .taken) (waits-room turn) (begins .before .if1 .taken),
+      record {
+        due = inv .2 .due;
+        working = working-open (inv .2 .working) (turn .loop-test .taken) (c .before .begun .ensures) (c .if1 .taken) (waits-room turn) due;
+        asks = λ h. due;
+      },
     )
 
 put-node-requires : tie.Need-put-node-requires Inv-loop μ-loop
 put-node-requires c κs = search needs
 
-add-count : tie.Need-add-count Inv-loop μ-loop
-add-count c = search needs
+add-close : tie.Need-add-close Inv-loop μ-loop
+add-close c =
+    let turn = turn-at c in
+    let start = turn .before .before .before .before .before in
+    omega (arith, turn .before .loop .inv .2 .working .counted, start .pre .0 .short)
 
-loop-less-2 : tie.Need-loop-less-2 Inv-loop μ-loop
-loop-less-2 c =
-    let begins = c .before .before .before .before .before in
-    let turn = begins .before .before in
-    begun-shorter (turn .before .loop .inv .2) (turn .loop-test .taken) (begins .begun .ensures)
-
-loop-again-2 : tie.Need-loop-again-2 Inv-loop μ-loop
-loop-again-2 c =
-    let node = c .before .before in
-    let begins = node .before .before .before in
-    let turn = begins .before .before in
-    let inv = turn .before .loop .inv in (
-      inv .0,
+close-requires : tie.Need-close-requires Inv-loop μ-loop
+close-requires c κs =
+    let turn = turn-at c in
+    let inv = turn .before .loop .inv in
+    let start = turn .before .before .before .before .before in (
+      start .pre .0,
+      waits-room turn,
       search needs,
-      working-whole (inv .2) (turn .loop-test .taken) (begins .begun .ensures) (node .before .before .if2 .left) (begins .before .if1 .taken)
-          (node .put-node .ensures),
+      (_, _, asked-whole (inv .2) (turn .loop-test .taken) (begun-at c .begun .ensures) (left-at c .if1 .left) (node-at c .put-node .ensures)),
     )
 
 same-length : tie.Need-same-length Inv-loop μ-loop
@@ -105,68 +113,36 @@ same-length-2 c = search needs
 
 returns : tie.Need-returns Inv-loop μ-loop
 unfolding expressionSteps
-returns c = working-end (c .before .before .before .loop .inv .2) (c .before .if1 .left) (c .if3 .taken)
-
-sub-code : tie.Need-sub-code Inv-loop μ-loop
-sub-code c = search needs
-
-slice-read-code : tie.Need-slice-read-code Inv-loop μ-loop
-slice-read-code c = search needs
-
-mark-requires : tie.Need-mark-requires Inv-loop μ-loop
-mark-requires c κs = search needs
-
-put-node-requires-2 : tie.Need-put-node-requires-2 Inv-loop μ-loop
-put-node-requires-2 c κs = search needs
-
-add-count-2 : tie.Need-add-count-2 Inv-loop μ-loop
-add-count-2 c = search needs
-
-sub-depth : tie.Need-sub-depth Inv-loop μ-loop
-sub-depth c = search needs
-
-loop-less-3 : tie.Need-loop-less-3 Inv-loop μ-loop
-loop-less-3 c =
-    let closed = c .before .before .before .before in
-    let turn = closed .before .before .before .before .before in
-    mark-shorter (turn .before .loop .inv .2) (turn .loop-test .taken) _ _ (closed .mark .ensures)
-
-loop-again-3 : tie.Need-loop-again-3 Inv-loop μ-loop
-loop-again-3 c =
-    let node = c .before .before in
-    let closed = node .before .before in
-    let turn = closed .before .before .before .before .before in
-    let inv = turn .before .loop .inv in (
-      inv .0,
-      search needs,
-      working-close (inv .2) (turn .loop-test .taken) (closed .before .before .before .before .if1 .left) (omega arith) refl (closed .before .if4 .taken)
-          (closed .mark .ensures) (node .put-node2 .ensures),
-    )
-
-mark-requires-2 : tie.Need-mark-requires-2 Inv-loop μ-loop
-mark-requires-2 c κs = search needs
-
-sub-waits : tie.Need-sub-waits Inv-loop μ-loop
-sub-waits c = search needs
-
-slice-write-waits-2 : tie.Need-slice-write-waits-2 Inv-loop μ-loop
-slice-write-waits-2 c = search needs
-
-loop-less-4 : tie.Need-loop-less-4 Inv-loop μ-loop
-loop-less-4 c =
-    let turn = c .before .before .before .before .before in
-    mark-shorter (turn .before .loop .inv .2) (turn .loop-test .taken) _ _ (c .mark2 .ensures)
-
-loop-again-4 : tie.Need-loop-again-4 Inv-loop μ-loop
-loop-again-4 c =
-    let turn = c .before .before .before .before .before in
+returns c =
+    let k = c .before .before .before .before .before in
+    let a = k .before in
+    let turn = turn-at a in
     let inv = turn .before .loop .inv in
-    let start = turn .before .before .before .before .before in (
-      simp length-set (inv .0),
-      inv .1,
-      working-space (inv .2) (turn .loop-test .taken) (c .before .before .before .before .if1 .left) (omega arith) refl (waits-room turn)
-          (c .before .if4 .left) (c .mark2 .ensures),
+    let w = asked-whole (inv .2) (turn .loop-test .taken) (begun-at a .begun .ensures) (left-at a .if1 .left) (node-at a .put-node .ensures) in
+    let e = k .close .ensures _ _ w in
+    working-end (e .working) (e .ends (c .if2 .taken)) (c .if2 .taken)
+
+loop-less-2 : tie.Need-loop-less-2 Inv-loop μ-loop
+loop-less-2 c =
+    let k = c .before .before .before .before .before in
+    let a = k .before in
+    let turn = turn-at a in
+    let inv = turn .before .loop .inv in
+    let w = asked-whole (inv .2) (turn .loop-test .taken) (begun-at a .begun .ensures) (left-at a .if1 .left) (node-at a .put-node .ensures) in
+    omega (
+      arith,
+      begun-shorter (inv .2 .working) (turn .loop-test .taken) (begun-at a .begun .ensures),
+      k .close .ensures _ _ w .shorter,
     )
+
+loop-again-2 : tie.Need-loop-again-2 Inv-loop μ-loop
+loop-again-2 c =
+    let k = c .before .before .before .before .before in
+    let a = k .before in
+    let turn = turn-at a in
+    let inv = turn .before .loop .inv in
+    let w = asked-whole (inv .2) (turn .loop-test .taken) (begun-at a .begun .ensures) (left-at a .if1 .left) (node-at a .put-node .ensures) in
+    (search needs, search needs, closed-asks (k .close .ensures _ _ w) (c .if2 .left))
 
 same-length-3 : tie.Need-same-length-3 Inv-loop μ-loop
 same-length-3 c = search needs
@@ -176,7 +152,7 @@ same-length-4 c = search needs
 
 returns-2 : tie.Need-returns-2 Inv-loop μ-loop
 unfolding expressionSteps
-returns-2 c = working-lost (c .before .loop .inv .2) (c .loop-test .left)
+returns-2 c = working-lost (c .before .loop .inv .2 .working) (c .loop-test .left)
 
 pub expression-spec : {M : Type 1} → statement M
 expression-spec =
@@ -191,25 +167,13 @@ expression-spec =
     loop-less
     loop-again
     put-node-requires
-    add-count
-    loop-less-2
-    loop-again-2
+    add-close
+    close-requires
     same-length
     same-length-2
     returns
-    sub-code
-    slice-read-code
-    mark-requires
-    put-node-requires-2
-    add-count-2
-    sub-depth
-    loop-less-3
-    loop-again-3
-    mark-requires-2
-    sub-waits
-    slice-write-waits-2
-    loop-less-4
-    loop-again-4
+    loop-less-2
+    loop-again-2
     same-length-3
     same-length-4
     returns-2)

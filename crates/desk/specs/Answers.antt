@@ -11,12 +11,12 @@ use Rattle.grammar.specs.Engine.{Reading, readBook, Evaluation, turnedBack, eva
 use Rattle.grammar.specs.Cases.Cases.{afterReading, calls}
 use Rattle.attempts.specs.Readings.{Reads}
 use Rattle.attempts.specs.Evaluations.{Evaluates}
-use Rattle.desk.specs.Desk.{Input, refused, answerOf, evaluated, answer, answerTo}
-use Rattle.desk.specs.Figures.{few-rows, calls-kept, answer-evaluated}
-use Rattle.desk.specs.Holds.{HoldsBook, HoldsTokens}
-use Rattle.desk.specs.Kept.{KEPT-NUMBERS}
-use Rattle.desk.specs.Settled.{unended}
-use Rattle.desk.specs.Stands.{stands-front, stands-alone}
+use Rattle.console.specs.Desk.{Input, refused, answerOf, evaluated, answer, answerTo}
+use Rattle.console.specs.Figures.{few-rows, calls-kept, answer-evaluated}
+use Rattle.console.specs.Holds.{HoldsBook, HoldsTokens}
+use Rattle.console.specs.Kept.{KEPT-NUMBERS}
+use Rattle.console.specs.Settled.{unended}
+use Rattle.console.specs.Stands.{stands-front, stands-alone}
 
 -- the words of a stored book and of a page of rows
 pub record Lengths (words rows : List ℕ) : Type 0 where

@@ -6,13 +6,13 @@ use mathlib.Core.List.{List, [], _++_}
 use native.Mathlib.Omega.{arith}
 use lib.ListN.{length, take}
 use Rattle.conditions.specs.Answers.{Some}
-use Rattle.desk.specs.declared.input.Progress.{Progress}
-use Rattle.desk.specs.declared.input.Progress.the-variants.{Book}
-use Rattle.desk.specs.Desk.{Input, nothingRead, allBytes, answerTo, deskOutput}
-use Rattle.desk.specs.Holds.{Buffers, Holds}
-use Rattle.desk.specs.Printing.{OUTPUT-BYTES, Printed}
-use Rattle.desk.specs.Stands.{stands-nothing}
-use Rattle.desk.specs.Steps.{all-append}
+use Rattle.console.specs.declared.input.Progress.{Progress}
+use Rattle.console.specs.declared.input.Progress.the-variants.{Book}
+use Rattle.console.specs.Desk.{Input, nothingRead, allBytes, answerTo, deskOutput}
+use Rattle.console.specs.Holds.{Buffers, Holds}
+use Rattle.console.specs.Printing.{OUTPUT-BYTES, Printed}
+use Rattle.console.specs.Stands.{stands-nothing}
+use Rattle.console.specs.Steps.{all-append}
 
 -- the input could not be read, or the output is the one that belongs to it
 pub data Outcome (out : List ℕ) (n : ℕ) : Type 0 where

@@ -1,22 +1,20 @@
 // The desk program: it reads a book and then token lines from standard input, and writes the rows of the message or the refusal.
 mod answer;
-mod input;
-mod output;
 
 ghost use Prim.Native.Nat.{_≤_};
 ghost use lib.ListN.{length};
-ghost use Rattle.desk.specs.Holds.{Buffers};
-ghost use Rattle.desk.specs.Printing.{OUTPUT-BYTES};
+ghost use Rattle.console.specs.Holds.{Buffers};
+ghost use Rattle.console.specs.Printing.{OUTPUT-BYTES};
 ghost use Rattle.desk.specs.Answers.{Lengths};
 ghost use Rattle.desk.specs.Run.{Reached, Ran};
 use answer::answer;
 use book::Book;
-use input::KEPT_NUMBERS;
-use input::Progress;
-use input::TEXT_ROOM;
-use input::all_bytes;
-use output::OUTPUT_BYTES;
-use output::PAGE_WORDS;
+use console::input::KEPT_NUMBERS;
+use console::input::Progress;
+use console::input::TEXT_ROOM;
+use console::input::all_bytes;
+use console::output::OUTPUT_BYTES;
+use console::output::PAGE_WORDS;
 
 // What was read, and whether that is all of the input.
 struct Taken {

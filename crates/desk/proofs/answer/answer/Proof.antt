@@ -1,7 +1,7 @@
 use lib.Seq.{length-take-le}
-use Rattle.desk.specs.Settled.{settled-end}
-use Rattle.desk.specs.Printing.{printed-same}
-use Rattle.desk.specs.Holds.{held-book, held-tokens, held-refused}
+use Rattle.console.specs.Settled.{settled-end}
+use Rattle.console.specs.Printing.{printed-same}
+use Rattle.console.specs.Holds.{held-book, held-tokens, held-refused}
 use Rattle.desk.specs.Answers.{book-answered}
 use lib.ListN.{length-take}
 use native.Mathlib.Omega.{arith}

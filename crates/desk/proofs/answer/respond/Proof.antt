@@ -1,5 +1,5 @@
-use Rattle.desk.specs.Printing.{printed-same}
-use Rattle.desk.specs.Figures.{answer-evaluated}
+use Rattle.console.specs.Printing.{printed-same}
+use Rattle.console.specs.Figures.{answer-evaluated}
 use Rattle.desk.specs.Answers.{figured-few}
 use mathlib.Core.Path.{sym, _∙_}
 use borrow.Author.Needs.{needs}

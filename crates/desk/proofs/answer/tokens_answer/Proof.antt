@@ -1,6 +1,6 @@
 use lib.Seq.{length-take-le}
 use mathlib.Core.Path.{sym}
-use Rattle.desk.specs.Printing.{printed-same}
+use Rattle.console.specs.Printing.{printed-same}
 use Rattle.desk.specs.Answers.{text-within, numbers-within, tokens-unended, tokens-answered}
 use lib.ListN.{length-take}
 use native.Mathlib.Omega.{arith}

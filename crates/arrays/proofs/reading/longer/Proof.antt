@@ -1,0 +1,45 @@
+-- `reading::longer` meets its contract: arrays for any book are taken where those for a short one have no room. Assumes nothing.
+use borrow.Author.Needs.{needs}
+use Rattle.arrays.proofs.reading.longer.Statement.{statement}
+use Rattle.arrays.proofs.reading.longer.Tie as tie
+
+full-requires : tie.Need-full-requires
+full-requires c κs = search needs
+
+same-length : tie.Need-same-length
+same-length c = search needs
+
+returns : tie.Need-returns
+returns c = search needs
+
+short-requires : tie.Need-short-requires
+short-requires c κs = search needs
+
+same-length-2 : tie.Need-same-length-2
+same-length-2 c = search needs
+
+returns-2 : tie.Need-returns-2
+returns-2 c = c .before .before .before .short .ensures (c .if2 .taken)
+
+full-requires-2 : tie.Need-full-requires-2
+full-requires-2 c κs = search needs
+
+same-length-3 : tie.Need-same-length-3
+same-length-3 c = search needs
+
+returns-3 : tie.Need-returns-3
+returns-3 c = search needs
+
+pub longer-spec : {M : Type 1} → statement M
+longer-spec =
+    tie.close
+    (tie.spec
+    full-requires
+    same-length
+    returns
+    short-requires
+    same-length-2
+    returns-2
+    full-requires-2
+    same-length-3
+    returns-3)

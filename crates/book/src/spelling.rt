@@ -59,7 +59,7 @@ pub fn numbered(t: &[u8; 256], text: &[u8], at: usize, k: u32) -> Cursor
     ensures { λ r. ⌜ Gives (numbered k (rest (now (text .entry)) at)) (now (text .entry)) (r .value) (r .at) ⌝ }
 {
     let number = text::number(t, text, at);
-    let a = text::require(text, number.at, number.value == k);
+    let a = text::require(t, text, number.at, number.value == k);
     let b = naming(t, text, a, N);
     text::number(t, text, b)
 }

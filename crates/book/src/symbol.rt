@@ -37,7 +37,7 @@ fn any_symbol(t: &[u8; 256], text: &[u8], at: usize) -> SymbolRead
     ensures { λ r. ⌜ Gives (symbol (rest (now (text .entry)) at)) (now (text .entry)) (symbolOf (r .terminal) (r .number)) (r .at) ⌝ }
 {
     let letter = text::word(t, text, at);
-    let a = text::require(text, letter.at, is_letter(letter.value));
+    let a = text::require(t, text, letter.at, is_letter(letter.value));
     let k = text::number(t, text, a);
     SymbolRead {
         terminal: letter.value == T,

@@ -220,7 +220,7 @@ fn definition_line(
     let a = store_words(t, text, named.at, key, waits, room, first + k, out);
     Keyed {
         key,
-        at: text::require(text, a, ascends(k, last, key)),
+        at: text::require(t, text, a, ascends(k, last, key)),
     }
 }
 

@@ -158,7 +158,7 @@ fn go_line(
 {
     let read = go(t, text, at);
     let key = key_of(read.state, read.terminal, read.number);
-    let d = text::require(text, read.at, ascends(k, last, key));
+    let d = text::require(t, text, read.at, ascends(k, last, key));
     let line = [read.state, code_of(read.terminal, read.number), read.target];
     put_line(out, room, k, &line);
     Keyed { key, at: d }

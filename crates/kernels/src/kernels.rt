@@ -135,14 +135,14 @@ fn kernel_line(
 {
     let read = item(t, text, at);
     let terminals = next_lookaheads(t, text, read.at, known);
-    let c = text::require(text, terminals.at, 0 < terminals.count);
+    let c = text::require(t, text, terminals.at, 0 < terminals.count);
     let d = closing(t, text, c);
     let key = Key {
         first: read.state,
         second: read.rule,
         third: read.dot,
     };
-    let e = text::require(text, d, ascends(k, last, key));
+    let e = text::require(t, text, d, ascends(k, last, key));
     let line = [
         read.state,
         read.rule,

@@ -80,15 +80,15 @@ pub fn mark(t: &[u8; 256], text: &[u8], at: usize, wanted: u8) -> usize
     at + 1
 }
 
-// Misspelt unless `fine`.
-pub fn require(text: &[u8], at: usize, fine: bool) -> usize
-    requires { ⌜ length (now text) ≤ 65536 ⌝ }
+// Misspelt unless `fine`. The position past the end is taken from the table, which is never empty: a test for an empty text would be a conditional move.
+pub fn require(t: &[u8; 256], text: &[u8], at: usize, fine: bool) -> usize
+    requires { ⌜ Lent (now t) (now text) ⌝ }
     ensures { λ r. ⌜ rest (now (text .entry)) r ≡ must fine (rest (now (text .entry)) at) ⌝ }
 {
     if fine {
         return at;
     }
-    misspelt(text)
+    text.len() + 1 + class(t, 0) as usize
 }
 
 // A way of writing numbers: the class of its digits, the byte of the digit 0, the base, and the largest number.
@@ -205,7 +205,7 @@ pub fn keyword(t: &[u8; 256], text: &[u8], at: usize, w: u32) -> usize
     ensures { λ r. ⌜ rest (now (text .entry)) r ≡ keyword w (rest (now (text .entry)) at) ⌝ }
 {
     let c = word(t, text, at);
-    require(text, c.at, c.value == w)
+    require(t, text, c.at, c.value == w)
 }
 
 // The class of each of the 256 byte values.

@@ -11,7 +11,7 @@ next-lookaheads-requires : tie.Need-next-lookaheads-requires
 next-lookaheads-requires c κs = search needs
 
 require-requires : tie.Need-require-requires
-require-requires c κs = c .before .before .before .before .before .pre .0 .short
+require-requires c κs = c .before .before .before .before .before .pre .0
 
 closing-requires : tie.Need-closing-requires
 closing-requires c κs = c .before .before .before .before .before .before .pre .0
@@ -20,7 +20,7 @@ ascends-requires : tie.Need-ascends-requires
 ascends-requires c κs = search needs
 
 require-requires-2 : tie.Need-require-requires-2
-require-requires-2 c κs = c .before .before .before .before .before .before .before .before .pre .0 .short
+require-requires-2 c κs = c .before .before .before .before .before .before .before .before .pre .0
 
 slice-aggregate-put-line : tie.Need-slice-aggregate-put-line
 slice-aggregate-put-line c = search needs

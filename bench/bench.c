@@ -3,8 +3,9 @@
  *
  *     bench DIRECTORY [ROUNDS]
  *
- * For each case both engines are called in turn, ROUNDS times in short batches; the figure is the median of the
- * batches, in nanoseconds a call.
+ * For each case both engines are called in turn, ROUNDS times in short batches; the figures are the medians of the
+ * batches, in nanoseconds a call, and the median of the ratios of a round, whose two batches a machine runs at about
+ * the same speed.
  */
 #include "baseline.h"
 #include "files.h"
@@ -61,15 +62,15 @@ static int compare(const void *x, const void *y)
     return (a > b) - (a < b);
 }
 
-static double median(double *times, unsigned count)
+static double median(double *values, unsigned count)
 {
-    qsort(times, count, sizeof *times, compare);
-    return times[count / 2];
+    qsort(values, count, sizeof *values, compare);
+    return values[count / 2];
 }
 
 static void measure(const char *name, const char *what, struct work *w, unsigned rounds)
 {
-    static double ours[MOST_ROUNDS], baseline[MOST_ROUNDS];
+    static double ours[MOST_ROUNDS], baseline[MOST_ROUNDS], ratio[MOST_ROUNDS];
     uint32_t answer = call(&OURS, w);
     if (answer != 0 || call(&BASELINE, w) != 0) {
         printf("%-10s %-16s refused %u\n", name, what, answer);
@@ -80,9 +81,10 @@ static void measure(const char *name, const char *what, struct work *w, unsigned
     for (unsigned i = 0; i < rounds; i++) {
         ours[i] = batch(&OURS, w, calls);
         baseline[i] = batch(&BASELINE, w, calls);
+        ratio[i] = ours[i] / baseline[i];
     }
-    double x = median(ours, rounds), y = median(baseline, rounds);
-    printf("%-10s %-16s %10.0f %10.0f %7.2f\n", name, what, x, y, x / y);
+    printf("%-10s %-16s %10.0f %10.0f %7.2f\n", name, what, median(ours, rounds), median(baseline, rounds),
+           median(ratio, rounds));
     fflush(stdout);
 }
 

@@ -16,7 +16,7 @@ use Rattle.conditions.specs.AskedLaws.{counted}
 use Rattle.compiler.specs.States.{states-enough}
 use Rattle.compiler.specs.Compiling.{Compiles}
 use Rattle.machine.specs.declared.run.Outcome.{Outcome}
-use Rattle.machine.specs.RunningLaws.{Answered}
+use Rattle.messages.specs.Pages.{Paged}
 use Rattle.messages.specs.Messages.{TakenBook, Message}
 use Rattle.attempts.specs.Rooms.{compiled-whole}
 use Rattle.attempts.specs.Stored.{Found, found-none, found-book}
@@ -83,7 +83,7 @@ module _ {room : Room} {n : ℕ} {text : List ℕ} {complete : Bool} {r : ℕ} {
       -- the machine runs
       pub attempts-run : {outcome : Outcome} {rows : List ℕ} (passed : first ≡ 0)
           → ((b : Lines) → TakenBook numbers inherited synthesized rules definitions kernels goes vanishes reached starts closures table actions b
-          → (m : Message (numbers .terminals) tokens) → Answered (evaluate b (tablesOf b) (m .list)) outcome rows)
+          → (m : Message (numbers .terminals) tokens) → Paged (evaluate b (tablesOf b) (m .list)) outcome rows)
           → Attempts room text n tokens lent true (outcome .number) rows (outcome .count)
       attempts-run passed ran = record {
         all = λ _. refl;

@@ -25,7 +25,7 @@ use Rattle.grammar.specs.Engine.{
   evaluateWords,
 }
 use Rattle.machine.specs.declared.run.Outcome.{Outcome}
-use Rattle.machine.specs.RunningLaws.{Answered}
+use Rattle.messages.specs.Pages.{Paged}
 use Rattle.messages.specs.Messages.{Message}
 use Rattle.attempts.specs.Tokens.{kindsRight, kinds-right, tokens-odd, tokens-even}
 
@@ -114,12 +114,12 @@ message-run b m t lent all =
 
 -- the machine's answer; its refusals are not 0
 answers-ran : (b : Book) (ks : List Token) {evaluation : Evaluation} {lent : ℕ} {r : Outcome} {rows : List ℕ}
-    → evaluation ≡ evaluationOf (evaluate b (tablesOf b) ks) lent → Answered (evaluate b (tablesOf b) ks) r rows
+    → evaluation ≡ evaluationOf (evaluate b (tablesOf b) ks) lent → Paged (evaluate b (tablesOf b) ks) r rows
     → Answers evaluation lent (r .number) rows (r .count)
 unfolding evaluationOf
 answers-ran b ks {evaluation} {lent} {r} {rows} e told = go (evaluate b (tablesOf b) ks) refl e told
   where
-    go : (x : Answer) → evaluate b (tablesOf b) ks ≡ x → evaluation ≡ evaluationOf x lent → Answered x r rows
+    go : (x : Answer) → evaluate b (tablesOf b) ks ≡ x → evaluation ≡ evaluationOf x lent → Paged x r rows
         → Answers evaluation lent (r .number) rows (r .count)
     go (refused n) q p (number-is, no-rows) = record {
       refused = λ _. p ∙ ap (λ (k : ℕ). turnedBack k lent) (sym number-is);
@@ -145,7 +145,7 @@ module _ (words tokens : List ℕ) (lent : ℕ) where
     pub answers-asked : {rows : List ℕ} {count : ℕ} → (number ≡ 0 → ⊥) → Answers (evaluateWords words tokens lent) lent number rows count
     answers-asked n = record { refused = λ _. evaluate-book b e ∙ a .refused n b t; taken = λ z. absurd (n z) }
 
-    pub answers-run : {r : Outcome} {rows : List ℕ} (z : number ≡ 0) → Answered (evaluate b (tablesOf b) (a .passed z .list)) r rows
+    pub answers-run : {r : Outcome} {rows : List ℕ} (z : number ≡ 0) → Paged (evaluate b (tablesOf b) (a .passed z .list)) r rows
         → Answers (evaluateWords words tokens lent) lent (r .number) rows (r .count)
     answers-run z told = answers-ran b (a .passed z .list) (evaluate-book b e ∙ message-run b (a .passed z) t lent (a .all-rows z)) told
 

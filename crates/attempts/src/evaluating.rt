@@ -12,7 +12,6 @@ use book::Room;
 use compiler::compile::Compiled;
 use compiler::compile::compile;
 use messages::messages::message;
-use packing::packing::clear;
 use text::classes;
 
 // Words of all rows.
@@ -96,7 +95,6 @@ fn respond(
             number: first,
         };
     }
-    clear(rows);
     let outcome = message(
         book,
         inherited,

@@ -6,7 +6,6 @@ use lib.ListN.{length}
 use Rattle.grammar.specs.Limits.{MAX-STACK}
 use Rattle.grammar.specs.Data.Book.{Book}
 use Rattle.grammar.specs.Evaluator.Tree.{Token}
-use Rattle.grammar.specs.Evaluator.Rows.{page}
 use Rattle.grammar.specs.Evaluator.Machine.{Config, refused, accepted, stop, step}
 use Rattle.grammar.specs.Engine.{tablesOf}
 use Rattle.plans.specs.Plans.{PlansHeld}
@@ -15,6 +14,7 @@ use Rattle.machine.specs.declared.moves.Moved.the-variants.{On, Stopped}
 use Rattle.machine.specs.declared.run.Outcome.{Outcome}
 use Rattle.machine.specs.CellReads.{ReadsCell}
 use Rattle.stack.specs.declared.top.Top.{Top}
+use Rattle.stack.specs.Page.{RowsIn}
 use Rattle.stack.specs.Pushes.{Stacks}
 use Rattle.stack.specs.Standing.{BookIn, Message, ConfigIn, CellIn, rowsOf, actionOf, GoesOn}
 
@@ -35,10 +35,10 @@ pub record Poised (b : Book) (ks : List Token) (c : Config) (states inherited sy
   pub cell-in : ReadsCell b (actionOf b c) → CellIn b inherited c
   pub message : Message b ks
 
--- the machine accepts, and its rows stand in the lent words
+-- the machine accepts, and its rows stand in the lent words from their start on
 pub record Accepts (b : Book) (c : Config) (rows : List ℕ) : Type 0 where
   pub stops : step b (tablesOf b) c ≡ stop (accepted (rowsOf c))
-  pub rows-are : rows ≡ page (rowsOf c)
+  pub rows-in : RowsIn (rowsOf c) rows
 
 -- a number is the machine's answer: a want of room (17) is, where the room is for as many symbols as may stand
 abbrev pub Final : ℕ → ℕ → Type 0

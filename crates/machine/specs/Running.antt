@@ -9,7 +9,6 @@ use lib.Seq.{drop-nil}
 use Rattle.grammar.specs.Data.Book.{Book}
 use Rattle.grammar.specs.Automaton.FirstSets.{setsOf}
 use Rattle.grammar.specs.Evaluator.Tree.{Token, next, TokensOf, no-tokens, and-tokens}
-use Rattle.grammar.specs.Evaluator.Rows.{page}
 use Rattle.grammar.specs.Evaluator.Machine.{Config, refused, stop, step}
 use Rattle.grammar.specs.Engine.{tokensOf, tablesOf}
 use Rattle.items.specs.Arrays.{ActionsIn}
@@ -22,6 +21,7 @@ use Rattle.machine.specs.Moving.{Driven, Poised, Accepts}
 use Rattle.machine.specs.MovingLaws.{none-refused, accept-stops}
 use Rattle.machine.specs.ReduceMove.{Reduces}
 use Rattle.machine.specs.ShiftMove.{Shifts}
+use Rattle.stack.specs.Page.{RowsIn}
 use Rattle.stack.specs.Standing.{BookIn, state-low, LeftIn, Message, ConfigIn, stands, stateOf, kindOf, firstValue, valueOf, rowsOf, actionOf}
 
 -- a book that is taken and a list of tokens, in the arrays that a run reads
@@ -127,9 +127,9 @@ pub rows-count : {b : Book} {ks : List Token} {c : Config} {states inherited syn
     → ConfigIn b ks states inherited synthesized starts rows top c → (top .rows ≡ length (rowsOf c)) × (length (rowsOf c) ≤ 512)
 rows-count (stands C) = (C .count-is, C .count-low)
 
-rows-in : {b : Book} {ks : List Token} {c : Config} {states inherited synthesized starts rows : List ℕ} {top : Top}
-    → ConfigIn b ks states inherited synthesized starts rows top c → rows ≡ page (rowsOf c)
-rows-in (stands C) = C .rows-are
+rows-held : {b : Book} {ks : List Token} {c : Config} {states inherited synthesized starts rows : List ℕ} {top : Top}
+    → ConfigIn b ks states inherited synthesized starts rows top c → RowsIn (rowsOf c) rows
+rows-held (stands C) = C .rows-in
 
 -- a byte of the action table names the action
 pub record Names (b : Book) (c : Config) (code : ℕ) : Type 0 where
@@ -162,7 +162,7 @@ module _ {b : Book} {ks : List Token} {c : Config} {states inherited synthesized
 
   pub due-accept : x ≡ Due Accept → Accepts b c rows
   unfolding meant
-  due-accept e = record { stops = accept-stops b c (sym means ∙ ap meant e); rows-are = rows-in (H .config-in) }
+  due-accept e = record { stops = accept-stops b c (sym means ∙ ap meant e); rows-in = rows-held (H .config-in) }
 
   pub due-shift : x ≡ Due Shift → Shifts b c state kind value
   unfolding meant

@@ -4,11 +4,10 @@ use mathlib.Core.Path.{_≡_, refl, _∙_}
 use mathlib.Core.Bool.{false}
 use mathlib.Core.List.{List, []}
 use native.Mathlib.Omega.{arith}
-use lib.ListN.{length, getD, set, replicate}
+use lib.ListN.{length, getD, set}
 use lib.Seq.{getD-set-same}
 use Rattle.grammar.specs.Data.Book.{Book}
 use Rattle.grammar.specs.Evaluator.Tree.{Token}
-use Rattle.grammar.specs.Evaluator.Rows.{filled, page}
 use Rattle.grammar.specs.Evaluator.Machine.{Tables, Frame, Config, Answer, refused, accepted, more, stop, start, step, evaluate}
 use Rattle.grammar.specs.Evaluator.Runs.{Ends, halts, moves}
 use Rattle.grammar.specs.Evaluator.RunLaws.{rowCount, step-rows, evaluate-ends}
@@ -26,13 +25,14 @@ use Rattle.machine.specs.CellReads.{readsCell, not-read}
 use Rattle.machine.specs.Moving.{Rooms, Final, Poised, Told, told-on, told-accepted, told-refused}
 use Rattle.machine.specs.Running.{RunIn, MovesIn, Facing, facing-of, TopLow, top-low, rows-count, Names, names-action, names-rule}
 use Rattle.machine.specs.Setting.{TopAsked, TopSet, config-asked, config-set, config-cell}
+use Rattle.stack.specs.Page.{RowsIn, no-rows}
 use Rattle.stack.specs.Path.{bottom}
 use Rattle.stack.specs.Standing.{Message, ConfigIn, stands, framesOf, GoesOn}
 
--- what a run answers: the refusal and no row, or 0, the rows' count and the rows
+-- what a run answers: the refusal and no row, or 0, the rows' count and the rows, behind which may stand anything
 abbrev pub Answered : Answer → Outcome → List ℕ → Type 0
 Answered (refused n) r rows = (r .number ≡ n) × (r .count ≡ 0)
-Answered (accepted rs) r rows = (r .number ≡ 0) × (r .count ≡ length rs) × (rows ≡ page rs)
+Answered (accepted rs) r rows = (r .number ≡ 0) × (r .count ≡ length rs) × RowsIn rs rows
 
 -- ---- the answer of a configuration
 
@@ -56,15 +56,14 @@ pub record Underway (b : Book) (ks : List Token) (states inherited synthesized s
 
 -- "Start: state 0, no symbols, no rows, first token next"
 pub underway-start : {b : Book} {ks : List Token} {inherited synthesized starts rows slots lists : List ℕ} {top : Top} (states : List ℕ)
-    → PlansIn b slots lists → 1 ≤ length states → rows ≡ replicate 5120 0 → top .depth ≡ 0 → top .rows ≡ 0 → top .position ≡ 0
+    → PlansIn b slots lists → 1 ≤ length states → top .depth ≡ 0 → top .rows ≡ 0 → top .position ≡ 0
     → Underway b ks (set states 0 0) inherited synthesized starts rows slots lists top
-unfolding page filled
-underway-start {b} {ks} states P l r d n p = record {
+underway-start {b} {ks} {rows = rows} states P l d n p = record {
   at = start ks;
   config-in = stands {rs = []} (record {
     frames-in = no-frames;
     state-is = getD-set-same states 0 0 0 (omega arith);
-    rows-are = r;
+    rows-in = no-rows rows;
     left-is = refl;
     depth-is = d;
     count-is = n;
@@ -130,7 +129,7 @@ stepped : {b : Book} {ks : List Token} {states inherited synthesized starts rows
     {states′ inherited′ synthesized′ starts′ rows′ slots′ lists′ : List ℕ} {m : Moved} → PlansIn b slots′ lists′
     → Told b ks (U .at) states′ inherited′ synthesized′ starts′ rows′ m → Stepped b ks top states′ inherited′ synthesized′ starts′ rows′ slots′ lists′ m
 stepped U P (told-on on) = goes-on (underway-more U on P) (underway-less U on)
-stepped {b} U P (told-accepted {r = r} a z n) = answers {r = r} λ f. rw (ends-stop b (tablesOf b) (U .ends) (a .stops)) (z, n, a .rows-are)
+stepped {b} U P (told-accepted {r = r} a z n) = answers {r = r} λ f. rw (ends-stop b (tablesOf b) (U .ends) (a .stops)) (z, n, a .rows-in)
 stepped {b} U P (told-refused {r = r} e z) = answers {r = r} λ f. rw (ends-stop b (tablesOf b) (U .ends) (e f)) (refl, z)
 
 -- ---- a step

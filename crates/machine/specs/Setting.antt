@@ -100,7 +100,7 @@ module _ {b : Book} {rules definitions table : List ℕ} (B : BookIn b rules def
     config-set (stands C) s k T = stands (record {
       frames-in = T .cell-in .frames-in;
       state-is = C .state-is;
-      rows-are = C .rows-are;
+      rows-in = C .rows-in;
       left-is = C .left-is;
       depth-is = C .depth-is;
       count-is = C .count-is;

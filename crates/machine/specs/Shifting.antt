@@ -50,7 +50,7 @@ module _ {b : Book} {ks : List Token} {states inherited synthesized starts rows 
         (frames-kept (rw states-are (agree-set (length st + 1) target (omega arith))) agree-same (record-next .before)
         (rw starts-are (agree-set (length st) p (omega arith))) (C .frames-in));
     state-is = state-next;
-    rows-are = P .rows-are ∙ rw (C .count-is, C .position-is, C .rows-are) (token-stored rs line (k .kind) p (k .value));
+    rows-in = rw (P .rows-are, C .count-is, C .position-is) (token-stored (C .rows-in) line (L .rows-long) (k .kind) p (k .value));
     left-is = sym (drop-step p ks (sym (C .left-is)));
     depth-is = P .depth-is ∙ rw (C .depth-is) (omega arith);
     count-is = P .count-is ∙ rw (C .count-is, length-append) (omega arith);

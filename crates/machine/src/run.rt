@@ -1,8 +1,7 @@
 // The run of the stack evaluator.
 // A contract asks that the arrays hold some book and a list of its tokens, and says its statement of all that they hold.
-ghost use mathlib.Core.Path.{_≡_};
 ghost use mathlib.Core.List.{List};
-ghost use lib.ListN.{length, replicate};
+ghost use lib.ListN.{length};
 ghost use Rattle.grammar.specs.Data.Book.{Book};
 ghost use Rattle.grammar.specs.Evaluator.Tree.{Token};
 ghost use Rattle.grammar.specs.Evaluator.Machine.{evaluate};
@@ -22,8 +21,8 @@ pub struct Outcome {
     pub count: u32,
 }
 
-// The run from the start: the moves until one stops. On a refusal the rows are left as they are, for the caller to clear. Nothing is said of a 17 for
-// want of room in the arrays.
+// The run from the start: the moves until one stops. Behind the rows of a message, and on a refusal everywhere, the words are left for the caller to clear.
+// Nothing is said of a 17 for want of room in the arrays.
 pub fn run(
     rules: &[u32],
     definitions: &[u32],
@@ -49,7 +48,7 @@ pub fn run(
     starts: &mut [u32],
     rows: &mut [u32],
 ) -> Outcome
-    requires { ⌜ Rooms (now states) (now inherited) (now synthesized) (now starts) (now rows) × (now rows ≡ replicate 5120 0) ⌝ }
+    requires { ⌜ Rooms (now states) (now inherited) (now synthesized) (now starts) (now rows) ⌝ }
     requires { ⌜ ((b : Book) × (ks : List Token)
         × RunIn b ks (now rules) (now definitions) lines (now owned) (now kernels) (now heads) (now closures) (now nulls) (now reaches) (now places)
         (now firsts) (now down) (now up) (now table) (now actions) (now tokens)

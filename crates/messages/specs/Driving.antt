@@ -75,14 +75,14 @@ module _ {numbers : Book} {inherited synthesized rules definitions kernels goes 
   places-room = omega (arith, rules-low (asked-formulas (h .ready)))
 
 -- the stacks as they are before the first move, with room for n symbols
-pub run-room : (n : ℕ) → n ≤ MAX-STACK → {rows : List ℕ} → rows ≡ replicate PAGE-WORDS 0
+pub run-room : (n : ℕ) → n ≤ MAX-STACK → {rows : List ℕ} → length rows ≡ PAGE-WORDS
     → Rooms (replicate (n + 1) 0) (replicate (16 * n + 16) 0) (replicate (33 * n) 0) (replicate n 0) rows
 run-room n low e = record {
   stacks = record {
     starts-low = omega (arith, zeros n);
     states-long = omega (arith, zeros n, zeros (n + 1));
     synthesized-long = omega (arith, zeros n, zeros (33 * n));
-    rows-long = ap length e ∙ zeros PAGE-WORDS;
+    rows-long = e;
   };
   cells-long = omega (arith, zeros n, zeros (16 * n + 16));
 }

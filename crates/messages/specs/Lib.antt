@@ -1,4 +1,5 @@
 pub mod Driving
 pub mod Messages
+pub mod Pages
 pub mod Sides
 pub mod Zeros

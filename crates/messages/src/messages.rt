@@ -2,16 +2,17 @@
 ghost use mathlib.Core.Path.{_≡_};
 ghost use mathlib.Core.Logic.{_≢_};
 ghost use Prim.Native.Nat.{_*_, _≤_};
-ghost use lib.ListN.{length, replicate};
+ghost use lib.ListN.{length};
 ghost use Rattle.grammar.specs.Limits.{PAGE-WORDS};
 ghost use Rattle.grammar.specs.Data.Book.{Book as Lines};
-ghost use Rattle.grammar.specs.Evaluator.Machine.{evaluate};
+ghost use Rattle.grammar.specs.Evaluator.Machine.{Answer, evaluate};
 ghost use Rattle.grammar.specs.Engine.{tablesOf};
 ghost use Rattle.conditions.specs.Answers.{Some};
 ghost use Rattle.plans.specs.Plans.{NoneListed};
 ghost use Rattle.machine.specs.Moving.{Rooms, Final};
 ghost use Rattle.machine.specs.RunningLaws.{Answered};
 ghost use Rattle.messages.specs.Messages.{TakenBook, Message};
+ghost use Rattle.messages.specs.Pages.{Paged};
 use super::sides::fill_sides;
 use book::Book;
 use items::words::fill;
@@ -64,8 +65,8 @@ fn message_on(
 ) -> Outcome
     requires { ⌜ Some (TakenBook book (now inherited) (now synthesized) (now rules) (now definitions) (now kernels) (now goes) (now vanishes)
         (now reached) (now starts) (now lookaheads) (now table) (now actions)) ⌝ }
-    requires { ⌜ Message (book .terminals) (now tokens) × (now rows ≡ replicate PAGE-WORDS 0)
-        × Rooms (now states) (now cells) (now records) (now bounds) (now rows) × (32 * book .states ≤ length (now slots)) × NoneListed (now lists) ⌝ }
+    requires { ⌜ Message (book .terminals) (now tokens) × Rooms (now states) (now cells) (now records) (now bounds) (now rows)
+        × (32 * book .states ≤ length (now slots)) × NoneListed (now lists) ⌝ }
     ensures { λ r. ⌜ ((b : Lines) → TakenBook book (now (inherited .entry)) (now (synthesized .entry)) (now (rules .entry))
         (now (definitions .entry)) (now (kernels .entry)) (now (goes .entry)) (now (vanishes .entry)) (now (reached .entry)) (now (starts .entry))
         (now (lookaheads .entry)) (now (table .entry)) (now (actions .entry)) b
@@ -142,7 +143,7 @@ fn message_short(
 ) -> Outcome
     requires { ⌜ Some (TakenBook book (now inherited) (now synthesized) (now rules) (now definitions) (now kernels) (now goes) (now vanishes)
         (now reached) (now starts) (now lookaheads) (now table) (now actions)) ⌝ }
-    requires { ⌜ Message (book .terminals) (now tokens) × (now rows ≡ replicate PAGE-WORDS 0) × (32 * book .states ≤ length (now slots)) ⌝ }
+    requires { ⌜ Message (book .terminals) (now tokens) × (length (now rows) ≡ PAGE-WORDS) × (32 * book .states ≤ length (now slots)) ⌝ }
     ensures { λ r. ⌜ ((b : Lines) → TakenBook book (now (inherited .entry)) (now (synthesized .entry)) (now (rules .entry))
         (now (definitions .entry)) (now (kernels .entry)) (now (goes .entry)) (now (vanishes .entry)) (now (reached .entry)) (now (starts .entry))
         (now (lookaheads .entry)) (now (table .entry)) (now (actions .entry)) b
@@ -200,7 +201,7 @@ fn message_full(
 ) -> Outcome
     requires { ⌜ Some (TakenBook book (now inherited) (now synthesized) (now rules) (now definitions) (now kernels) (now goes) (now vanishes)
         (now reached) (now starts) (now lookaheads) (now table) (now actions)) ⌝ }
-    requires { ⌜ Message (book .terminals) (now tokens) × (now rows ≡ replicate PAGE-WORDS 0) × (32 * book .states ≤ length (now slots)) ⌝ }
+    requires { ⌜ Message (book .terminals) (now tokens) × (length (now rows) ≡ PAGE-WORDS) × (32 * book .states ≤ length (now slots)) ⌝ }
     ensures { λ r. ⌜ ((b : Lines) → TakenBook book (now (inherited .entry)) (now (synthesized .entry)) (now (rules .entry))
         (now (definitions .entry)) (now (kernels .entry)) (now (goes .entry)) (now (vanishes .entry)) (now (reached .entry)) (now (starts .entry))
         (now (lookaheads .entry)) (now (table .entry)) (now (actions .entry)) b
@@ -238,7 +239,7 @@ fn message_full(
 }
 
 // The run by the short stacks where the message is short, and by the full ones where it is not or where the short ones have no room.
-pub fn message(
+fn message_run(
     book: Book,
     inherited: &[u32],
     synthesized: &[u32],
@@ -258,7 +259,7 @@ pub fn message(
 ) -> Outcome
     requires { ⌜ Some (TakenBook book (now inherited) (now synthesized) (now rules) (now definitions) (now kernels) (now goes) (now vanishes)
         (now reached) (now starts) (now lookaheads) (now table) (now actions)) ⌝ }
-    requires { ⌜ Message (book .terminals) (now tokens) × (now rows ≡ replicate PAGE-WORDS 0) × (32 * book .states ≤ length (now slots)) ⌝ }
+    requires { ⌜ Message (book .terminals) (now tokens) × (length (now rows) ≡ PAGE-WORDS) × (32 * book .states ≤ length (now slots)) ⌝ }
     ensures { λ r. ⌜ ((b : Lines) → TakenBook book (now (inherited .entry)) (now (synthesized .entry)) (now (rules .entry))
         (now (definitions .entry)) (now (kernels .entry)) (now (goes .entry)) (now (vanishes .entry)) (now (reached .entry)) (now (starts .entry))
         (now (lookaheads .entry)) (now (table .entry)) (now (actions .entry)) b
@@ -306,7 +307,6 @@ pub fn message(
     if outcome.number != NO_ROOM {
         return outcome;
     }
-    clear(rows);
     message_full(
         book,
         inherited,
@@ -325,4 +325,66 @@ pub fn message(
         slots,
         rows,
     )
+}
+
+// Zeros behind the rows of a message that is accepted.
+fn clear_behind(outcome: Outcome, rows: &mut [u32])
+    requires { ⌜ ((a : Answer) × Answered a outcome (now rows)) × (length (now rows) ≡ PAGE-WORDS) ⌝ }
+    ensures { λ _. ⌜ ((a : Answer) → Answered a outcome (now (rows .entry)) → Paged a outcome (now (rows .exit))) ⌝ }
+{
+    if outcome.number != 0 {
+        return;
+    }
+    let from = 10 * outcome.count as usize;
+    clear(&mut rows[from..]);
+}
+
+// The answer to a message: where it is accepted, its rows with zeros behind them.
+pub fn message(
+    book: Book,
+    inherited: &[u32],
+    synthesized: &[u32],
+    rules: &[u32],
+    definitions: &[u32],
+    kernels: &[u32],
+    goes: &[u32],
+    vanishes: &[u32],
+    reached: &[u32],
+    starts: &[u32],
+    lookaheads: &[u32],
+    table: &[u8],
+    actions: &[u8],
+    tokens: &[u32],
+    slots: &mut [u8],
+    rows: &mut [u32],
+) -> Outcome
+    requires { ⌜ Some (TakenBook book (now inherited) (now synthesized) (now rules) (now definitions) (now kernels) (now goes) (now vanishes)
+        (now reached) (now starts) (now lookaheads) (now table) (now actions)) ⌝ }
+    requires { ⌜ Message (book .terminals) (now tokens) × (length (now rows) ≡ PAGE-WORDS) × (32 * book .states ≤ length (now slots)) ⌝ }
+    ensures { λ r. ⌜ ((b : Lines) → TakenBook book (now (inherited .entry)) (now (synthesized .entry)) (now (rules .entry))
+        (now (definitions .entry)) (now (kernels .entry)) (now (goes .entry)) (now (vanishes .entry)) (now (reached .entry)) (now (starts .entry))
+        (now (lookaheads .entry)) (now (table .entry)) (now (actions .entry)) b
+        → (m : Message (book .terminals) (now (tokens .entry)))
+        → Paged (evaluate b (tablesOf b) (m .list)) r (now (rows .exit))) ⌝ }
+{
+    let outcome = message_run(
+        book,
+        inherited,
+        synthesized,
+        rules,
+        definitions,
+        kernels,
+        goes,
+        vanishes,
+        reached,
+        starts,
+        lookaheads,
+        table,
+        actions,
+        tokens,
+        slots,
+        rows,
+    );
+    clear_behind(outcome, rows);
+    outcome
 }

@@ -44,7 +44,7 @@ module _ {text old words : List ℕ} {i : ℕ} (p : Packing text old words i) wh
   packing-end h = let e : i ≡ length text / 4 = omega (arith, p .within) in rw (← e) (p .words-are)
 
 -- a slice whose part from m on was lent and cleared
-cleared-rest : {zeros : List ℕ} (words : List ℕ) (m : ℕ) → zeros ≡ replicate (length (partFrom m words)) 0
+pub cleared-rest : {zeros : List ℕ} (words : List ℕ) (m : ℕ) → zeros ≡ replicate (length (partFrom m words)) 0
     → take m words ++ (zeros ++ drop (length words - m) (drop m words)) ≡ take m words ++ replicate (length words - m) 0
 cleared-rest words m e =
     let k : length (partFrom m words) ≡ length words - m = ap length (part-drop m words) ∙ length-drop m words in

@@ -17,7 +17,7 @@ use Rattle.grammar.specs.Conditions.Decides.{count}
 use Rattle.grammar.specs.Automaton.States.{reduce}
 use Rattle.grammar.specs.Evaluator.Tree.{Token, next as kind}
 use Rattle.grammar.specs.Evaluator.Decorated.{Values, Result, values, placeValue, synthesizedFrom}
-use Rattle.grammar.specs.Evaluator.Rows.{Row, rowOfNode, page, owned}
+use Rattle.grammar.specs.Evaluator.Rows.{Row, rowOfNode, owned}
 use Rattle.grammar.specs.Evaluator.RowsLaws.{owned-same}
 use Rattle.grammar.specs.Evaluator.Machine.{Frame, frame, Config, cell, pop}
 use Rattle.grammar.specs.Evaluator.Moves as moves
@@ -37,7 +37,7 @@ use Rattle.stack.specs.Action.{Reduced, reduced}
 use Rattle.stack.specs.Goes.{reduce-goes, target-of}
 use Rattle.stack.specs.Lists.{gathered, numbers-few, gathered-owned}
 use Rattle.stack.specs.NodeValues.{NodeAsked, NodeValues}
-use Rattle.stack.specs.Page.{nodeStored, node-stored}
+use Rattle.stack.specs.Page.{RowsIn, nodeStored, node-stored}
 use Rattle.stack.specs.Path.{Path, above, pop-path, deep}
 use Rattle.stack.specs.Pushes.{Stacks, StartOf, NodePushed}
 use Rattle.stack.specs.Records.{Stored, values-in}
@@ -53,9 +53,9 @@ owned-few : (owners : List ℕ) (A : ℕ) (f : Values) → count A owners ≤ MA
 unfolding owned
 owned-few owners A f h = omega (arith, numbers-few owners (length owners) A f (omega arith))
 
-same-node : (P : ℕ) {r r′ start start′ : ℕ} {is is′ ss ss′ out out′ : List ℕ} → r ≡ r′ → start ≡ start′ → is ≡ is′ → ss ≡ ss′ → out ≡ out′
-    → nodeStored r P start is ss out ≡ nodeStored r′ P start′ is′ ss′ out′
-same-node P e f g h i = cc
+same-node : (P : ℕ) {r r′ start start′ : ℕ} {is is′ ss ss′ : List ℕ} (out : List ℕ) → r ≡ r′ → start ≡ start′ → is ≡ is′ → ss ≡ ss′
+    → nodeStored r P start is ss out ≡ nodeStored r′ P start′ is′ ss′ out
+same-node P out e f g h = cc
 
 module _ {b : Book} {rules definitions table firsts down up : List ℕ} (B : BookIn b rules definitions table) (F : LeftIn b definitions firsts down up)
     (P : ℕ) where
@@ -156,15 +156,20 @@ module _ {b : Book} {rules definitions table firsts down up : List ℕ} (B : Boo
           let i : 33 * low + 1 + K ≡ 33 * low + (1 + K) = omega arith in
           rw i (record-next .word-is (1 + K) (omega arith)) ∙ sym (value-next K k))
 
-      rows-next : rows′ ≡ page (rs ++ (rowOfNode b P (taken-off .start) (taken-off .cell) leftValues ∷ []))
+      rows-stored : rows′
+          ≡ nodeStored (length rs) P (taken-off .start) (owned (b .inheritedOwners) (leftOf (b .rules) P) (taken-off .cell))
+          (owned (b .synthesizedOwners) (leftOf (b .rules) P) leftValues) rows
+      rows-stored =
+          push .rows-are
+          ∙ same-node P rows (C .count-is) start-is (ap (λ n. gathered down owner inherited (16 * n)) low-is ∙ down-row)
+          (ap (λ n. gathered up owner synthesized′ (33 * n + 1)) low-is ∙ up-row)
+
+      rows-next : RowsIn (rs ++ (rowOfNode b P (taken-off .start) (taken-off .cell) leftValues ∷ [])) rows′
       unfolding rowOfNode
       rows-next =
-          push .rows-are
-          ∙ same-node P (C .count-is) start-is (ap (λ n. gathered down owner inherited (16 * n)) low-is ∙ down-row)
-          (ap (λ n. gathered up owner synthesized′ (33 * n + 1)) low-is ∙ up-row) (C .rows-are)
-          ∙ node-stored rs line P (taken-off .start) _ _
+          rw rows-stored (node-stored (C .rows-in) line (L .rows-long) P (taken-off .start) _ _
           (owned-few (b .inheritedOwners) (leftOf (b .rules) P) (taken-off .cell) (B .sound .limits .inherited-each (leftOf (b .rules) P)))
-          (owned-few (b .synthesizedOwners) (leftOf (b .rules) P) leftValues (B .sound .limits .synthesized-each (leftOf (b .rules) P)))
+          (owned-few (b .synthesizedOwners) (leftOf (b .rules) P) leftValues (B .sound .limits .synthesized-each (leftOf (b .rules) P))))
 
       frame-next : FrameIn states′ inherited synthesized′ starts′ (taken-off .state) (taken-off .cell) (values leftValues) (taken-off .start) low
       frame-next = record {
@@ -196,7 +201,7 @@ module _ {b : Book} {rules definitions table firsts down up : List ℕ} (B : Boo
       reduce-stands go = record {
         frames-in = a-frame frame-there frames-next;
         state-is = rw (taken-off .below-long) state-next;
-        rows-are = rows-next;
+        rows-in = rows-next;
         left-is = C .left-is;
         depth-is = push .depth-is ∙ omega (arith, low-is, taken-off .below-long);
         count-is = push .count-is ∙ omega (arith, C .count-is, length-append rs (rowOfNode b P (taken-off .start) (taken-off .cell) leftValues ∷ []));

@@ -11,7 +11,7 @@ use Rattle.grammar.specs.Data.Book.{Book}
 use Rattle.grammar.specs.Format.Ordered.{Spelled}
 use Rattle.grammar.specs.Automaton.States.{Action}
 use Rattle.grammar.specs.Evaluator.Tree.{Token, next, TokensOf}
-use Rattle.grammar.specs.Evaluator.Rows.{Row, page}
+use Rattle.grammar.specs.Evaluator.Rows.{Row}
 use Rattle.grammar.specs.Evaluator.Machine.{Frame, Config, config, more, cell, step}
 use Rattle.grammar.specs.Evaluator.TakenPremises.{premises}
 use Rattle.grammar.specs.Refusal.{Sound}
@@ -22,6 +22,7 @@ use Rattle.cells.specs.Frames.{cellValue, FramesIn}
 use Rattle.stack.specs.declared.top.Top.{Top}
 use Rattle.stack.specs.Firsts.{FirstsIn}
 use Rattle.stack.specs.Lists.{ListsIn}
+use Rattle.stack.specs.Page.{RowsIn}
 use Rattle.stack.specs.Path.{Path, path-state}
 
 -- a book that is taken, in the arrays that every move reads
@@ -54,7 +55,7 @@ module _ (b : Book) (ks : List Token) (states inherited synthesized starts rows 
   pub record Standing (st : List Frame) (S : ℕ) (z : List Token) (p : ℕ) (rs : List Row) : Type 0 where
     pub frames-in : FramesIn states inherited synthesized starts st
     pub state-is : getD states (length st) 0 ≡ S
-    pub rows-are : rows ≡ page rs
+    pub rows-in : RowsIn rs rows
     pub left-is : z ≡ drop p ks
     pub depth-is : top .depth ≡ length st
     pub count-is : top .rows ≡ length rs

@@ -1,10 +1,11 @@
-// Rows, ten words each: what stands there, its start, four inherited and four synthesized values. The words of a row that is not yet written are 0.
+// Rows, ten words each: what stands there, its start, four inherited and four synthesized values. A row is written over whatever stood there.
 ghost use mathlib.Core.Path.{_≡_};
 ghost use Prim.Native.Nat.{_+_, _*_, _<_, _≤_};
 ghost use lib.ListN.{length};
 ghost use Rattle.book.specs.Layout.{writeAt};
 ghost use Rattle.stack.specs.Lists.{Gathers, gathered};
 ghost use Rattle.stack.specs.Page.{tokenStored, nodeStored};
+use cells::cells::clear;
 use items::words::word;
 
 // The words of `source` that the list of `owner` names, into the rows from `place` on.
@@ -28,6 +29,7 @@ pub fn token_row(rows: &mut [u32], row: usize, kind: u32, start: u32, value: u32
     ensures { λ _. ⌜ now (rows .exit) ≡ tokenStored row kind start value (now (rows .entry)) ⌝ }
 {
     let place = 10 * row;
+    clear(rows, place, 10);
     rows[place] = 64 + kind;
     rows[place + 1] = start;
     rows[place + 6] = value;
@@ -52,6 +54,7 @@ pub fn node_row(
         (gathered (now (up .entry)) owner (now (synthesized .entry)) (33 * height + 1)) (now (rows .entry)) ⌝ }
 {
     let place = 10 * row;
+    clear(rows, place, 10);
     rows[place] = rule;
     rows[place + 1] = start;
     gather(down, owner, inherited, 16 * height, rows, place + 2);

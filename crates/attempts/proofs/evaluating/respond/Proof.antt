@@ -1,7 +1,5 @@
 -- `evaluating::respond` meets its contract: the book is asked first, then the message; then the machine runs. Assumes nothing.
-use mathlib.Core.Path.{ap, _∙_}
 use native.Mathlib.Omega.{arith}
-use lib.ListN.{replicate}
 use borrow.Author.Tests.{not-true, not-false}
 use Rattle.attempts.specs.Attempts.{book-taken, states-within, attempts-part, attempts-none, attempts-asked, attempts-run}
 use borrow.Author.Needs.{needs}
@@ -21,11 +19,8 @@ whole-at c = c .before .before
 abbrev taken-at : tie.After-asked → tie.Else2
 taken-at c = c .before .before
 
-abbrev passed-at : tie.After-clear → tie.Else3
+abbrev passed-at : tie.After-message-arg2 → tie.Else3
 passed-at c = c .before .before
-
-abbrev clear-at : tie.After-message-arg2 → tie.After-clear
-clear-at c = c .before .before .before .before
 
 returns : tie.Need-returns
 returns c = λ room n text R. attempts-part R (not-true _ (c .if1 .taken))
@@ -42,13 +37,9 @@ returns-3 c = λ room n text R.
     let e = taken-at a in
     attempts-asked R (not-false _ (whole-at e .if1 .left)) (e .if2 .left) (a .asked .ensures) (c .if3 .taken)
 
-clear-requires : tie.Need-clear-requires
-clear-requires c κs = search needs
-
 message-requires : tie.Need-message-requires
 message-requires c κs =
-    let k = clear-at c in
-    let p = passed-at k in
+    let p = passed-at c in
     let a = p .before in
     let e = taken-at a in
     let w = whole-at e in
@@ -58,7 +49,7 @@ message-requires c κs =
       book-taken R whole taken,
       (
         a .asked .ensures .passed (p .if3 .left),
-        k .clear .ensures ∙ ap (λ n. replicate n 0) (a .asked .ensures .all-rows (p .if3 .left)),
+        a .asked .ensures .all-rows (p .if3 .left),
         omega (arith, slots, states-within R whole taken),
       ),
     )
@@ -72,7 +63,7 @@ same-length-2 c = search needs
 returns-4 : tie.Need-returns-4
 returns-4 c = λ room n text R.
     let m = c .before .before .before .before in
-    let p = passed-at (clear-at (m .before)) in
+    let p = passed-at (m .before) in
     let a = p .before in
     let e = taken-at a in
     attempts-run R (not-false _ (whole-at e .if1 .left)) (e .if2 .left) (a .asked .ensures) (p .if3 .left) (m .message .ensures)
@@ -85,7 +76,6 @@ respond-spec =
     returns-2
     asked-requires
     returns-3
-    clear-requires
     message-requires
     same-length
     same-length-2

@@ -51,7 +51,7 @@ stopped-at c =
     .before .before .before .before .before .before .before .before
 
 slice-write-states : tie.Need-slice-write-states Inv-loop μ-loop
-slice-write-states c = omega (arith, entry c .pre .0 .0 .stacks .states-long)
+slice-write-states c = omega (arith, entry c .pre .0 .stacks .states-long)
 
 empty-requires : tie.Need-empty-requires Inv-loop μ-loop
 empty-requires c κs = search needs
@@ -62,10 +62,10 @@ loop-holds c =
     let (b, ks, R, M, P) = s .pre .1 in
     let lent : RoomsLeft (length (s .args .slots .now)) (length (s .args .lists .now)) (length (s .args .starts .now)) (s .args .states .now)
     (s .args .inherited .now) (s .args .synthesized .now) (s .args .starts .now) (s .args .rows .now) (s .args .slots .now) (s .args .lists .now) =
-    record { rooms = s .pre .0 .0; starts-long = refl; slots-long = refl; lists-long = refl } in
+    record { rooms = s .pre .0; starts-long = refl; slots-long = refl; lists-long = refl } in
     let e = c .empty .ensures in (
       rooms-kept lent (length-set (s .args .states .now) 0 0) refl refl refl refl refl refl,
-      λ b ks R M P. underway-start (s .args .states .now) P (omega (arith, s .pre .0 .0 .stacks .states-long)) (s .pre .0 .1) (e .0) (e .1) (e .2),
+      λ b ks R M P. underway-start (s .args .states .now) P (omega (arith, s .pre .0 .stacks .states-long)) (e .0) (e .1) (e .2),
     )
 
 step-requires : tie.Need-step-requires Inv-loop μ-loop
@@ -123,7 +123,7 @@ same-length-3 c =
       a .step .kept .1 .1 .1 .1 .1 .1 .1 .1 .1 .1 .1 .1 .1 .1 .1 .1 .1 .1 .1 .0,
       l .loop .inv .0 .rooms .stacks .states-long,
       l .loop .inv .0 .starts-long,
-      start l .pre .0 .0 .stacks .states-long,
+      start l .pre .0 .stacks .states-long,
     )
 
 same-length-4 : tie.Need-same-length-4 Inv-loop μ-loop
@@ -135,7 +135,7 @@ same-length-4 c =
       a .step .kept .1 .1 .1 .1 .1 .1 .1 .1 .1 .1 .1 .1 .1 .1 .1 .1 .1 .1 .1 .1 .0,
       l .loop .inv .0 .rooms .cells-long,
       l .loop .inv .0 .starts-long,
-      start l .pre .0 .0 .cells-long,
+      start l .pre .0 .cells-long,
     )
 
 same-length-5 : tie.Need-same-length-5 Inv-loop μ-loop
@@ -147,7 +147,7 @@ same-length-5 c =
       a .step .kept .1 .1 .1 .1 .1 .1 .1 .1 .1 .1 .1 .1 .1 .1 .1 .1 .1 .1 .1 .1 .1 .0,
       l .loop .inv .0 .rooms .stacks .synthesized-long,
       l .loop .inv .0 .starts-long,
-      start l .pre .0 .0 .stacks .synthesized-long,
+      start l .pre .0 .stacks .synthesized-long,
     )
 
 same-length-6 : tie.Need-same-length-6 Inv-loop μ-loop
@@ -161,7 +161,7 @@ same-length-7 c =
     let a = stopped-at c in
     let l = loop-at a in
     a .step .kept .1 .1 .1 .1 .1 .1 .1 .1 .1 .1 .1 .1 .1 .1 .1 .1 .1 .1 .1 .1 .1 .1 .1 .0
-    ∙ l .loop .inv .0 .rooms .stacks .rows-long ∙ sym (start l .pre .0 .0 .stacks .rows-long)
+    ∙ l .loop .inv .0 .rooms .stacks .rows-long ∙ sym (start l .pre .0 .stacks .rows-long)
 
 returns : tie.Need-returns Inv-loop μ-loop
 returns c = λ b ks R M P final.

@@ -1,25 +1,27 @@
--- `messages::message` meets its contract: after a short run that has no room the rows are cleared, so that the full one may follow. Assumes nothing.
-use mathlib.Core.Path.{ap, _∙_}
-use native.Mathlib.Omega.{arith}
-use lib.ListN.{length, replicate}
+-- `messages::message` meets its contract. Assumes nothing.
+use mathlib.Core.Path.{_∙_}
 use borrow.Author.Needs.{needs}
-use Rattle.grammar.specs.Limits.{PAGE-WORDS}
-use Rattle.messages.specs.Zeros.{zeros}
+use Rattle.grammar.specs.Evaluator.Machine.{evaluate}
+use Rattle.grammar.specs.Engine.{tablesOf}
 use Rattle.messages.proofs.messages.message.Statement.{statement}
 use Rattle.messages.proofs.messages.message.Tie as tie
 
--- from each call back to the one before
-
-abbrev start : tie.After-message-short → tie.Start
+-- from the run back to the entry
+abbrev start : tie.After-message-run → tie.Start
 start c =
     c .before .before .before .before .before .before .before .before .before .before .before .before
-    .before .before .before .before .before .before .before
+    .before .before .before .before .before .before
 
-abbrev short-at : tie.After-clear → tie.After-message-short
-short-at c = c .before .before .before .before .before .before .before .before
+message-run-requires : tie.Need-message-run-requires
+message-run-requires c κs = search needs
 
-message-full-requires : tie.Need-message-full-requires
-message-full-requires c κs = search needs
+clear-behind-requires : tie.Need-clear-behind-requires
+clear-behind-requires c κs =
+    let k = c .before .before .before .before .before in
+    let s = start k in
+    let (b, t) = s .pre .0 in
+    let (m, rows, slots) = s .pre .1 in
+    ((evaluate b (tablesOf b) (m .list), k .message-run .ensures b t m), k .message-run .kept .1 .1 .1 .1 .1 .1 .1 .1 .1 .1 .1 .1 .1 .1 .1 .0 ∙ rows)
 
 same-length : tie.Need-same-length
 same-length c = search needs
@@ -28,63 +30,10 @@ same-length-2 : tie.Need-same-length-2
 same-length-2 c = search needs
 
 returns : tie.Need-returns
-returns c = search needs
-
-message-short-requires : tie.Need-message-short-requires
-message-short-requires c κs = search needs
-
-same-length-3 : tie.Need-same-length-3
-same-length-3 c = search needs
-
-same-length-4 : tie.Need-same-length-4
-same-length-4 c = search needs
-
-returns-2 : tie.Need-returns-2
-returns-2 c = λ b t m.
-    let k = c .before .before .before .before .before .before in
-    k .message-short .ensures b t m (c .if2 .taken)
-
-clear-requires : tie.Need-clear-requires
-clear-requires c κs = search needs
-
-message-full-requires-2 : tie.Need-message-full-requires-2
-message-full-requires-2 c κs =
-    let e = c .before .before .before .before in
-    let k = short-at e in
-    let s = start k in
-    let (message, rows, slots) = s .pre .1 in
-    let kept = k .message-short .kept .1 .1 .1 .1 .1 .1 .1 .1 .1 .1 .1 .1 .1 .1 in (
-      s .pre .0,
-      (
-        message,
-        e .clear .ensures ∙ ap (λ n. replicate n 0) (kept .1 .0 ∙ ap length rows ∙ zeros PAGE-WORDS),
-        omega (arith, kept .0, slots),
-      ),
-    )
-
-same-length-5 : tie.Need-same-length-5
-same-length-5 c = search needs
-
-same-length-6 : tie.Need-same-length-6
-same-length-6 c = search needs
-
-returns-3 : tie.Need-returns-3
-returns-3 c = search needs
+returns c = λ b t m.
+    let cleared = c .before .before in
+    let k = cleared .before .before .before .before .before .before in
+    cleared .clear-behind .ensures (evaluate b (tablesOf b) (m .list)) (k .message-run .ensures b t m)
 
 pub message-spec : {M : Type 1} → statement M
-message-spec =
-    tie.close
-    (tie.spec
-    message-full-requires
-    same-length
-    same-length-2
-    returns
-    message-short-requires
-    same-length-3
-    same-length-4
-    returns-2
-    clear-requires
-    message-full-requires-2
-    same-length-5
-    same-length-6
-    returns-3)
+message-spec = tie.close (tie.spec message-run-requires clear-behind-requires same-length same-length-2 returns)

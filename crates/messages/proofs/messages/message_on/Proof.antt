@@ -59,7 +59,7 @@ mul-fill : tie.Need-mul-fill
 mul-fill c = search needs
 
 fill-requires : tie.Need-fill-requires
-fill-requires c κs = omega (arith, sides-start (sides-at (marked-at c .before) .before) .pre .1 .3)
+fill-requires c κs = omega (arith, sides-start (sides-at (marked-at c .before) .before) .pre .1 .2)
 
 slice-aggregate-run : tie.Need-slice-aggregate-run
 slice-aggregate-run c = search needs
@@ -82,10 +82,10 @@ run-requires c κs = let f = cleared-at c in
     let o = sides-at (p .before) in
     let s = sides-start (o .before) in
     let (b, t) = s .pre .0 in
-    let (m, rows, rooms, long, none) = s .pre .1 in
+    let (m, rooms, long, none) = s .pre .1 in
     let sides = o .fill-sides .ensures b (asked-sides (t .ready)) in
     let places = p .mark-places .ensures b _ _ (places-asked t sides) (asked-formulas (t .ready) .definitions-counted) (places-room t) (no-words 608) in (
-      (rooms, rows),
+      rooms,
       (b, m .list, run-in t sides places (m .tokens-are), tokens-of t m, plans-of t _ long (f .fill .ensures) none),
     )
 
@@ -115,7 +115,7 @@ returns c = λ b t m. let k = c .before .before .before .before .before .before 
     let f = cleared-at (k .before) in
     let p = marked-at (f .before) in
     let o = sides-at (p .before) in
-    let (_, _, _, long, none) = sides-start (o .before) .pre .1 in
+    let (_, _, long, none) = sides-start (o .before) .pre .1 in
     let sides = o .fill-sides .ensures b (asked-sides (t .ready)) in
     let places = p .mark-places .ensures b _ _ (places-asked t sides) (asked-formulas (t .ready) .definitions-counted) (places-room t) (no-words 608) in
     k .run .ensures b (m .list) (run-in t sides places (m .tokens-are)) (tokens-of t m) (plans-of t _ long (f .fill .ensures) none)

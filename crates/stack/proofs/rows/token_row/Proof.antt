@@ -1,7 +1,9 @@
 -- `stack::rows::token_row` meets its contract. Assumes nothing.
-use mathlib.Core.Path.{refl}
+use Prim.Native.Nat.{ℕ, _+_, _*_}
+use mathlib.Core.Path.{ap}
+use mathlib.Core.List.{List}
 use native.Mathlib.Omega.{arith}
-use lib.ListN.{length-set}
+use lib.ListN.{set, length-set}
 use borrow.Author.Needs.{needs}
 use Rattle.stack.specs.Page.{tokenStored}
 use Rattle.stack.proofs.rows.token_row.Statement.{statement}
@@ -9,6 +11,9 @@ use Rattle.stack.proofs.rows.token_row.Tie as tie
 
 mul-place : tie.Need-mul-place
 mul-place c = search needs
+
+clear-requires : tie.Need-clear-requires
+clear-requires c κs = search needs
 
 add-rows : tie.Need-add-rows
 add-rows c = search needs
@@ -42,13 +47,17 @@ same-length c = search needs
 
 returns : tie.Need-returns
 unfolding tokenStored
-returns c = refl
+returns c =
+    let a = c .before .before .before .before .before .args in
+    ap (λ (l : List ℕ). set (set (set l (10 * a .row) (64 + a .kind)) (10 * a .row + 1) (a .start)) (10 * a .row + 6) (a .value))
+    (c .before .before .clear .ensures)
 
 pub token-row-spec : {M : Type 1} → statement M
 token-row-spec =
     tie.close
     (tie.spec
     mul-place
+    clear-requires
     add-rows
     mul-rows
     slice-write-rows

@@ -6,7 +6,7 @@ use mathlib.Core.List.{List, [], _∷_, _++_, append-assoc, append-nil}
 use native.Mathlib.Omega.{arith}
 use lib.ListN.{length, set, replicate, take, drop, length-append, length-set}
 use lib.Seq.{set-at, take-at}
-use Rattle.grammar.specs.Limits.{MAX-ROWS, ROW-WORDS, PAGE-WORDS}
+use Rattle.grammar.specs.Limits.{MAX-ROWS, PAGE-WORDS}
 use Rattle.grammar.specs.Evaluator.Rows.{Row, token-row, node-row, four, words, filled, page}
 use Rattle.grammar.specs.Evaluator.RowsLaws.{filled-length}
 use Rattle.book.specs.Layout.{writeAt}

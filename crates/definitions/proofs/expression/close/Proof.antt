@@ -8,7 +8,7 @@ use lib.ListN.{length, length-set}
 use Rattle.text.specs.Rest.{rest, size}
 use Rattle.grammar.specs.Format.Expression.{Scan}
 use Rattle.definitions.specs.Expressions.{DEFINITION-WORDS, WaitsRoom}
-use Rattle.definitions.specs.ExpressionsLoop.{Working, Closed, mark-shorter, working-space, working-close}
+use Rattle.definitions.specs.ExpressionsLoop.{Working, mark-shorter, working-space, working-close}
 use borrow.Author.Needs.{needs}
 use Rattle.definitions.proofs.expression.close.Statement.{statement}
 use Rattle.definitions.proofs.expression.close.Tie as tie

@@ -1,7 +1,7 @@
 -- `expression::expression` meets its contract: each turn begins where an expression is due. Assumes nothing.
 use mathlib.Core.List.{[]}
 use mathlib.Core.Bool.{true}
-use mathlib.Core.Path.{_≡_, refl, _∙_}
+use mathlib.Core.Path.{_≡_, refl}
 use native.Mathlib.Omega.{arith}
 use lib.ListN.{length, length-set}
 use Rattle.text.specs.Rest.{rest, size}

@@ -1,5 +1,4 @@
 -- `messages::clear_behind` meets its contract. Assumes nothing.
-use native.Mathlib.Omega.{arith}
 use borrow.Author.Needs.{needs}
 use Rattle.messages.specs.Pages.{rows-end, page-cleared, page-refused}
 use Rattle.messages.proofs.messages.clear_behind.Statement.{statement}

@@ -1,5 +1,5 @@
--- What the loop over an expression keeps true: the machine at this place is the machine at the start, its steps are the nodes of the line, and its
--- waiting operators are the numbers in the array. A law for each way through the loop. Assumes nothing.
+-- What the loops over an expression keep true: the machine at this place is the machine at the start, its steps are the nodes of the line, and its
+-- waiting operators are the numbers in the array. A law for each turn of the machine. Assumes nothing.
 use Prim.Native.Nat.{ℕ, zero, suc, _+_, _*_, _-_, _≤_, _<_}
 use mathlib.Core.Path.{_≡_, refl, sym, ap, _∙_}
 use mathlib.Core.Bool.{Bool, true, false}

@@ -8,6 +8,9 @@ ghost use Rattle.stack.specs.Page.{tokenStored, nodeStored};
 use cells::cells::clear;
 use items::words::word;
 
+// Words of a row.
+const ROW_WORDS: usize = 10;
+
 // The words of `source` that the list of `owner` names, into the rows from `place` on.
 fn gather(lists: &[u32], owner: usize, source: &[u32], from: usize, rows: &mut [u32], place: usize)
     requires { ⌜ Gathers (now lists) owner (now source) from × (place + 4 ≤ length (now rows)) ⌝ }
@@ -28,8 +31,8 @@ pub fn token_row(rows: &mut [u32], row: usize, kind: u32, start: u32, value: u32
     requires { ⌜ (length (now rows) ≡ 5120) × (row < 512) × (kind < 32) ⌝ }
     ensures { λ _. ⌜ now (rows .exit) ≡ tokenStored row kind start value (now (rows .entry)) ⌝ }
 {
-    let place = 10 * row;
-    clear(rows, place, 10);
+    let place = ROW_WORDS * row;
+    clear(rows, place, ROW_WORDS);
     rows[place] = 64 + kind;
     rows[place + 1] = start;
     rows[place + 6] = value;
@@ -53,8 +56,8 @@ pub fn node_row(
     ensures { λ _. ⌜ now (rows .exit) ≡ nodeStored row rule start (gathered (now (down .entry)) owner (now (inherited .entry)) (16 * height))
         (gathered (now (up .entry)) owner (now (synthesized .entry)) (33 * height + 1)) (now (rows .entry)) ⌝ }
 {
-    let place = 10 * row;
-    clear(rows, place, 10);
+    let place = ROW_WORDS * row;
+    clear(rows, place, ROW_WORDS);
     rows[place] = rule;
     rows[place + 1] = start;
     gather(down, owner, inherited, 16 * height, rows, place + 2);

@@ -1,6 +1,7 @@
 -- `expression::expression` meets its contract: each turn begins where an expression is due. Assumes nothing.
+use Prim.Native.Nat.{_+_}
 use mathlib.Core.List.{[]}
-use mathlib.Core.Bool.{true}
+use mathlib.Core.Bool.{true, false}
 use mathlib.Core.Path.{_≡_, refl}
 use native.Mathlib.Omega.{arith}
 use lib.ListN.{length, length-set}
@@ -8,7 +9,9 @@ use Rattle.text.specs.Rest.{rest, size}
 use Rattle.grammar.specs.Format.Expression.{scan, expressionSteps}
 use Rattle.definitions.specs.Expressions.{DEFINITION-WORDS, WaitsRoom}
 use Rattle.definitions.specs.ExpressionsLoop.{
+  Working,
   Asking,
+  Closed,
   asked-whole,
   closed-asks,
   working-start,
@@ -48,6 +51,23 @@ begun-at c = left-at c .before
 
 abbrev turn-at : tie.After-close-arg2 Inv-loop μ-loop → tie.In-loop Inv-loop μ-loop
 turn-at c = begun-at c .before
+
+-- an operand is read, and then the brackets that it ends are closed
+module _ (c : tie.After-close-arg2 Inv-loop μ-loop) where
+  abbrev s : tie.Start Inv-loop μ-loop
+  s = turn-at c .before .before .before .before .before
+
+  operand : Working (s .args .text .now) (s .args .line .now) (scan true (rest (s .args .text .now) (s .args .at)) [] []) (turn-at c .before .loop .waits)
+      (turn-at c .before .loop .depth) false (begun-at c .begun .result .at) (turn-at c .before .loop .count + 1) (node-at c .put-node .last .0)
+  operand =
+      asked-whole (turn-at c .before .loop .inv .2) (turn-at c .loop-test .taken) (begun-at c .begun .ensures) (left-at c .if1 .left)
+      (node-at c .put-node .ensures)
+
+closed : (k : tie.After-close Inv-loop μ-loop)
+    → Closed (s (k .before) .args .text .now) (s (k .before) .args .line .now)
+    (scan true (rest (s (k .before) .args .text .now) (s (k .before) .args .at)) [] []) (k .close .last .1 .1 .1 .0) (k .close .result .depth)
+    (begun-at (k .before) .begun .result .at) (k .close .result .at) (k .close .result .count) (k .close .last .1 .1 .1 .1 .1 .0)
+closed k = k .close .ensures _ _ (operand (k .before))
 
 loop-holds : tie.Need-loop-holds Inv-loop μ-loop
 loop-holds c = (search needs, search needs, record { due = true; working = working-start _ _ _ _; asks = λ h. refl })
@@ -89,21 +109,10 @@ put-node-requires : tie.Need-put-node-requires Inv-loop μ-loop
 put-node-requires c κs = search needs
 
 add-close : tie.Need-add-close Inv-loop μ-loop
-add-close c =
-    let turn = turn-at c in
-    let start = turn .before .before .before .before .before in
-    omega (arith, turn .before .loop .inv .2 .working .counted, start .pre .0 .short)
+add-close c = omega (arith, turn-at c .before .loop .inv .2 .working .counted, s c .pre .0 .short)
 
 close-requires : tie.Need-close-requires Inv-loop μ-loop
-close-requires c κs =
-    let turn = turn-at c in
-    let inv = turn .before .loop .inv in
-    let start = turn .before .before .before .before .before in (
-      start .pre .0,
-      waits-room turn,
-      search needs,
-      (_, _, asked-whole (inv .2) (turn .loop-test .taken) (begun-at c .begun .ensures) (left-at c .if1 .left) (node-at c .put-node .ensures)),
-    )
+close-requires c κs = (s c .pre .0, waits-room (turn-at c), search needs, (_, _, operand c))
 
 same-length : tie.Need-same-length Inv-loop μ-loop
 same-length c = search needs
@@ -114,35 +123,21 @@ same-length-2 c = search needs
 returns : tie.Need-returns Inv-loop μ-loop
 unfolding expressionSteps
 returns c =
-    let k = c .before .before .before .before .before in
-    let a = k .before in
-    let turn = turn-at a in
-    let inv = turn .before .loop .inv in
-    let w = asked-whole (inv .2) (turn .loop-test .taken) (begun-at a .begun .ensures) (left-at a .if1 .left) (node-at a .put-node .ensures) in
-    let e = k .close .ensures _ _ w in
+    let e = closed ((c .before .before .before .before .before)) in
     working-end (e .working) (e .ends (c .if2 .taken)) (c .if2 .taken)
 
 loop-less-2 : tie.Need-loop-less-2 Inv-loop μ-loop
 loop-less-2 c =
-    let k = c .before .before .before .before .before in
-    let a = k .before in
-    let turn = turn-at a in
-    let inv = turn .before .loop .inv in
-    let w = asked-whole (inv .2) (turn .loop-test .taken) (begun-at a .begun .ensures) (left-at a .if1 .left) (node-at a .put-node .ensures) in
+    let k = (c .before .before .before .before .before) in
+    let turn = turn-at (k .before) in
     omega (
       arith,
-      begun-shorter (inv .2 .working) (turn .loop-test .taken) (begun-at a .begun .ensures),
-      k .close .ensures _ _ w .shorter,
+      begun-shorter (turn .before .loop .inv .2 .working) (turn .loop-test .taken) (begun-at (k .before) .begun .ensures),
+      closed k .shorter,
     )
 
 loop-again-2 : tie.Need-loop-again-2 Inv-loop μ-loop
-loop-again-2 c =
-    let k = c .before .before .before .before .before in
-    let a = k .before in
-    let turn = turn-at a in
-    let inv = turn .before .loop .inv in
-    let w = asked-whole (inv .2) (turn .loop-test .taken) (begun-at a .begun .ensures) (left-at a .if1 .left) (node-at a .put-node .ensures) in
-    (search needs, search needs, closed-asks (k .close .ensures _ _ w) (c .if2 .left))
+loop-again-2 c = (search needs, search needs, closed-asks (closed ((c .before .before .before .before .before))) (c .if2 .left))
 
 same-length-3 : tie.Need-same-length-3 Inv-loop μ-loop
 same-length-3 c = search needs

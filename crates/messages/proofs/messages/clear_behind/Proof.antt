@@ -1,4 +1,5 @@
 -- `messages::clear_behind` meets its contract. Assumes nothing.
+use native.Mathlib.Omega.{arith}
 use borrow.Author.Needs.{needs}
 use Rattle.messages.specs.Pages.{rows-end, page-cleared, page-refused}
 use Rattle.messages.proofs.messages.clear_behind.Statement.{statement}
@@ -20,13 +21,13 @@ sub-clear : tie.Need-sub-clear
 sub-clear c =
     let s = c .before .before .before .before in
     let (a, h) = s .pre .0 in
-    rows-end a _ _ h
+    omega (arith, rows-end a _ _ h)
 
 part-clear-start : tie.Need-part-clear-start
 part-clear-start c =
     let s = c .before .before .before .before in
     let (a, h) = s .pre .0 in
-    rows-end a _ _ h
+    omega (arith, rows-end a _ _ h)
 
 part-clear-end : tie.Need-part-clear-end
 part-clear-end c = search needs

@@ -6,15 +6,28 @@ cd "$(dirname "$0")/.."
 out=$1
 quiet="valgrind --quiet --error-exitcode=9 --leak-check=full"
 
-# The host: stores S, evaluates messages; some are refused, so it ends with 1.
-station() {
-    "$@" store bench/books/s.book "$out/s.stored"
+# A run of the host, with how it ended.
+host() {
     code=0
-    "$@" evaluate "$out/s.stored" host/messages.txt || code=$?
-    [ "$code" = 1 ] || echo "the host ended with $code"
+    "$@" 2>&1 || code=$?
+    echo "ended with $code"
+}
+
+# The host stores S and evaluates messages, some of which are refused. Then come stored books that are a byte short, a
+# byte long, and without the bytes behind the text, and a text that is a byte too long.
+station() {
+    host "$@" store bench/books/s.book "$out/s.stored"
+    host "$@" evaluate "$out/s.stored" host/messages.txt
+    head -c 65535 "$out/s.stored" > "$out/short.stored"
+    host "$@" evaluate "$out/short.stored" host/messages.txt
+    { cat "$out/s.stored"; echo; } > "$out/long.stored"
+    host "$@" evaluate "$out/long.stored" host/messages.txt
+    host "$@" evaluate bench/books/s.book host/messages.txt
+    host "$@" store "$out/long.stored" "$out/never.stored"
 }
 
 compare() {
+    sed -i "s|$out/||" "$out/report"
     diff "$1" "$out/report" || { echo "$2: another report than $1"; exit 1; }
     echo "$2: as $1"
 }

@@ -5,7 +5,8 @@
  * A message is a line of numbers with spaces between, a kind and a value for each token. An empty line is the message
  * without tokens; a line that begins with # is passed over.
  *
- * Exit codes: 0 all was taken, 1 something was refused, 2 wrong usage, 3 a file could not be read or written.
+ * Exit codes: 0 all was taken, 1 the engine refused something or a line is no message, 2 wrong usage, 3 a file could
+ * not be read or written, or a stored book has another length than it must.
  */
 #include "message_book.h"
 #include "refusals.h"
@@ -27,6 +28,7 @@ static int usage(FILE *out)
           "  station refusals                      what the refusal numbers mean\n"
           "\n"
           "A message is a line of numbers, a kind and a value for each token: 1 100 2 5 2 7\n"
+          "STORED is a file of 65536 bytes; of another length, it is not used.\n"
           "Exit codes: 0 all taken, 1 something refused, 2 usage, 3 files\n",
           out);
     return out == stdout ? FINE : USAGE;
@@ -38,37 +40,55 @@ static int file_trouble(const char *path)
     return FILES;
 }
 
-/* At most `room` bytes of a file; whether it could be read. */
+static int wrong_length(const char *path, size_t length)
+{
+    fprintf(stderr, "station: %s: no stored book: it has %zu bytes and should have %d\n", path, length, STORED_BYTES);
+    return FILES;
+}
+
+/* The next byte, or EOF. A read that a signal interrupts is tried again. */
+static int read_byte(FILE *in)
+{
+    int byte = getc(in);
+    while (byte == EOF && ferror(in) && errno == EINTR) {
+        clearerr(in);
+        byte = getc(in);
+    }
+    return byte;
+}
+
+/* The first `room` bytes of a file, and how many it has; whether it could be read. */
 static bool load(const char *path, uint8_t *bytes, size_t room, size_t *length)
 {
     FILE *file = fopen(path, "rb");
     if (file == NULL)
         return false;
-    *length = fread(bytes, 1, room, file);
+    *length = 0;
+    for (int byte; (byte = read_byte(file)) != EOF; ++*length)
+        if (*length < room)
+            bytes[*length] = (uint8_t)byte;
     bool fine = ferror(file) == 0;
     return fclose(file) == 0 && fine;
 }
 
-/* Words as bytes, lowest first, and back. Bytes that are missing in the last word are zero. */
-static void to_bytes(const uint32_t *words, size_t count, uint8_t *bytes)
+/* The words of a stored book as bytes, lowest first, and back. */
+static void to_bytes(const uint32_t *words, uint8_t *bytes)
 {
-    for (size_t i = 0; i < 4 * count; i++)
+    for (size_t i = 0; i < STORED_BYTES; i++)
         bytes[i] = (uint8_t)(words[i / 4] >> 8 * (i % 4));
 }
 
-static size_t to_words(const uint8_t *bytes, size_t length, uint32_t *words)
+static void to_words(const uint8_t *bytes, uint32_t *words)
 {
-    size_t count = (length + 3) / 4;
-    memset(words, 0, count * sizeof *words);
-    for (size_t i = 0; i < length; i++)
+    memset(words, 0, STORED_BYTES);
+    for (size_t i = 0; i < STORED_BYTES; i++)
         words[i / 4] |= (uint32_t)bytes[i] << 8 * (i % 4);
-    return count;
 }
 
 static bool save(const char *path, const uint32_t *words)
 {
     static uint8_t bytes[STORED_BYTES];
-    to_bytes(words, MESSAGE_BOOK_WORDS, bytes);
+    to_bytes(words, bytes);
     FILE *file = fopen(path, "wb");
     if (file == NULL)
         return false;
@@ -76,6 +96,7 @@ static bool save(const char *path, const uint32_t *words)
     return fclose(file) == 0 && fine;
 }
 
+/* Of a text that is too long, the engine is given one byte more than a text may have: it refuses that. */
 static int store(const char *book, const char *stored)
 {
     static uint8_t text[MESSAGE_BOOK_TEXT_BYTES + 1];
@@ -83,7 +104,8 @@ static int store(const char *book, const char *stored)
     size_t length;
     if (!load(book, text, sizeof text, &length))
         return file_trouble(book);
-    uint32_t answer = message_book_read(text, length, words, MESSAGE_BOOK_WORDS);
+    size_t given = length < sizeof text ? length : sizeof text;
+    uint32_t answer = message_book_read(text, given, words, MESSAGE_BOOK_WORDS);
     if (answer != MESSAGE_BOOK_TAKEN) {
         printf("%s: refused (%u): %s\n", book, answer, refusal_in_words(answer));
         return REFUSED;
@@ -104,14 +126,14 @@ enum line { MESSAGE, COMMENT, GARBLED, NO_LINE };
 
 static int next_byte(FILE *in)
 {
-    int byte = getc(in);
+    int byte = read_byte(in);
     return byte == '\r' ? ' ' : byte;
 }
 
 static void skip_line(FILE *in, int byte)
 {
     while (byte != '\n' && byte != EOF)
-        byte = getc(in);
+        byte = read_byte(in);
 }
 
 /* A number that begins with `byte`; hands back the byte behind it. */
@@ -133,6 +155,7 @@ static void put_number(struct message *m, uint32_t number)
         m->number[m->length++] = number;
 }
 
+/* A message that cannot be read to its end is none. */
 static enum line read_message(FILE *in, struct message *m)
 {
     int byte = next_byte(in);
@@ -157,7 +180,7 @@ static enum line read_message(FILE *in, struct message *m)
         }
         put_number(m, (uint32_t)number);
     }
-    return MESSAGE;
+    return byte == EOF && ferror(in) ? NO_LINE : MESSAGE;
 }
 
 /* Four values, with spaces between, in `text`. */
@@ -192,12 +215,12 @@ static void print_rows(unsigned line, const struct message *m, const uint32_t *r
         print_row(i, rows + (size_t)i * MESSAGE_BOOK_ROW);
 }
 
-static int evaluate_message(unsigned line, const uint32_t *words, size_t words_length, const struct message *m)
+static int evaluate_message(unsigned line, const uint32_t *words, const struct message *m)
 {
     static uint32_t rows[MESSAGE_BOOK_ROW_WORDS];
     uint32_t count;
     uint32_t answer =
-        message_book_evaluate(words, words_length, m->number, m->length, rows, MESSAGE_BOOK_ROW_WORDS, &count);
+        message_book_evaluate(words, MESSAGE_BOOK_WORDS, m->number, m->length, rows, MESSAGE_BOOK_ROW_WORDS, &count);
     if (answer != MESSAGE_BOOK_TAKEN) {
         printf("line %u: refused (%u): %s\n", line, answer, refusal_in_words(answer));
         return REFUSED;
@@ -206,7 +229,7 @@ static int evaluate_message(unsigned line, const uint32_t *words, size_t words_l
     return FINE;
 }
 
-static int evaluate_lines(FILE *in, const uint32_t *words, size_t words_length)
+static int evaluate_lines(FILE *in, const char *path, const uint32_t *words)
 {
     static struct message m;
     int code = FINE;
@@ -215,25 +238,27 @@ static int evaluate_lines(FILE *in, const uint32_t *words, size_t words_length)
         if (line == GARBLED) {
             printf("line %u: no message: a line has numbers up to 4294967295 and spaces\n", number);
             code = REFUSED;
-        } else if (line == MESSAGE && evaluate_message(number, words, words_length, &m) != FINE) {
+        } else if (line == MESSAGE && evaluate_message(number, words, &m) != FINE) {
             code = REFUSED;
         }
     }
-    return ferror(in) ? FILES : code;
+    return ferror(in) ? file_trouble(path) : code;
 }
 
 static int evaluate(const char *stored, const char *messages)
 {
-    static uint8_t bytes[STORED_BYTES + 4];
-    static uint32_t words[MESSAGE_BOOK_WORDS + 1];
+    static uint8_t bytes[STORED_BYTES];
+    static uint32_t words[MESSAGE_BOOK_WORDS];
     size_t length;
     if (!load(stored, bytes, sizeof bytes, &length))
         return file_trouble(stored);
-    size_t count = to_words(bytes, length, words);
+    if (length != sizeof bytes)
+        return wrong_length(stored, length);
+    to_words(bytes, words);
     FILE *in = messages == NULL ? stdin : fopen(messages, "rb");
     if (in == NULL)
         return file_trouble(messages);
-    int code = evaluate_lines(in, words, count);
+    int code = evaluate_lines(in, messages == NULL ? "standard input" : messages, words);
     if (messages != NULL)
         fclose(in);
     return code;
@@ -246,7 +271,7 @@ static int list_refusals(void)
     return FINE;
 }
 
-int main(int argc, char **argv)
+static int run(int argc, char **argv)
 {
     const char *command = argc > 1 ? argv[1] : "";
     if (strcmp(command, "store") == 0 && argc == 4)
@@ -256,4 +281,11 @@ int main(int argc, char **argv)
     if (strcmp(command, "refusals") == 0 && argc == 2)
         return list_refusals();
     return usage(strcmp(command, "help") == 0 ? stdout : stderr);
+}
+
+/* Figures that cannot be written are told too. */
+int main(int argc, char **argv)
+{
+    int code = run(argc, argv);
+    return fflush(stdout) != 0 || ferror(stdout) ? file_trouble("standard output") : code;
 }

@@ -37,7 +37,7 @@ differ: $(OUT)/differ
 stack: $(OUT)/stack
 	$< bench/books
 conformance: $(OUT)/conformance
-	$< crates/vectors/data/*.txt
+	$< tests/vectors/*.txt
 prologues: target/staticlib/libengine.a
 	python3 tests/check_prologues.py $< $(wildcard target/bin/*)
 

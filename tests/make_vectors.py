@@ -1,5 +1,5 @@
 #!/usr/bin/env python3
-"""Makes the stored cases in crates/vectors/data; the same seed gives the same bytes. Run: python3 tests/make_vectors.py [--seed N]"""
+"""Makes the stored cases in tests/vectors; the same seed gives the same bytes. Run: python3 tests/make_vectors.py [--seed N]"""
 
 import argparse
 import random
@@ -8,7 +8,7 @@ from collections import Counter
 from cases import TESTS, alike, damaged, limits, messages, named, neighbours, readings, sizes, slips
 from cases.group import Group
 
-DATA = TESTS.parent / "crates" / "vectors" / "data"
+DATA = TESTS / "vectors"
 GROUPS = {
     "named": named,
     "readings": readings,

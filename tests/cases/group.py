@@ -1,4 +1,4 @@
-"""A file of stored cases while it is made (the format is told in crates/vectors/data/README.md), and reading such files."""
+"""A file of stored cases while it is made (the format is told in tests/vectors/README.md), and reading such files."""
 
 import re
 from collections import Counter

@@ -4,9 +4,9 @@
  *     conformance FILE..
  *
  * A case is an input of document 01's desk program, a book and (tok kind value) lines, with what must be printed; the
- * format of the files is told in crates/vectors/data/README.md. This program is the desk program over the engine's two
- * calls. Beside the printed answer it checks every word that it lends: on a refusal all are 0, a taken book's words are
- * its text, rows end in zeros, and the guard words around them are not touched.
+ * format of the files is told in tests/vectors/README.md. This program is the desk program over the engine's two calls.
+ * Beside the printed answer it checks every word that it lends: on a refusal all are 0, a taken book's words are its
+ * text, rows end in zeros, and the guard words around them are not touched.
  *
  * Exit codes: 0 all cases passed, 1 some failed, 2 usage or a file that is no file of cases.
  */

@@ -1,8 +1,8 @@
 /*
  * The two calls at their borders: wrong lengths, odd numbers of tokens, damaged words, nothing at all, one past the
  * limits. Every trial is run four times, with the lent memory at either fence (fence.h) and with two fillings, and must
- * come out the same: a result that is left unwritten shows. The report is fixed by document 01; host/trials.expected
- * has it.
+ * come out the same: a result that is left unwritten shows. Sweeps over cut and changed texts and words run each trial
+ * once and count the answers by number. The report is fixed by document 01; host/trials.expected has it.
  *
  * Exit codes: 0 the calls kept to their memory, 1 they did not or answered in two ways.
  */
@@ -374,6 +374,80 @@ static void damaged_texts(size_t step)
     print_tally("text of S, a bit changed", &changed);
 }
 
+/* A text as long as S is read and its number counted. So many are read that they share one lent result. */
+static void count_text(struct tally *t, const char *name, const uint8_t *text)
+{
+    static uint32_t words[MESSAGE_BOOK_WORDS];
+    static const uint32_t nothing[MESSAGE_BOOK_WORDS];
+    memset(words, 0xa5, sizeof words);
+    uint32_t answer = message_book_read(text, strlen(S), words, MESSAGE_BOOK_WORDS);
+    count_outcome(t, name, (struct outcome){answer, 0, memcmp(words, nothing, sizeof words) == 0, 0});
+}
+
+/* S with another byte at one place: every byte at every place. */
+static void changed_bytes(size_t step)
+{
+    static uint8_t text[sizeof S];
+    struct tally changed = {{0}};
+    memcpy(text, S, sizeof S);
+    for (size_t change = 0; change < 255 * strlen(S); change += step) {
+        size_t place = change / 255;
+        text[place] = (uint8_t)((uint8_t)S[place] + 1 + change % 255);
+        count_text(&changed, "byte changed", text);
+        text[place] = (uint8_t)S[place];
+    }
+    print_tally("text of S, a byte changed", &changed);
+}
+
+/* The next digit, 0 after 9. */
+static uint8_t raised(char digit)
+{
+    return digit == '9' ? '0' : (uint8_t)(digit + 1);
+}
+
+static bool is_digit(char byte)
+{
+    return byte >= '0' && byte <= '9';
+}
+
+/* S with two digits raised: every two. */
+static void raised_digits(size_t step)
+{
+    static uint8_t text[sizeof S];
+    struct tally pairs = {{0}};
+    memcpy(text, S, sizeof S);
+    for (size_t pair = 0; pair < strlen(S) * strlen(S); pair += step) {
+        size_t one = pair / strlen(S), other = pair % strlen(S);
+        if (other >= one || !is_digit(S[one]) || !is_digit(S[other]))
+            continue;
+        text[one] = raised(S[one]);
+        text[other] = raised(S[other]);
+        count_text(&pairs, "two digits raised", text);
+        text[one] = (uint8_t)S[one];
+        text[other] = (uint8_t)S[other];
+    }
+    print_tally("text of S, two digits raised", &pairs);
+}
+
+/* S up to a place, and then its bytes in an order that follows no rule. */
+static void random_tails(size_t step)
+{
+    static uint8_t text[sizeof S];
+    struct tally tails = {{0}};
+    uint32_t seed = 1;
+    for (size_t turn = 0; turn < 10000; turn += step) {
+        memcpy(text, S, sizeof S);
+        for (size_t place = turn % strlen(S); place < strlen(S); place++) {
+            seed ^= seed << 13;
+            seed ^= seed >> 17;
+            seed ^= seed << 5;
+            text[place] = (uint8_t)S[seed % strlen(S)];
+        }
+        count_text(&tails, "random tail", text);
+    }
+    print_tally("text of S, another tail", &tails);
+}
+
 int main(int argc, char **argv)
 {
     size_t step = argc > 1 ? (size_t)atoi(argv[1]) : 1;
@@ -388,6 +462,9 @@ int main(int argc, char **argv)
     words_of_no_book();
     damaged_words(step);
     damaged_texts(step);
+    changed_bytes(step);
+    raised_digits(step);
+    random_tails(step);
     puts(kept ? "all calls kept to their memory" : "A CALL WENT WRONG");
     return kept ? 0 : 1;
 }

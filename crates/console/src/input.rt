@@ -16,7 +16,7 @@ use book::Book;
 use book::spelling::closing;
 use book::spelling::end_line;
 use book::store::put_line;
-use lines::opening;
+use lines::line_head;
 
 // The word of a token line, as a number in base 32: a is 1, z is 26.
 const TOK: u32 = (20 * 32 + 15) * 32 + 11;
@@ -62,7 +62,7 @@ fn token_line(t: &[u8; 256], line: &[u8]) -> TokenRead
     requires { ⌜ Lent (now t) (now line) ⌝ }
     ensures { λ r. ⌜ tokenOf (now (line .entry)) ≡ whenSpelled (r .spelled) (r .kind ∷ r .value ∷ []) ⌝ }
 {
-    let a = opening(t, line, 0, TOK);
+    let a = line_head(t, line, 0, TOK, b"(tok ");
     let kind = text::number(t, line, a);
     let b = text::mark(t, line, kind.at, text::SPACE);
     let value = text::number(t, line, b);

@@ -56,6 +56,10 @@ pub kernel-head : Head (wordOf "kernel") (40 ∷ 107 ∷ 101 ∷ 114 ∷ 110 ∷
 unfolding reading
 kernel-head = record { few = omega arith; short = omega arith; opens = λ r. refl }
 
+pub token-head : Head (wordOf "tok") (40 ∷ 116 ∷ 111 ∷ 107 ∷ 32 ∷ [])
+unfolding reading
+token-head = record { few = omega arith; short = omega arith; opens = λ r. refl }
+
 pub go-head : Head (wordOf "go") (40 ∷ 103 ∷ 111 ∷ 32 ∷ [])
 unfolding reading
 go-head = record { few = omega arith; short = omega arith; opens = λ r. refl }

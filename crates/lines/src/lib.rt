@@ -1,4 +1,5 @@
-// The line reader: it carries the lent text along with its position. Thin functions over it, each a call on slice and number.
+// The line reader: it carries the lent text along with its position, and every line is opened through it. The functions over it are thin; the core, `past_head`,
+// is on slice and number.
 ghost use mathlib.Core.Path.{_≡_};
 ghost use mathlib.Core.Bool.{true};
 ghost use Prim.Native.Nat.{_+_, _*_, _≤_};
@@ -13,7 +14,7 @@ pub struct LineReader<'a> {
     pub at: usize,
 }
 
-// `(word ` at a position of a text.
+// `(word ` at a position of a text, by its parts.
 fn head(t: &[u8; 256], text: &[u8], at: usize, word: u32) -> usize
     requires { ⌜ Lent (now t) (now text) ⌝ }
     ensures { λ r. ⌜ rest (now (text .entry)) r ≡ opening word (rest (now (text .entry)) at) ⌝ }
@@ -21,29 +22,6 @@ fn head(t: &[u8; 256], text: &[u8], at: usize, word: u32) -> usize
     let a = text::mark(t, text, at, text::OPEN);
     let b = text::keyword(t, text, a, word);
     text::mark(t, text, b, text::SPACE)
-}
-
-// The reader at a position.
-pub fn line_at<'a>(text: &'a [u8], at: usize) -> LineReader<'a>
-    ensures { λ r. ⌜ (r .text ≡ text .entry) × (r .at ≡ at) ⌝ }
-{
-    LineReader { text, at }
-}
-
-// Past `(word ` where the reader stands.
-pub fn open<'t, 'a>(t: &'t [u8; 256], line: LineReader<'a>, word: u32) -> usize
-    requires { ⌜ Lent (now t) (now (line .text)) ⌝ }
-    ensures { λ r. ⌜ rest (now (line .entry .text)) r ≡ opening word (rest (now (line .entry .text)) (line .entry .at)) ⌝ }
-{
-    head(t, line.text, line.at, word)
-}
-
-// `(word ` at the beginning of a line.
-pub fn opening(t: &[u8; 256], text: &[u8], at: usize, word: u32) -> usize
-    requires { ⌜ Lent (now t) (now text) ⌝ }
-    ensures { λ r. ⌜ rest (now (text .entry)) r ≡ opening word (rest (now (text .entry)) at) ⌝ }
-{
-    open(t, line_at(text, at), word)
 }
 
 // Four bytes as one number, which compilers load as one.
@@ -68,24 +46,55 @@ fn same_four(text: &[u8], at: usize, bytes: &[u8], from: usize) -> bool
     x == y
 }
 
-// `(word ` at the beginning of a line, whose bytes are given: they are compared at once, and what is something else is read by its parts.
+// `(word ` at a position of a text: the bytes that it has are compared at once, and what is something else is read by its parts.
+fn past_head(t: &[u8; 256], text: &[u8], at: usize, word: u32, bytes: &[u8]) -> usize
+    requires { ⌜ Lent (now t) (now text) × Head word (now bytes) ⌝ }
+    ensures { λ r. ⌜ rest (now (text .entry)) r ≡ opening word (rest (now (text .entry)) at) ⌝ }
+{
+    let n = text.len();
+    let m = bytes.len();
+    if n < m {
+        return head(t, text, at, word);
+    }
+    if n - m < at {
+        return head(t, text, at, word);
+    }
+    if !same_four(text, at, bytes, 0) {
+        return head(t, text, at, word);
+    }
+    if !same_four(text, at + m - 4, bytes, m - 4) {
+        return head(t, text, at, word);
+    }
+    at + m
+}
+
+// The reader at a position.
+pub fn line_at<'a>(text: &'a [u8], at: usize) -> LineReader<'a>
+    ensures { λ r. ⌜ (r .text ≡ text .entry) × (r .at ≡ at) ⌝ }
+{
+    LineReader { text, at }
+}
+
+// The reader past `(word ` where it stands.
+pub fn open<'t, 'a, 'h>(
+    t: &'t [u8; 256],
+    line: LineReader<'a>,
+    word: u32,
+    head: &'h [u8],
+) -> LineReader<'a>
+    requires { ⌜ Lent (now t) (now (line .text)) × Head word (now head) ⌝ }
+    ensures { λ r. ⌜ (r .text ≡ line .entry .text)
+        × (rest (now (line .entry .text)) (r .at) ≡ opening word (rest (now (line .entry .text)) (line .entry .at))) ⌝ }
+{
+    let text = line.text;
+    let at = past_head(t, text, line.at, word, head);
+    LineReader { text, at }
+}
+
+// `(word ` at the beginning of a line: the reader is made there and opens it, and its position is the answer.
 pub fn line_head(t: &[u8; 256], text: &[u8], at: usize, word: u32, head: &[u8]) -> usize
     requires { ⌜ Lent (now t) (now text) × Head word (now head) ⌝ }
     ensures { λ r. ⌜ rest (now (text .entry)) r ≡ opening word (rest (now (text .entry)) at) ⌝ }
 {
-    let n = text.len();
-    let m = head.len();
-    if n < m {
-        return opening(t, text, at, word);
-    }
-    if n - m < at {
-        return opening(t, text, at, word);
-    }
-    if !same_four(text, at, head, 0) {
-        return opening(t, text, at, word);
-    }
-    if !same_four(text, at + m - 4, head, m - 4) {
-        return opening(t, text, at, word);
-    }
-    at + m
+    open(t, line_at(text, at), word, head).at
 }

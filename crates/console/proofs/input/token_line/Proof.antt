@@ -1,11 +1,16 @@
 use Rattle.console.specs.Lines.{token-steps}
 use Rattle.text.specs.Numeral.{spelled}
+use Rattle.lines.specs.Heads.{token-head}
 use borrow.Author.Needs.{needs}
 use Rattle.console.proofs.input.token_line.Statement.{statement}
 use Rattle.console.proofs.input.token_line.Tie as tie
 
-opening-requires : tie.Need-opening-requires
-opening-requires c κs = search needs
+slice-aggregate-line-head : tie.Need-slice-aggregate-line-head
+slice-aggregate-line-head c = search needs
+
+line-head-requires : tie.Need-line-head-requires
+unfolding spelled
+line-head-requires c κs = (search needs, token-head)
 
 number-requires : tie.Need-number-requires
 number-requires c κs = search needs
@@ -22,14 +27,15 @@ closing-requires c κs = search needs
 returns : tie.Need-returns
 unfolding spelled
 returns c =
-    token-steps _ _ (c .before .before .before .before .opening .ensures) (c .before .before .before .number .ensures)
+    token-steps _ _ (c .before .before .before .before .line-head .ensures) (c .before .before .before .number .ensures)
     (c .before .before .mark .ensures) (c .before .number2 .ensures) (c .closing .ensures)
 
 pub token-line-spec : {M : Type 1} → statement M
 token-line-spec =
     tie.close
     (tie.spec
-    opening-requires
+    slice-aggregate-line-head
+    line-head-requires
     number-requires
     mark-requires
     number-requires-2

@@ -18,21 +18,6 @@ countsOf b = record {
   goes = length (b .goes);
 }
 
--- of a book of which nothing is read yet
-abbrev pub nothing : Book
-nothing = record {
-  terminals = 0;
-  nonterminals = 0;
-  states = 0;
-  inherited = 0;
-  synthesized = 0;
-  rules = 0;
-  «inherited_definitions» = 0;
-  «synthesized_definitions» = 0;
-  kernels = 0;
-  goes = 0;
-}
-
 -- opens every definition of this module
 unfoldable pub opens : Unit {0}
 unfolding countsOf

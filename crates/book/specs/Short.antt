@@ -29,8 +29,8 @@ pub record Brief (text : List ℕ) (at number next : ℕ) : Type 0 where
   pub reads : 0 < next → Reads decimal text at number next
 
 -- position 0 says nothing
-pub brief-none : (text : List ℕ) (at number : ℕ) → Brief text at number 0
-brief-none text at number = record { near = omega arith; written = λ h. absurd (omega arith); reads = λ h. absurd (omega arith) }
+pub brief-none : (text : List ℕ) (at number : ℕ) {next : ℕ} → next ≡ 0 → Brief text at number next
+brief-none text at number e = record { near = omega arith; written = λ h. absurd (omega arith); reads = λ h. absurd (omega arith) }
 
 -- the digits, one after another
 pub one-written : (b : ℕ) (r : List ℕ) → classOf b ≡ digit → write decimal (b - 48) r ≡ b ∷ r

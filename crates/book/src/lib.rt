@@ -10,7 +10,6 @@ pub mod store;
 pub mod symbol;
 
 ghost use mathlib.Core.Path.{_≡_};
-ghost use Rattle.book.specs.Counts.{nothing};
 ghost use Rattle.book.specs.Rooms.{fullRoom};
 
 // The lines of one kind: how many there are, and where the text goes on.
@@ -94,21 +93,14 @@ impl Book {
 
     pub const BOOK_WORDS: usize = 16384;
 
-    // A book of which nothing is read yet.
-    pub fn empty() -> Self
-        ensures { λ r. ⌜ r ≡ nothing ⌝ }
-    {
-        Book {
-            terminals: 0,
-            nonterminals: 0,
-            states: 0,
-            inherited: 0,
-            synthesized: 0,
-            rules: 0,
-            inherited_definitions: 0,
-            synthesized_definitions: 0,
-            kernels: 0,
-            goes: 0,
-        }
-    }
+    // Tokens of a message, rows, words of a row and of all rows, symbols on the stack.
+    pub const MAX_TOKENS: usize = 255;
+
+    pub const MAX_ROWS: usize = 512;
+
+    pub const ROW_WORDS: usize = 10;
+
+    pub const PAGE_WORDS: usize = 5120;
+
+    pub const MAX_STACK: usize = 128;
 }

@@ -44,24 +44,24 @@ fn short_owner(t: &[u8; 256], text: &[u8], at: usize, letter: u32, k: u32) -> Cu
 {
     let n = text.len();
     if n < 11 {
-        return Cursor { value: 0, at: 0 };
+        return Cursor::new();
     }
     if n - 11 < at {
-        return Cursor { value: 0, at: 0 };
+        return Cursor::new();
     }
     if text[at] as u32 != letter + 96 {
-        return Cursor { value: 0, at: 0 };
+        return Cursor::new();
     }
     let number = short(t, text, at + 1);
     let a = number.at;
     if a == 0 {
-        return Cursor { value: 0, at: 0 };
+        return Cursor::new();
     }
     if (text[a] == b' ') & (text[a + 1] == b'n') & (number.value == k) {
         let read = short(t, text, a + 2);
         let b = read.at;
         if b == 0 {
-            return Cursor { value: 0, at: 0 };
+            return Cursor::new();
         }
         if (text[b] == b')') & (text[b + 1] == b'\n') {
             return Cursor {
@@ -69,9 +69,8 @@ fn short_owner(t: &[u8; 256], text: &[u8], at: usize, letter: u32, k: u32) -> Cu
                 at: b + 2,
             };
         }
-        return Cursor { value: 0, at: 0 };
     }
-    Cursor { value: 0, at: 0 }
+    Cursor::new()
 }
 
 fn owner(t: &[u8; 256], text: &[u8], at: usize, letter: u32, k: u32) -> Cursor

@@ -54,20 +54,20 @@ fn short_left(t: &[u8; 256], text: &[u8], at: usize, k: u32) -> Cursor
 {
     let n = text.len();
     if n < 9 {
-        return Cursor { value: 0, at: 0 };
+        return Cursor::new();
     }
     if n - 9 < at {
-        return Cursor { value: 0, at: 0 };
+        return Cursor::new();
     }
     let number = short(t, text, at);
     let a = number.at;
     if a == 0 {
-        return Cursor { value: 0, at: 0 };
+        return Cursor::new();
     }
     if (text[a] == b' ') & (text[a + 1] == b'n') & (number.value == k) {
         return short(t, text, a + 2);
     }
-    Cursor { value: 0, at: 0 }
+    Cursor::new()
 }
 
 fn left_side(t: &[u8; 256], text: &[u8], at: usize, k: u32) -> Cursor

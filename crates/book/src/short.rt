@@ -12,7 +12,7 @@ pub fn short(t: &[u8; 256], text: &[u8], at: usize) -> Cursor
 {
     let x = text[at];
     if text::class(t, x) != text::DIGIT {
-        return Cursor { value: 0, at: 0 };
+        return Cursor::new();
     }
     let y = text[at + 1];
     if text::class(t, y) != text::DIGIT {
@@ -22,7 +22,7 @@ pub fn short(t: &[u8; 256], text: &[u8], at: usize) -> Cursor
         };
     }
     if x == b'0' {
-        return Cursor { value: 0, at: 0 };
+        return Cursor::new();
     }
     let z = text[at + 2];
     if text::class(t, z) != text::DIGIT {
@@ -32,7 +32,7 @@ pub fn short(t: &[u8; 256], text: &[u8], at: usize) -> Cursor
         };
     }
     if text::class(t, text[at + 3]) == text::DIGIT {
-        return Cursor { value: 0, at: 0 };
+        return Cursor::new();
     }
     Cursor {
         value: (x as u32 * 10 + y as u32) * 10 + z as u32 - 5328,

@@ -111,14 +111,16 @@ fn nodes_within(definitions: &[u32], n: usize) -> bool
     true
 }
 
-// Whether no state has too many kernel lines. Since the states ascend, one that has more stands in two lines 16 places apart.
+// Whether no state has too many kernel lines. Since the states ascend, one that has more stands in two lines that are as many places
+// apart as it may have.
 fn states_within(kernels: &[u32], n: usize) -> bool
     requires { ⌜ Some (KernelLines (now kernels) n) ⌝ }
     ensures { λ r. ⌜ Answers (KernelLines (now (kernels .entry)) n) statesWithin r ⌝ }
 {
+    let most = Book::MAX_STATE_KERNELS as usize;
     let mut i = 0;
-    while i + 16 < n {
-        if kernels[5 * i] == kernels[5 * (i + 16)] {
+    while i + most < n {
+        if kernels[5 * i] == kernels[5 * (i + most)] {
             return false;
         }
         i += 1;
@@ -142,7 +144,8 @@ fn lines_within(
 {
     let i = book.inherited as usize;
     let s = book.synthesized as usize;
-    let owners = few(&inherited[..i], 4) & few(&synthesized[..s], 4);
+    let owners = few(&inherited[..i], Book::MAX_OWNED as u8)
+        & few(&synthesized[..s], Book::MAX_OWNED as u8);
     let n = book.inherited_definitions as usize + book.synthesized_definitions as usize;
     owners
         & rights_within(rules, book.rules as usize)

@@ -28,5 +28,5 @@ pub fn ended(t: &[u8; 256], text: &[u8], at: usize, stop: u8) -> Cursor
             };
         }
     }
-    Cursor { value: 0, at: 0 }
+    Cursor::new()
 }

@@ -34,8 +34,8 @@ pub record Nearby (text : List ℕ) (at number next : ℕ) : Type 0 where
   pub inside : 0 < next → next < length text
   pub names : 0 < next → Names text at (at + 2) number next
 
-pub nearby-none : (text : List ℕ) (at number : ℕ) → Nearby text at number 0
-nearby-none text at number = record { begins = λ h. absurd (omega arith); inside = λ h. absurd (omega arith); names = λ h. absurd (omega arith) }
+pub nearby-none : (text : List ℕ) (at number : ℕ) {next : ℕ} → next ≡ 0 → Nearby text at number next
+nearby-none text at number e = record { begins = λ h. absurd (omega arith); inside = λ h. absurd (omega arith); names = λ h. absurd (omega arith) }
 
 -- a space, `t` and a short number
 module _ {text : List ℕ} (at : ℕ) {number next : ℕ} (long : at + 6 ≤ length text) (brief : Brief text (at + 2) number next) where

@@ -34,13 +34,13 @@ pub fn short_lookahead(t: &[u8; 256], text: &[u8], at: usize) -> Cursor
 {
     let n = text.len();
     if n < 6 {
-        return Cursor { value: 0, at: 0 };
+        return Cursor::new();
     }
     if n - 6 < at {
-        return Cursor { value: 0, at: 0 };
+        return Cursor::new();
     }
     if (text[at] == b' ') & (text[at + 1] == b't') {
         return short(t, text, at + 2);
     }
-    Cursor { value: 0, at: 0 }
+    Cursor::new()
 }

@@ -44,7 +44,7 @@ pub struct Cursor {
 }
 
 impl Cursor {
-    // At the beginning of a text, with nothing read.
+    // Nothing is read: number 0, position 0.
     pub fn new() -> Self
         ensures { λ r. ⌜ (r .value ≡ 0) × (r .at ≡ 0) ⌝ }
     {
@@ -90,6 +90,9 @@ pub fn require(t: &[u8; 256], text: &[u8], at: usize, fine: bool) -> usize
     }
     text.len() + 1 + class(t, 0) as usize
 }
+
+// How many numbers a word of 32 bits holds.
+pub const NUMBERS: u64 = 4294967296;
 
 // A way of writing numbers: the class of its digits, the byte of the digit 0, the base, and the largest number.
 pub struct Notation {
@@ -180,7 +183,7 @@ pub fn number(t: &[u8; 256], text: &[u8], at: usize) -> Cursor
         class: DIGIT,
         zero: 48,
         base: 10,
-        limit: 4294967295,
+        limit: NUMBERS - 1,
     };
     numeral(t, text, s, at)
 }

@@ -7,11 +7,17 @@ use borrow.Author.Needs.{needs}
 use Rattle.book.proofs.owners.short_owner.Statement.{statement}
 use Rattle.book.proofs.owners.short_owner.Tie as tie
 
+new-requires : tie.Need-new-requires
+new-requires c κs = search needs
+
 returns : tie.Need-returns
-returns c = λ some. absurd (omega arith)
+returns c = λ some. absurd (omega (arith, c .new .ensures .1))
+
+new-requires-2 : tie.Need-new-requires-2
+new-requires-2 c κs = search needs
 
 returns-2 : tie.Need-returns-2
-returns-2 c = λ some. absurd (omega arith)
+returns-2 c = λ some. absurd (omega (arith, c .new2 .ensures .1))
 
 shared-slice-read-if3 : tie.Need-shared-slice-read-if3
 shared-slice-read-if3 c = search needs
@@ -22,8 +28,11 @@ cast-if3 c = omega (arith, c .shared-slice-known2 .given (c .before .before .bef
 add-if3 : tie.Need-add-if3
 add-if3 c = omega (arith, letter-range _ (c .before .before .before .before .pre .1))
 
+new-requires-3 : tie.Need-new-requires-3
+new-requires-3 c κs = search needs
+
 returns-3 : tie.Need-returns-3
-returns-3 c = λ some. absurd (omega arith)
+returns-3 c = λ some. absurd (omega (arith, c .new3 .ensures .1))
 
 add-short : tie.Need-add-short
 add-short c = search needs
@@ -31,8 +40,11 @@ add-short c = search needs
 short-requires : tie.Need-short-requires
 short-requires c κs = search needs
 
+new-requires-4 : tie.Need-new-requires-4
+new-requires-4 c κs = search needs
+
 returns-4 : tie.Need-returns-4
-returns-4 c = λ some. absurd (omega arith)
+returns-4 c = λ some. absurd (omega (arith, c .new4 .ensures .1))
 
 shared-slice-read-if5 : tie.Need-shared-slice-read-if5
 shared-slice-read-if5 c = search needs
@@ -49,8 +61,11 @@ add-short-2 c = search needs
 short-requires-2 : tie.Need-short-requires-2
 short-requires-2 c κs = search needs
 
+new-requires-5 : tie.Need-new-requires-5
+new-requires-5 c κs = search needs
+
 returns-5 : tie.Need-returns-5
-returns-5 c = λ some. absurd (omega arith)
+returns-5 c = λ some. absurd (omega (arith, c .new5 .ensures .1))
 
 shared-slice-read-if7 : tie.Need-shared-slice-read-if7
 shared-slice-read-if7 c = search needs
@@ -80,35 +95,40 @@ returns-6 c =
     (omega (arith, second .if6 .left)))
     (end-at _ _ (omega (arith, room .if2 .left, short .near, left .short2 .ensures .near)) (c .if7 .taken))
 
-returns-7 : tie.Need-returns-7
-returns-7 c = λ some. absurd (omega arith)
+new-requires-6 : tie.Need-new-requires-6
+new-requires-6 c κs = search needs
 
-returns-8 : tie.Need-returns-8
-returns-8 c = λ some. absurd (omega arith)
+returns-7 : tie.Need-returns-7
+returns-7 c = λ some. absurd (omega (arith, c .new6 .ensures .1))
 
 pub short-owner-spec : {M : Type 1} → statement M
 short-owner-spec =
     tie.close
     (tie.spec
+    new-requires
     returns
+    new-requires-2
     returns-2
     shared-slice-read-if3
     cast-if3
     add-if3
+    new-requires-3
     returns-3
     add-short
     short-requires
+    new-requires-4
     returns-4
     shared-slice-read-if5
     add-if5
     shared-slice-read-if5-2
     add-short-2
     short-requires-2
+    new-requires-5
     returns-5
     shared-slice-read-if7
     add-if7
     shared-slice-read-if7-2
     add-t32
     returns-6
-    returns-7
-    returns-8)
+    new-requires-6
+    returns-7)

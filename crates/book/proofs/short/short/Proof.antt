@@ -30,8 +30,11 @@ shared-slice-read-x c = search needs
 class-requires : tie.Need-class-requires
 class-requires c κs = search needs
 
+new-requires : tie.Need-new-requires
+new-requires c κs = search needs
+
 returns : tie.Need-returns
-returns c = brief-none _ _ _
+returns c = brief-none _ _ _ (c .new .ensures .1)
 
 add-y : tie.Need-add-y
 add-y c = search needs
@@ -56,8 +59,11 @@ returns-2 c =
     let one = c .before .before .before in
     one-digit _ _ (one .before .before .before .before .pre .1) (first one) (λ q. c .if2 .taken (c .before .class2 .ensures ∙ q))
 
+new-requires-2 : tie.Need-new-requires-2
+new-requires-2 c κs = search needs
+
 returns-3 : tie.Need-returns-3
-returns-3 c = brief-none _ _ _
+returns-3 c = brief-none _ _ _ (c .new2 .ensures .1)
 
 add-z : tie.Need-add-z
 add-z c = search needs
@@ -113,8 +119,11 @@ shared-slice-read-class c = search needs
 class-requires-4 : tie.Need-class-requires-4
 class-requires-4 c κs = search needs
 
+new-requires-3 : tie.Need-new-requires-3
+new-requires-3 c κs = search needs
+
 returns-5 : tie.Need-returns-5
-returns-5 c = brief-none _ _ _
+returns-5 c = brief-none _ _ _ (c .new3 .ensures .1)
 
 cast-t24 : tie.Need-cast-t24
 cast-t24 c =
@@ -182,6 +191,7 @@ short-spec =
     (tie.spec
     shared-slice-read-x
     class-requires
+    new-requires
     returns
     add-y
     shared-slice-read-y
@@ -190,6 +200,7 @@ short-spec =
     sub-t13
     add-t14
     returns-2
+    new-requires-2
     returns-3
     add-z
     shared-slice-read-z
@@ -204,6 +215,7 @@ short-spec =
     add-class
     shared-slice-read-class
     class-requires-4
+    new-requires-3
     returns-5
     cast-t24
     mul-t25

@@ -19,12 +19,18 @@ slice-aggregate-few : tie.Need-slice-aggregate-few
 slice-aggregate-few c = let h = c .before .before .before .before .before .before .before .before .pre .1 in
     owners-part (h .inherited-in) (h .counted .inherited-are)
 
+cast-few : tie.Need-cast-few
+cast-few c = search needs
+
 few-requires : tie.Need-few-requires
 few-requires c κs = search needs
 
 slice-aggregate-few-2 : tie.Need-slice-aggregate-few-2
 slice-aggregate-few-2 c = let h = c .before .before .before .before .before .before .before .before .before .before .pre .1 in
     owners-part (h .synthesized-in) (h .counted .synthesized-are)
+
+cast-few-2 : tie.Need-cast-few-2
+cast-few-2 c = search needs
 
 few-requires-2 : tie.Need-few-requires-2
 few-requires-2 c κs = search needs
@@ -75,8 +81,10 @@ lines-within-spec =
     cast-i
     cast-s
     slice-aggregate-few
+    cast-few
     few-requires
     slice-aggregate-few-2
+    cast-few-2
     few-requires-2
     cast-n
     cast-n-2

@@ -15,10 +15,13 @@ use Rattle.conditions.proofs.limits.states_within.Statement.{statement}
 use Rattle.conditions.proofs.limits.states_within.Tie as tie
 
 abbrev Inv-loop : tie.InvT-loop
-Inv-loop kernels n i₀ i = Passing (KernelLines kernels n) (λ ks k. not (eqb (getD kernels (5 * k) 0) (getD kernels (5 * (k + 16)) 0))) (n - 16) i
+Inv-loop kernels n most i₀ i = Passing (KernelLines kernels n) (λ ks k. not (eqb (getD kernels (5 * k) 0) (getD kernels (5 * (k + 16)) 0))) (n - 16) i
 
 abbrev μ-loop : tie.MeasureT-loop
-μ-loop kernels n i₀ i = n - i
+μ-loop kernels n most i₀ i = n - i
+
+cast-most : tie.Need-cast-most Inv-loop μ-loop
+cast-most c = search needs
 
 loop-holds : tie.Need-loop-holds Inv-loop μ-loop
 loop-holds c = passing-start
@@ -70,6 +73,7 @@ states-within-spec =
     (tie.spec
     Inv-loop
     μ-loop
+    cast-most
     loop-holds
     add-loop
     mul-if1

@@ -1,4 +1,4 @@
-use mathlib.Core.Path.{_≡_, refl, sym, _∙_}
+use mathlib.Core.Path.{_≡_, sym, _∙_}
 use native.Mathlib.Omega.{arith}
 use lib.ListN.{getD}
 use Rattle.text.specs.Class.{classOf, digit}
@@ -69,11 +69,11 @@ add-t26 c = search needs
 returns-2 : tie.Need-returns-2
 returns-2 c h = two-stand _ _ (omega arith) (first (c .before .before .before .before .before)) (second c)
 
-returns-3 : tie.Need-returns-3
-returns-3 c h = absurd (h refl)
+new-requires : tie.Need-new-requires
+new-requires c κs = search needs
 
-returns-4 : tie.Need-returns-4
-returns-4 c h = absurd (h refl)
+returns-3 : tie.Need-returns-3
+returns-3 c h = absurd (h (c .new .ensures .1))
 
 pub ended-spec : {M : Type 1} → statement M
 ended-spec =
@@ -96,5 +96,5 @@ ended-spec =
     add-t25
     add-t26
     returns-2
-    returns-3
-    returns-4)
+    new-requires
+    returns-3)

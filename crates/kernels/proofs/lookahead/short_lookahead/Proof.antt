@@ -4,11 +4,17 @@ use borrow.Author.Needs.{needs}
 use Rattle.kernels.proofs.lookahead.short_lookahead.Statement.{statement}
 use Rattle.kernels.proofs.lookahead.short_lookahead.Tie as tie
 
+new-requires : tie.Need-new-requires
+new-requires c κs = search needs
+
 returns : tie.Need-returns
-returns c = nearby-none _ _ _
+returns c = nearby-none _ _ _ (c .new .ensures .1)
+
+new-requires-2 : tie.Need-new-requires-2
+new-requires-2 c κs = search needs
 
 returns-2 : tie.Need-returns-2
-returns-2 c = nearby-none _ _ _
+returns-2 c = nearby-none _ _ _ (c .new2 .ensures .1)
 
 shared-slice-read-if3 : tie.Need-shared-slice-read-if3
 shared-slice-read-if3 c = search needs
@@ -28,14 +34,19 @@ short-requires c κs = search needs
 returns-3 : tie.Need-returns-3
 returns-3 c = nearby-of _ (omega (arith, c .before .before .before .before .if2 .left)) (c .short .ensures) (c .before .if3 .taken)
 
+new-requires-3 : tie.Need-new-requires-3
+new-requires-3 c κs = search needs
+
 returns-4 : tie.Need-returns-4
-returns-4 c = nearby-none _ _ _
+returns-4 c = nearby-none _ _ _ (c .new3 .ensures .1)
 
 pub short-lookahead-spec : {M : Type 1} → statement M
 short-lookahead-spec =
     tie.close
     (tie.spec
+    new-requires
     returns
+    new-requires-2
     returns-2
     shared-slice-read-if3
     add-if3
@@ -43,4 +54,5 @@ short-lookahead-spec =
     add-short
     short-requires
     returns-3
+    new-requires-3
     returns-4)

@@ -10,6 +10,7 @@ ghost use Rattle.formulas.specs.Steps.{stepOf};
 ghost use Rattle.cells.specs.Leaves.{Room};
 ghost use Rattle.cells.specs.Values.{placeIn, MayRead, Asked, stepValue};
 use super::leaves::leaf_value;
+use book::Book;
 use formulas::nodes::Leaf;
 use formulas::nodes::Operator;
 use formulas::nodes::Stack;
@@ -116,7 +117,7 @@ pub fn value<'a>(
             0,
         );
     }
-    let mut stack = [0u32; 16];
+    let mut stack = [0u32; Book::MAX_NODES as usize + 1];
     let mut top: usize = 0;
     let mut i = 0;
     while i < nodes {

@@ -25,19 +25,19 @@ const TOK: u32 = (20 * 32 + 15) * 32 + 11;
 const TOKEN_BYTES: usize = 28;
 
 // One token more than a message can have.
-const KEPT_TOKENS: u32 = 256;
+const KEPT_TOKENS: u32 = Book::MAX_TOKENS as u32 + 1;
 
 // The numbers of these tokens.
-pub const KEPT_NUMBERS: usize = 512;
+pub const KEPT_NUMBERS: usize = 2 * (KEPT_TOKENS as usize);
 
 // The longest text of a book and the longest token line.
-pub const TEXT_ROOM: usize = 65564;
+pub const TEXT_ROOM: usize = Book::MAX_TEXT + TOKEN_BYTES;
 
 // What has been read.
 pub enum Progress {
     // The text of the book so far ends before `at`, and its last line begins at `line`.
     Book { line: usize, at: usize },
-    // The text of the book ends before `book`, and the line at hand stands from there up to `at`; there are `count` tokens, or more if it is 256.
+    // The text of the book ends before `book`, and the line at hand stands from there up to `at`; there are `count` tokens, or more if it is `KEPT_TOKENS`.
     Tokens { book: usize, at: usize, count: u32 },
     // A refusal that no further input changes.
     Refused(u32),

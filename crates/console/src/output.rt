@@ -9,12 +9,13 @@ ghost use Rattle.console.specs.Desk.{refused, answerOf, printWord, print
 ghost use Rattle.console.specs.Digits.{Wide};
 ghost use Rattle.console.specs.Output.{Puts};
 ghost use Rattle.console.specs.Printing.{ROW-BYTES, OUTPUT-BYTES, Printable, Printed};
+use book::Book;
 
-// Words of all rows.
-pub const PAGE_WORDS: usize = 5120;
+// The bytes of the longest row: `(row`, `)` and the line feed, and words of a space and ten digits.
+const ROW_BYTES: usize = 6 + 11 * Book::ROW_WORDS;
 
-// The longest answer: 512 rows of 116 bytes, and the last line.
-pub const OUTPUT_BYTES: usize = 59414;
+// The longest answer: all rows, and `(accepted `, a number of ten digits, `)` and the line feed.
+pub const OUTPUT_BYTES: usize = ROW_BYTES * Book::MAX_ROWS + 22;
 
 fn put_bytes(out: &mut [u8], at: usize, bytes: &[u8]) -> usize
     requires { ⌜ at + length (now bytes) ≤ length (now out) ⌝ }
@@ -105,8 +106,8 @@ fn put_rows(out: &mut [u8], at: usize, rows: &[u32], count: usize) -> usize
     let mut p = at;
     let mut k = 0;
     while k < count {
-        let first = 10 * k;
-        let last = first + 10;
+        let first = Book::ROW_WORDS * k;
+        let last = first + Book::ROW_WORDS;
         p = put_row(out, p, &rows[first..last]);
         k += 1;
     }

@@ -14,7 +14,6 @@ use console::input::Progress;
 use console::input::TEXT_ROOM;
 use console::input::all_bytes;
 use console::output::OUTPUT_BYTES;
-use console::output::PAGE_WORDS;
 
 // What was read, and whether that is all of the input.
 struct Taken {
@@ -81,7 +80,7 @@ fn main() {
     let mut text = [0u8; TEXT_ROOM];
     let mut numbers = [0u32; KEPT_NUMBERS];
     let mut words = [0u32; Book::BOOK_WORDS];
-    let mut rows = [0u32; PAGE_WORDS];
+    let mut rows = [0u32; Book::PAGE_WORDS];
     let mut out = [0u8; OUTPUT_BYTES];
     let n = run(
         &t,

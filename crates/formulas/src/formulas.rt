@@ -16,6 +16,7 @@ use super::nodes::Stack;
 use super::steps::Step;
 use super::steps::operands;
 use super::steps::step_at;
+use book::Book;
 
 // What a step puts on the stack: the number of a formula, or a node that is still to be interned.
 pub enum Operand {
@@ -89,7 +90,7 @@ pub fn formula_of(
 {
     let first = 49 * line;
     let nodes = definitions[first + 3] as usize;
-    let mut stack = [0u32; 16];
+    let mut stack = [0u32; Book::MAX_NODES as usize + 1];
     let mut top: usize = 0;
     let mut i = 0;
     while i < nodes {

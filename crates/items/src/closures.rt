@@ -1,5 +1,5 @@
 // The closures of all states, 32 words each. The array is lent with zeros and has room for the states; each fills its part.
-ghost use Rattle.grammar.specs.Data.Book.{Book};
+ghost use Rattle.grammar.specs.Data.Book.{Book as Lines};
 ghost use Rattle.grammar.specs.Automaton.FirstSets.{Sets};
 ghost use Rattle.items.specs.Arrays.{ClosuresIn};
 ghost use Rattle.items.specs.Closures.{StateItemsIn, Blank};
@@ -7,6 +7,7 @@ ghost use Rattle.items.specs.Leads.{Leads};
 use super::closure::closure;
 use super::leads::fill_leads;
 use super::words::word;
+use book::Book;
 
 // By the rules that lead on.
 fn state_closures(
@@ -20,10 +21,10 @@ fn state_closures(
     firsts: &[u32],
     closures: &mut [u32],
 )
-    requires { ⌜ ((b : Book) × (F : Sets)
+    requires { ⌜ ((b : Lines) × (F : Sets)
         × StateItemsIn b F (now rules) count (now kernels) (now starts) states (now nulls) (now firsts))
         × Leads (now rules) count (now leads) × Blank states (now closures) ⌝ }
-    ensures { λ _. ⌜ ((b : Book) (F : Sets)
+    ensures { λ _. ⌜ ((b : Lines) (F : Sets)
         → StateItemsIn b F (now (rules .entry)) count (now (kernels .entry)) (now (starts .entry)) states (now (nulls .entry)) (now (firsts .entry))
         → ClosuresIn b F (now (closures .exit))) ⌝ }
 {
@@ -58,14 +59,14 @@ pub fn closures(
     firsts: &[u32],
     closures: &mut [u32],
 )
-    requires { ⌜ ((b : Book) × (F : Sets)
+    requires { ⌜ ((b : Lines) × (F : Sets)
         × StateItemsIn b F (now rules) count (now kernels) (now starts) states (now nulls) (now firsts))
         × Blank states (now closures) ⌝ }
-    ensures { λ _. ⌜ ((b : Book) (F : Sets)
+    ensures { λ _. ⌜ ((b : Lines) (F : Sets)
         → StateItemsIn b F (now (rules .entry)) count (now (kernels .entry)) (now (starts .entry)) states (now (nulls .entry)) (now (firsts .entry))
         → ClosuresIn b F (now (closures .exit))) ⌝ }
 {
-    let mut leads = [0u8; 65];
+    let mut leads = [0u8; Book::MAX_RULES as usize + 1];
     fill_leads(rules, count as usize, &mut leads);
     state_closures(
         rules,

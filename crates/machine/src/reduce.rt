@@ -3,7 +3,7 @@ ghost use mathlib.Core.Path.{_≡_};
 ghost use mathlib.Core.List.{List};
 ghost use Prim.Native.Nat.{_+_, _*_};
 ghost use lib.ListN.{length};
-ghost use Rattle.grammar.specs.Data.Book.{Book};
+ghost use Rattle.grammar.specs.Data.Book.{Book as Lines};
 ghost use Rattle.grammar.specs.Evaluator.Tree.{Token};
 ghost use Rattle.grammar.specs.Evaluator.Machine.{Config};
 ghost use Rattle.stack.specs.Pushes.{Stacks};
@@ -12,6 +12,7 @@ ghost use Rattle.machine.specs.Moving.{Poised, Told};
 ghost use Rattle.machine.specs.ReduceMove.{Reduces};
 use super::moves::Moved;
 use super::run::Outcome;
+use book::Book;
 use items::words::word;
 use stack::left::put_left;
 use stack::top::Top;
@@ -33,16 +34,16 @@ pub fn reduce(
     rows: &mut [u32],
 ) -> Moved
     requires { ⌜ Stacks (now states) (now synthesized) (now starts) (now rows) × (length (now inherited) ≡ 16 * length (now starts) + 16) ⌝ }
-    requires { ⌜ ((b : Book) × (ks : List Token) × (c : Config) × BookIn b (now rules) (now definitions) (now table)
+    requires { ⌜ ((b : Lines) × (ks : List Token) × (c : Config) × BookIn b (now rules) (now definitions) (now table)
         × LeftIn b (now definitions) (now firsts) (now down) (now up)
         × Poised b ks c (now states) (now inherited) (now synthesized) (now starts) (now rows) top × Reduces b c rule) ⌝ }
-    ensures { λ r. ⌜ ((b : Book) (ks : List Token) (c : Config) → BookIn b (now (rules .entry)) (now (definitions .entry)) (now (table .entry))
+    ensures { λ r. ⌜ ((b : Lines) (ks : List Token) (c : Config) → BookIn b (now (rules .entry)) (now (definitions .entry)) (now (table .entry))
         → LeftIn b (now (definitions .entry)) (now (firsts .entry)) (now (down .entry)) (now (up .entry))
         → Poised b ks c (now (states .entry)) (now (inherited .entry)) (now (synthesized .entry)) (now (starts .entry)) (now (rows .entry)) top
         → Reduces b c rule
         → Told b ks c (now (states .exit)) (now (inherited .entry)) (now (synthesized .exit)) (now (starts .exit)) (now (rows .exit)) r) ⌝ }
 {
-    if top.rows == Top::MAX_ROWS {
+    if top.rows == Book::MAX_ROWS {
         return Moved::Stopped(Outcome {
             number: 16,
             count: 0,

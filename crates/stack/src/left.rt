@@ -4,7 +4,7 @@ ghost use mathlib.Core.Path.{_≡_};
 ghost use mathlib.Core.List.{List};
 ghost use Prim.Native.Nat.{_+_, _*_, _<_};
 ghost use lib.ListN.{length};
-ghost use Rattle.grammar.specs.Data.Book.{Book};
+ghost use Rattle.grammar.specs.Data.Book.{Book as Lines};
 ghost use Rattle.grammar.specs.Evaluator.Tree.{Token};
 ghost use Rattle.grammar.specs.Evaluator.Machine.{Config};
 ghost use Rattle.stack.specs.LeftMove.{LeftAsked};
@@ -13,6 +13,7 @@ ghost use Rattle.stack.specs.Standing.{GoesOn};
 use super::pushes::push_node;
 use super::records::node_values;
 use super::top::Top;
+use book::Book;
 use items::words::word;
 
 // Where a node of `size` children starts that stands over `below` symbols.
@@ -43,9 +44,9 @@ pub fn put_left(
     rows: &mut [u32],
 ) -> Top
     requires { ⌜ Stacks (now states) (now synthesized) (now starts) (now rows) × (length (now inherited) ≡ 16 * length (now starts) + 16) ⌝ }
-    requires { ⌜ ((b : Book) × (ks : List Token) × (c : Config) × LeftAsked b ks c (now rules) (now definitions) (now table) (now firsts) (now down) (now up)
+    requires { ⌜ ((b : Lines) × (ks : List Token) × (c : Config) × LeftAsked b ks c (now rules) (now definitions) (now table) (now firsts) (now down) (now up)
         (now states) (now inherited) (now synthesized) (now starts) (now rows) top rule) ⌝ }
-    ensures { λ r. ⌜ ((b : Book) (ks : List Token) (c : Config)
+    ensures { λ r. ⌜ ((b : Lines) (ks : List Token) (c : Config)
         → LeftAsked b ks c (now (rules .entry)) (now (definitions .entry)) (now (table .entry)) (now (firsts .entry)) (now (down .entry)) (now (up .entry))
         (now (states .entry)) (now (inherited .entry)) (now (synthesized .entry)) (now (starts .entry)) (now (rows .entry)) top rule
         → GoesOn b ks c (now (states .exit)) (now (inherited .entry)) (now (synthesized .exit)) (now (starts .exit)) (now (rows .exit)) r) ⌝ }
@@ -54,7 +55,7 @@ pub fn put_left(
     let owner = word(rules, place);
     let size = word(rules, place + 1);
     let below = top.depth - size;
-    let mut values = [0u32; 4];
+    let mut values = [0u32; Book::MAX_OWNED as usize];
     node_values(
         definitions,
         firsts,

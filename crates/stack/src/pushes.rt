@@ -1,6 +1,7 @@
 // A push: the state, the record, the start and the row of a symbol. The cell under it is set before.
 ghost use Prim.Native.Nat.{_<_};
 ghost use lib.ListN.{length};
+ghost use Rattle.grammar.specs.Limits.{MAX-TOKENS, MAX-ROWS};
 ghost use Rattle.stack.specs.Pushes.{Stacks, TokenPushed, Reducing, NodePushed};
 ghost use Rattle.stack.specs.PutValues.{Putting, leftRecord};
 use super::records::node_record;
@@ -21,7 +22,7 @@ pub fn push_token(
     rows: &mut [u32],
 ) -> Top
     requires { ⌜ Stacks (now states) (now synthesized) (now starts) (now rows) ⌝ }
-    requires { ⌜ (top .depth < length (now starts)) × (top .rows < 512) × (top .position < 255) × (kind < 32) ⌝ }
+    requires { ⌜ (top .depth < length (now starts)) × (top .rows < MAX-ROWS) × (top .position < MAX-TOKENS) × (kind < 32) ⌝ }
     ensures { λ r. ⌜ TokenPushed top target kind value (now (states .entry)) (now (synthesized .entry)) (now (starts .entry)) (now (rows .entry))
         (now (states .exit)) (now (synthesized .exit)) (now (starts .exit)) (now (rows .exit)) r ⌝ }
 {

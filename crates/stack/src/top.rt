@@ -1,6 +1,7 @@
 // The machine's top: how many symbols stand, how many rows are written, how many tokens are shifted.
 ghost use mathlib.Core.Path.{_≡_};
 ghost use Prim.Native.Nat.{_+_, _-_, _≤_, _<_};
+ghost use Rattle.grammar.specs.Limits.{MAX-TOKENS, MAX-ROWS, MAX-STACK};
 
 pub struct Top {
     pub depth: usize,
@@ -9,8 +10,6 @@ pub struct Top {
 }
 
 impl Top {
-    pub const MAX_ROWS: usize = 512;
-
     // Before the first move.
     pub fn empty() -> Self
         ensures { λ r. ⌜ (r .depth ≡ 0) × (r .rows ≡ 0) × (r .position ≡ 0) ⌝ }
@@ -24,7 +23,7 @@ impl Top {
 
     // After a shift: a symbol, a row and a token more.
     pub fn shifted(self) -> Self
-        requires { ⌜ (self .depth < 128) × (self .rows < 512) × (self .position < 255) ⌝ }
+        requires { ⌜ (self .depth < MAX-STACK) × (self .rows < MAX-ROWS) × (self .position < MAX-TOKENS) ⌝ }
         ensures { λ r. ⌜ (r .depth ≡ self .depth + 1) × (r .rows ≡ self .rows + 1) × (r .position ≡ self .position + 1) ⌝ }
     {
         Top {
@@ -36,7 +35,7 @@ impl Top {
 
     // After a reduce: one symbol in the place of the last `size`, and a row more.
     pub fn reduced(self, size: usize) -> Self
-        requires { ⌜ (size ≤ self .depth) × (self .depth ≤ 128) × (self .rows < 512) ⌝ }
+        requires { ⌜ (size ≤ self .depth) × (self .depth ≤ MAX-STACK) × (self .rows < MAX-ROWS) ⌝ }
         ensures { λ r. ⌜ (r .depth ≡ self .depth - size + 1) × (r .rows ≡ self .rows + 1) × (r .position ≡ self .position) ⌝ }
     {
         Top {

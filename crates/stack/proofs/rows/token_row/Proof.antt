@@ -9,8 +9,8 @@ use Rattle.stack.specs.Page.{tokenStored}
 use Rattle.stack.proofs.rows.token_row.Statement.{statement}
 use Rattle.stack.proofs.rows.token_row.Tie as tie
 
-mul-place : tie.Need-mul-place
-mul-place c = search needs
+mul-first : tie.Need-mul-first
+mul-first c = search needs
 
 clear-requires : tie.Need-clear-requires
 clear-requires c κs = search needs
@@ -56,7 +56,7 @@ pub token-row-spec : {M : Type 1} → statement M
 token-row-spec =
     tie.close
     (tie.spec
-    mul-place
+    mul-first
     clear-requires
     add-rows
     mul-rows

@@ -78,7 +78,7 @@ abbrev pub Evaluating-right : Type 0
 Evaluating-right = (words tokens : List ℕ) (lent : ℕ) → Evaluates words tokens lent (evaluateWords words tokens lent)
 
 -- the evaluator's tables are what the items and chains of the book's states say (Premises.antt: its actions are those of the items, its go lines the
--- book's, its formulas those of all chains), "as their stack evaluator, written out in 01"
+-- book's, its formulas those of all chains and no others), "as their stack evaluator, written out in 01"
 abbrev pub Tables-right : Type 0
 Tables-right = (words : List ℕ) (s : Stored words) → Premises (bookOf s) (tablesOf (bookOf s))
 

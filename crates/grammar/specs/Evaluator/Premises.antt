@@ -9,7 +9,8 @@ use Rattle.grammar.specs.Data.Symbol.{Symbol, nonterminal, Rule, leftOf,
 use Rattle.grammar.specs.Data.Term.{Leaves}
 use Rattle.grammar.specs.Data.Book.{Place, own, at, val, InheritedDefinition, SynthesizedDefinition, Book, inheritedOwner}
 use Rattle.grammar.specs.Automaton.Items.{Chain}
-use Rattle.grammar.specs.Formulas.Formula.{formula}
+use Rattle.grammar.specs.Formulas.Formula.{Formula, formula}
+use Rattle.grammar.specs.Formulas.ChainLaws.{FromChain}
 use Rattle.grammar.specs.Automaton.States.{goTo, Action, KernelRules, GoRules, Acts}
 use Rattle.grammar.specs.Evaluator.Machine.{Tables}
 
@@ -41,3 +42,5 @@ module _ (b : Book) where
       -- 10: every chain gives the formula that stands in the table, and so all chains that end before the same nonterminal give the same
       pub formula-there : (S a P D c K : ℕ) (β : List Symbol) (chain : Chain b S a P D c) → after (b .rules) P D ≡ nonterminal (inheritedOwner b K) ∷ β
           → T .formulaAt S a K ≡ some (formula b chain K)
+      -- and the table has no other: what stands there is the formula of a chain that ends before the attribute's owner ("0 where there is none")
+      pub formula-only : (S a K : ℕ) (f : Formula) → T .formulaAt S a K ≡ some f → FromChain b S a K f

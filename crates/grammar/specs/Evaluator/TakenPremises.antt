@@ -19,8 +19,8 @@ use Rattle.grammar.specs.Automaton.ItemsRight.{ItemsRight}
 use Rattle.grammar.specs.BookFacts.{well-named, small-book}
 use Rattle.grammar.specs.Automaton.ItemsRightLaws.{book-items-right}
 use Rattle.grammar.specs.Automaton.ActionsLaws.{found-acts, acts-found}
-use Rattle.grammar.specs.Formulas.FormulaPremises.{formula-premises}
-use Rattle.grammar.specs.Formulas.FormulaTable.{formula-there}
+use Rattle.grammar.specs.Formulas.FormulaPremises.{FormulaPremises, formula-premises}
+use Rattle.grammar.specs.Formulas.FormulaTable.{formula-some, formula-there}
 use Rattle.grammar.specs.Refusal.{Sound}
 use Rattle.grammar.specs.Engine.{tablesFrom, tablesOf}
 
@@ -46,6 +46,7 @@ module _ {b : Book} (spelled : Spelled b) (s : Sound b) where
       let named : WellNamed b = well-named (spelled .ordered) (s .limits) (s .names) in
       let right : ItemsRight b (setsOf (b .rules)) (reachSets (b .rules) (setsOf (b .rules))) =
       book-items-right b (small-book (spelled .ordered) (s .limits) (s .names)) in
+      let formulas : FormulaPremises b = formula-premises (s .limits) (s .names) (s .attributes) (s .kernel-rules) in
       record {
         start-left = s .names .start-left;
         start-right = start-right;
@@ -62,5 +63,6 @@ module _ {b : Book} (spelled : Spelled b) (s : Sound b) where
         go-table = λ S X. refl;
         act-when = acts-found named right (s .no-conflict);
         act-only = found-acts named right;
-        formula-there = formula-there right (formula-premises (s .limits) (s .names) (s .attributes) (s .kernel-rules)) (s .one-formula);
+        formula-there = formula-there right formulas (s .one-formula);
+        formula-only = formula-some right formulas (s .one-formula);
       }

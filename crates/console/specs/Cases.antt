@@ -2,32 +2,24 @@
 -- Assumes nothing.
 use mathlib.Core.Path.{_≡_, refl, ap}
 use mathlib.Core.List.{List, [], _∷_, _++_, map, List·Memᴰ·head, List·Memᴰ·tail}
-use Prim.Native.Nat.{ℕ}
 use Prim.Native.String.{String}
 use lib.ListN.{replicate}
 use Rattle.text.specs.Class.{opens as opens-class}
 use Rattle.text.specs.Rest.{opens as opens-rest}
 use Rattle.text.specs.Numeral.{opens as opens-numeral}
-use Rattle.grammar.specs.Limits.{PAGE-WORDS}
 use Rattle.grammar.specs.Automaton.Fixpoint.{opens as opens-fixpoint}
 use Rattle.grammar.specs.Format.Printer.{bytes, opens as opens-printer}
 use Rattle.grammar.specs.Format.Reader.{opens as opens-reader}
-use Rattle.grammar.specs.Evaluator.Machine.{accepted}
-use Rattle.grammar.specs.Evaluator.Rows.{Row, token-row, node-row, opens as opens-rows}
-use Rattle.grammar.specs.Engine.{evaluationOf}
 use Rattle.grammar.specs.Cases.CaseBooks.{unlines, change, S, opens as opens-books}
-use Rattle.grammar.specs.Cases.Cases.{calls, starred, table}
+use Rattle.grammar.specs.Cases.Cases.{calls, accepted, expectedEvaluation, case, message, S-rows, starred, table}
 use Rattle.grammar.specs.Cases.CasesProof.{cases}
 use Rattle.console.specs.Desk.{evaluated, printAnswer, deskOutput}
 use Rattle.console.specs.Desk.{opens as opens-desk}
 
 -- opens all that reading lines and printing rows compute with
 unfoldable opens : Unit {0}
-unfolding opens-class opens-rest opens-numeral opens-fixpoint opens-printer opens-reader opens-rows opens-books opens-desk
+unfolding opens-class opens-rest opens-numeral opens-fixpoint opens-printer opens-reader opens-books opens-desk
 opens = tt
-
-abbrev message : List ℕ
-message = 1 ∷ 100 ∷ 2 ∷ 5 ∷ 2 ∷ 7 ∷ []
 
 abbrev S-input : List String
 S-input = S ++ ("(tok 1 100)" ∷ "(tok 2 5)" ∷ "(tok 2 7)" ∷ [])
@@ -45,25 +37,14 @@ S-output =
     ∷ "(accepted 7)"
     ∷ []
 
-S-rows : List Row
-S-rows =
-    token-row 1 0 100
-    ∷ token-row 2 1 5
-    ∷ token-row 2 2 7
-    ∷ node-row 2 3 (112 ∷ []) (112 ∷ [])
-    ∷ node-row 3 2 (105 ∷ []) (112 ∷ [])
-    ∷ node-row 3 1 (100 ∷ []) (112 ∷ [])
-    ∷ node-row 1 0 [] (112 ∷ [])
-    ∷ []
-
-S-called : calls (unlines S) message ≡ evaluationOf (accepted S-rows) PAGE-WORDS
-unfolding table starred S-rows
-S-called = cases (record { lines = S; tokens = message; expected = evaluationOf (accepted S-rows) PAGE-WORDS })
+S-called : calls (unlines S) message ≡ expectedEvaluation (accepted 7 S-rows)
+unfolding table starred
+S-called = cases (case S message (accepted 7 S-rows))
     (List·Memᴰ·tail (List·Memᴰ·tail (List·Memᴰ·tail (List·Memᴰ·tail (List·Memᴰ·tail (List·Memᴰ·tail
-    (List·Memᴰ·tail (List·Memᴰ·tail (List·Memᴰ·tail (List·Memᴰ·tail (List·Memᴰ·tail (List·Memᴰ·tail (List·Memᴰ·head refl)))))))))))))
+    (List·Memᴰ·tail (List·Memᴰ·tail (List·Memᴰ·tail (List·Memᴰ·tail (List·Memᴰ·tail (List·Memᴰ·tail (List·Memᴰ·head refl))))))))))))) .message-is
 
 pub S-printed : deskOutput (unlines S-input) ≡ unlines S-output
-unfolding opens S-rows evaluationOf
+unfolding opens expectedEvaluation
 S-printed = ap (λ e. printAnswer (evaluated e) []) S-called
 
 -- token lines that are misspelt: a leading zero, a number too large, two spaces, no value, an empty line, a second end line, after a taken book and

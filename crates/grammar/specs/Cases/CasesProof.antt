@@ -28,6 +28,7 @@ use Rattle.grammar.specs.Formulas.Formula.{opens as opens-formula}
 use Rattle.grammar.specs.Automaton.States.{opens as opens-states}
 use Rattle.grammar.specs.Automaton.Fixpoint.{sameSets, opens as opens-fixpoint}
 use Rattle.grammar.specs.Automaton.LeastLaws.{sameSets-still}
+use Rattle.grammar.specs.Automaton.TestLaws.{both-true}
 use Rattle.grammar.specs.Automaton.FirstSets.{opens as opens-first}
 use Rattle.grammar.specs.Automaton.ReachSets.{opens as opens-reach}
 use Rattle.grammar.specs.Automaton.ClosureSets.{opens as opens-closure}
@@ -42,7 +43,9 @@ use Rattle.grammar.specs.Evaluator.Rows.{opens as opens-rows}
 use Rattle.grammar.specs.Evaluator.Machine.{opens as opens-machine}
 use Rattle.grammar.specs.Engine.{Evaluation, opens as opens-engine}
 use Rattle.grammar.specs.Cases.CaseBooks.{unlines, opens as opens-books}
-use Rattle.grammar.specs.Cases.Cases.{Case, afterReading, calls, answer, table, sameEvaluation, holdsOf, holds, opens as opens-cases}
+use Rattle.grammar.specs.Cases.Cases.{afterReading, calls, Expected, book-refused, message-refused, accepted, expectedReading}
+use Rattle.grammar.specs.Cases.Cases.{expectedEvaluation, Case, Answered, table, Answer, answer}
+use Rattle.grammar.specs.Cases.Cases.{sameRefusal, sameEvaluation, sameAnswer, holdsOf, holds, opens as opens-cases}
 use Rattle.grammar.specs.Limits.{MAX-TEXT, BOOK-WORDS, PAGE-WORDS}
 use Rattle.grammar.specs.Data.Book.{Book}
 use Rattle.grammar.specs.Format.Parse.{parseBook}
@@ -61,9 +64,17 @@ table-holds : holds table ≡ true
 unfolding opens
 table-holds = refl
 
-same-sound : (x y : Evaluation) → sameEvaluation x y ≡ true → x ≡ y
+-- where the refusal is as expected, so is every word of the book
+same-reading : (r : ℕ) (e : Expected) (text : List ℕ) → sameRefusal r e ≡ true → readingOf r text BOOK-WORDS ≡ expectedReading e text
+unfolding sameRefusal expectedReading readingOf
+same-reading r (book-refused zero) text h = absurd (false≢true h)
+same-reading r (book-refused (suc n)) text h = rw (eqb-true r (suc n) h)
+same-reading r (message-refused n) text h = rw (eqb-true r 0 h)
+same-reading r (accepted count words) text h = rw (eqb-true r 0 h)
+
+same-evaluation : (x y : Evaluation) → sameEvaluation x y ≡ true → x ≡ y
 unfolding sameEvaluation
-same-sound x y e = go (eqb (x .number) (y .number)) (eqb (x .count) (y .count)) refl refl e
+same-evaluation x y e = go (eqb (x .number) (y .number)) (eqb (x .count) (y .count)) refl refl e
   where
     go : (s t : Bool) → eqb (x .number) (y .number) ≡ s → eqb (x .count) (y .count) ≡ t → (s && (t && sameSets (x .rows) (y .rows))) ≡ true → x ≡ y
     go true true p q h =
@@ -74,15 +85,18 @@ same-sound x y e = go (eqb (x .number) (y .number)) (eqb (x .count) (y .count)) 
     go true false p q h = absurd (false≢true h)
     go false t p q h = absurd (false≢true h)
 
--- the computing form is what the two calls answer
-
 stored-answer : (words tokens : List ℕ) (lent : ℕ) {b : Book} → storedBook words ≡ some b → evaluateWords words tokens lent ≡ evaluateBook b tokens lent
 unfolding evaluateWords
 stored-answer words tokens lent e = rw (e, evaluateWords)
 
-calls-answer : (text tokens : List ℕ) → length text ≤ MAX-TEXT → calls text tokens ≡ answer text tokens
+-- what the two calls answer is what is computed without the words of the book
+record Computed (text tokens : List ℕ) (a : Answer) : Type 0 where
+  reads : readBook text BOOK-WORDS ≡ readingOf (a .refusal) text BOOK-WORDS
+  answers : calls text tokens ≡ a .evaluation
+
+computed : (text tokens : List ℕ) → length text ≤ MAX-TEXT → Computed text tokens (answer text tokens)
 unfolding afterReading calls answer readBook readingOf refusal
-calls-answer text tokens l = go (parseBook text) refl
+computed text tokens l = go (parseBook text) refl
   where
     reads : {n : ℕ} → refusal text ≡ n → readBook text BOOK-WORDS ≡ readingOf n text BOOK-WORDS
     reads e = rw (le-leb (length text) MAX-TEXT l, readBook) (ap (λ n. readingOf n text BOOK-WORDS) e)
@@ -90,18 +104,21 @@ calls-answer text tokens l = go (parseBook text) refl
     after : {n : ℕ} → refusal text ≡ n → calls text tokens ≡ afterReading (readingOf n text BOOK-WORDS) tokens
     after e = ap (λ r. afterReading r tokens) (reads e)
 
-    go : (o : Option Book) → parseBook text ≡ o → calls text tokens ≡ answer text tokens
-    go none q = after {n = 2} (rw (q, refusal)) ∙ rw (q, answer)
+    go : (o : Option Book) → parseBook text ≡ o → Computed text tokens (answer text tokens)
+    go none q = rw (q, answer) (record { reads = reads {n = 2} (rw (q, refusal)); answers = after {n = 2} (rw (q, refusal)) })
     go (some b) q = by (bookRefusal b) refl
       where
-        by : (n : ℕ) → bookRefusal b ≡ n → calls text tokens ≡ answer text tokens
-        by (suc n) z = after {n = suc n} (rw (q, refusal) z) ∙ rw (q, answer) (rw z)
+        by : (n : ℕ) → bookRefusal b ≡ n → Computed text tokens (answer text tokens)
+        by (suc n) z =
+            let e : refusal text ≡ suc n = rw (q, refusal) z in
+            rw (q, answer) (rw z (record { reads = reads e; answers = after e }))
         by zero z =
-            let t : Taken text = refusal-taken text (rw (q, refusal) z) in
+            let e : refusal text ≡ 0 = rw (q, refusal) z in
+            let t : Taken text = refusal-taken text e in
             let s : Stored (pack BOOK-WORDS text) = record { text = text; its-book = t; short-text = l; filling = refl } in
             let same : t .book ≡ b = let p = taken-parsed t in cc in
             let found : storedBook (pack BOOK-WORDS text) ≡ some b = stored-found (pack BOOK-WORDS text) s ∙ ap some same in
-            after {n = 0} (rw (q, refusal) z) ∙ (stored-answer (pack BOOK-WORDS text) tokens PAGE-WORDS found ∙ rw (q, answer) (rw z))
+            rw (q, answer) (rw z (record { reads = reads e; answers = after e ∙ stored-answer (pack BOOK-WORDS text) tokens PAGE-WORDS found }))
 
 each-holds : (cs : List Case) → holds cs ≡ true → (c : Case) → Mem c cs → holdsOf c ≡ true
 unfolding holds
@@ -114,11 +131,12 @@ each-holds (d ∷ ds) e c m = go (holdsOf d) refl m (each-holds ds)
     go true q (List·Memᴰ·tail n) ih = ih (rw (q, holds) at e) c n
 
 -- every case of the table is answered as expected
-pub cases : (c : Case) → Mem c table → calls (unlines (c .lines)) (c .tokens) ≡ c .expected
-unfolding holdsOf
-cases c m = go (leb (length (unlines (c .lines))) MAX-TEXT) refl (each-holds table table-holds c m)
-  where
-    go : (t : Bool) → leb (length (unlines (c .lines))) MAX-TEXT ≡ t
-        → (t && sameEvaluation (answer (unlines (c .lines)) (c .tokens)) (c .expected)) ≡ true → calls (unlines (c .lines)) (c .tokens) ≡ c .expected
-    go true q h = calls-answer (unlines (c .lines)) (c .tokens) (leb-true _ _ q) ∙ same-sound _ _ h
-    go false q h = absurd (false≢true h)
+pub cases : (c : Case) → Mem c table → Answered c
+unfolding holdsOf sameAnswer
+cases c m =
+    let text : List ℕ = unlines (c .lines) in
+    let a : Answer = answer text (c .tokens) in
+    let (short, same) = both-true (leb (length text) MAX-TEXT) (sameAnswer a (c .expected)) (each-holds table table-holds c m) in
+    let (r, e) = both-true (sameRefusal (a .refusal) (c .expected)) (sameEvaluation (a .evaluation) (expectedEvaluation (c .expected))) same in
+    let h : Computed text (c .tokens) a = computed text (c .tokens) (leb-true _ _ short) in
+    record { book-is = h .reads ∙ same-reading (a .refusal) (c .expected) text r; message-is = h .answers ∙ same-evaluation _ _ e }

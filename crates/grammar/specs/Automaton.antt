@@ -1,6 +1,7 @@
 -- LR(1) items, closures, kernel and go rules, actions (7 to 9): meaning, functions that compute, and that they decide.
 pub mod Actions
 pub mod ActionsLaws
+pub mod AnyDerivation
 pub mod CellLaws
 pub mod ClosureBounds
 pub mod ClosureLaws

@@ -1,5 +1,6 @@
 -- Chains, formulas and the one-formula condition (10): meaning, functions that compute, and that they decide.
 pub mod ChainLaws
+pub mod ChainLists
 pub mod ChainReady
 pub mod DefinitionPremises
 pub mod Formula

@@ -1,5 +1,6 @@
 -- FIRST (01, "Items and transitions"): the terminals that can begin a string of symbols derived from β followed by the terminal b.
--- Expansion of the leftmost nonterminal is enough: what stands behind it may derive no token list at all. Assumes nothing.
+-- Expansion of the leftmost nonterminal is enough: what stands behind it may derive no token list at all. Rewriting any nonterminal gives the same
+-- terminals (AnyDerivation.antt). Assumes nothing.
 use Prim.Native.Nat.{ℕ, _<_}
 use mathlib.Core.Path.{_≡_}
 use mathlib.Core.List.{List, [], _∷_, _++_}

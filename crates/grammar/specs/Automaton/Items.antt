@@ -34,6 +34,7 @@ module _ (b : Book) where
   Partial S a P D c = Closure S P D c × Reaches (b .rules) a P D c
 
   -- a chain of the partial state (S, a), by its last item: a list of its items, the first a kernel, each directly deriving the next
+  -- (Formulas/ChainLists.antt has these lists, and that they give the same formulas)
   pub data Chain (S a : ℕ) : ℕ → ℕ → ℕ → Type 0 where
     one : {P D c : ℕ} → KernelItem S P D c → Reaches (b .rules) a P D c → Chain S a P D c
     longer : {P D c Q d : ℕ} → Chain S a P D c → Derives (b .rules) P D c Q d → Reaches (b .rules) a Q 0 d → Chain S a Q 0 d

@@ -1,4 +1,4 @@
--- The conditions 3 to 6 as tests that compute; `ConditionTestsLaws` says that they decide `Conditions`.
+-- The conditions 3 to 6 as tests that compute. TestsLaws.antt says that they decide what Meaning.antt asks.
 -- Assumes nothing.
 use Prim.Native.Nat.{ℕ, _+_}
 use mathlib.Core.Bool.{Bool, true, false, _&&_}

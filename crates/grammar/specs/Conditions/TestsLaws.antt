@@ -1,4 +1,4 @@
--- The tests of `ConditionTests` decide the conditions 3 to 6 of `Conditions`. Assumes nothing.
+-- The tests of Tests.antt decide the conditions 3 to 6 of Meaning.antt. Assumes nothing.
 use Prim.Native.Nat.{ℕ, _+_}
 use native.Mathlib.Omega.{arith}
 use mathlib.Core.Path.{_≡_, refl, ap}

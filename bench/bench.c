@@ -126,6 +126,7 @@ int main(int argc, char **argv)
     }
     printf("%-10s %-16s %10s %10s %7s\n", "book", "call", "engine ns", "base ns", "ratio");
     run_book(argv[1], "s", both, rounds);
+    run_book(argv[1], "orchard", both, rounds);
     run_book(argv[1], "middle", both, rounds);
     run_book(argv[1], "states", both, rounds);
     run_book(argv[1], "limits", both, rounds);

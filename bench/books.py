@@ -3,8 +3,8 @@
 
     python3 bench/books.py
 
-S is document 01's; middle is a grammar as an adviser writes it; states has 128 states; limits has 128 states and a text of exactly 65,536 bytes;
-formulas is hard on the one-formula check. The files are kept in the repository, so that a benchmark needs no Python.
+S is document 01's; orchard is the book of examples/; middle is a grammar as an adviser writes it; states has 128 states; limits has 128 states and a text of
+exactly 65,536 bytes; formulas is hard on the one-formula check. The files are kept in the repository, so that a benchmark needs no Python.
 """
 
 import random
@@ -365,10 +365,20 @@ def messages(grammar, long_tokens, long_nodes):
     return {"short": sampler.longest(16, 40), "long": sampler.longest(long_tokens, long_nodes)}
 
 
+def orchard():
+    """The book of examples/, its message, and a message of a hundred days of which each seventh is missing."""
+    examples = ROOT / "examples"
+    text, lines = (examples / "orchard.book").read_text(), (examples / "orchard.txt").read_text().splitlines()
+    tokens = [tuple(map(int, line[5:-1].split())) for line in lines if line.startswith("(tok ")]
+    days = [(4, 0) if day % 7 == 6 else (3, day * 5 % 13) for day in range(100)]
+    write("orchard", text, short=tokens, long=tokens[:2] + days)
+
+
 def main():
     """All files."""
     BOOKS.mkdir(exist_ok=True)
     write("s", S, short=[(1, 100), (2, 5), (2, 7)], long=[(1, 100)] + [(2, value) for value in range(126)])
+    orchard()
     middle, states, limits, formulas = grammars.read(MIDDLE), states_grammar(), limits_grammar(), formulas_grammar()
     write("middle", lalr_book(middle), **messages(middle, 120, 255))
     write("states", lalr_book(states), **messages(states, 120, 255))

@@ -11,58 +11,14 @@ ghost use Rattle.attempts.specs.Rooms.{LinesLent};
 ghost use Rattle.attempts.specs.Evaluations.{Answers};
 use super::MEDIUM_TEXT;
 use super::SHORT_TEXT;
-use super::TINY_TEXT;
 use attempts::evaluating::Answer;
 use attempts::evaluating::attempt;
 use attempts::rooms::medium_room;
 use attempts::rooms::short_room;
-use attempts::rooms::tiny_room;
 use book::Book;
 use book::Room;
 use packing::unpacking::text_length;
 use packing::unpacking::unpack;
-
-// By arrays for a tiny book, whose text has `n` bytes.
-fn tiny(words: &[u32], n: usize, tokens: &[u32], rows: &mut [u32], count: &mut u32) -> Answer
-    requires { ⌜ (length (now words) ≡ BOOK-WORDS) × Holds (now words) n × (n ≤ 1024) ⌝ }
-    ensures { λ r. ⌜ (r .complete ≡ true → Answers (evaluateWords (now (words .entry)) (now (tokens .entry)) (length (now (rows .entry))))
-        (length (now (rows .entry))) (r .number) (now (rows .exit)) (now (count .exit))) ⌝ }
-{
-    let mut text = [0u8; 1024];
-    unpack(words, n, &mut text);
-    let mut rules = [0u32; 160];
-    let mut definitions = [0u32; 784];
-    let mut kernels = [0u32; 80];
-    let mut goes = [0u32; 48];
-    let mut vanishes = [0u32; 144];
-    let mut begins = [0u32; 144];
-    let mut reached = [0u32; 144];
-    let mut starts = [0u32; 9];
-    let mut lookaheads = [0u32; 256];
-    let mut fronts = [0u64; 8];
-    let mut table = [255u8; 512];
-    let mut actions = [0u8; 256];
-    attempt(
-        &mut text,
-        n,
-        tiny_room(),
-        &mut rules,
-        &mut definitions,
-        &mut kernels,
-        &mut goes,
-        &mut vanishes,
-        &mut begins,
-        &mut reached,
-        &mut starts,
-        &mut lookaheads,
-        &mut fronts,
-        &mut table,
-        &mut actions,
-        tokens,
-        rows,
-        count,
-    )
-}
 
 // By arrays for a short book, whose text has `n` bytes.
 fn short(words: &[u32], n: usize, tokens: &[u32], rows: &mut [u32], count: &mut u32) -> Answer
@@ -223,22 +179,6 @@ fn full(words: &[u32], n: usize, tokens: &[u32], rows: &mut [u32], count: &mut u
     long(words, n, tokens, rows, count)
 }
 
-// By arrays for a short book, or by longer ones where those have no room.
-fn longer(words: &[u32], n: usize, tokens: &[u32], rows: &mut [u32], count: &mut u32) -> u32
-    requires { ⌜ (length (now words) ≡ BOOK-WORDS) × Holds (now words) n ⌝ }
-    ensures { λ r. ⌜ Answers (evaluateWords (now (words .entry)) (now (tokens .entry)) (length (now (rows .entry)))) (length (now (rows .entry))) r
-        (now (rows .exit)) (now (count .exit)) ⌝ }
-{
-    if SHORT_TEXT < n {
-        return full(words, n, tokens, rows, count);
-    }
-    let first = short(words, n, tokens, rows, count);
-    if first.complete {
-        return first.number;
-    }
-    full(words, n, tokens, rows, count)
-}
-
 // The number that is answered, by the shortest arrays that have room; where it is 0, the rows and their count are in place.
 pub fn number(words: &[u32], tokens: &[u32], rows: &mut [u32], count: &mut u32) -> u32
     ensures { λ r. ⌜ Answers (evaluateWords (now (words .entry)) (now (tokens .entry)) (length (now (rows .entry)))) (length (now (rows .entry))) r
@@ -248,12 +188,12 @@ pub fn number(words: &[u32], tokens: &[u32], rows: &mut [u32], count: &mut u32) 
         return 11;
     }
     let n = text_length(words);
-    if TINY_TEXT < n {
-        return longer(words, n, tokens, rows, count);
+    if SHORT_TEXT < n {
+        return full(words, n, tokens, rows, count);
     }
-    let first = tiny(words, n, tokens, rows, count);
+    let first = short(words, n, tokens, rows, count);
     if first.complete {
         return first.number;
     }
-    longer(words, n, tokens, rows, count)
+    full(words, n, tokens, rows, count)
 }

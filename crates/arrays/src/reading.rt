@@ -9,47 +9,11 @@ ghost use Rattle.book.specs.Rooms.{fullRoom};
 ghost use Rattle.attempts.specs.Rooms.{LinesLent};
 use super::MEDIUM_TEXT;
 use super::SHORT_TEXT;
-use super::TINY_TEXT;
 use attempts::reading::Answer;
 use attempts::reading::attempt;
 use attempts::rooms::medium_room;
 use attempts::rooms::short_room;
-use attempts::rooms::tiny_room;
 use book::Room;
-
-// By arrays for a tiny book.
-fn tiny(text: &[u8], words: &mut [u32]) -> Answer
-    requires { ⌜ (length (now text) ≤ 1024) × (length (now words) ≡ BOOK-WORDS) ⌝ }
-    ensures { λ r. ⌜ (r .complete ≡ true → r .refusal ≡ refusal (now (text .entry))) ⌝ }
-{
-    let mut rules = [0u32; 160];
-    let mut kernels = [0u32; 80];
-    let mut goes = [0u32; 48];
-    let mut vanishes = [0u32; 144];
-    let mut begins = [0u32; 144];
-    let mut reached = [0u32; 144];
-    let mut starts = [0u32; 9];
-    let mut lookaheads = [0u32; 256];
-    let mut fronts = [0u64; 8];
-    let mut table = [255u8; 512];
-    let mut actions = [0u8; 256];
-    attempt(
-        text,
-        tiny_room(),
-        &mut rules,
-        &mut kernels,
-        &mut goes,
-        &mut vanishes,
-        &mut begins,
-        &mut reached,
-        &mut starts,
-        &mut lookaheads,
-        &mut fronts,
-        &mut table,
-        &mut actions,
-        words,
-    )
-}
 
 // By arrays for a short book.
 fn short(text: &[u8], words: &mut [u32]) -> Answer
@@ -175,8 +139,8 @@ fn full(text: &[u8], words: &mut [u32]) -> u32
     long(text, words)
 }
 
-// The first of 2 to 10 that applies to a text, or 0, by arrays for a short book, or by longer ones where those have no room.
-fn longer(text: &[u8], words: &mut [u32]) -> u32
+// The first of 2 to 10 that applies to a text, or 0, by the shortest arrays that have room.
+pub fn refusal(text: &[u8], words: &mut [u32]) -> u32
     requires { ⌜ (length (now text) ≤ MAX-TEXT) × (length (now words) ≡ BOOK-WORDS) ⌝ }
     ensures { λ r. ⌜ r ≡ refusal (now (text .entry)) ⌝ }
 {
@@ -188,19 +152,4 @@ fn longer(text: &[u8], words: &mut [u32]) -> u32
         return first.refusal;
     }
     full(text, words)
-}
-
-// The first of 2 to 10 that applies to a text, or 0, by the shortest arrays that have room.
-pub fn refusal(text: &[u8], words: &mut [u32]) -> u32
-    requires { ⌜ (length (now text) ≤ MAX-TEXT) × (length (now words) ≡ BOOK-WORDS) ⌝ }
-    ensures { λ r. ⌜ r ≡ refusal (now (text .entry)) ⌝ }
-{
-    if TINY_TEXT < text.len() {
-        return longer(text, words);
-    }
-    let first = tiny(text, words);
-    if first.complete {
-        return first.refusal;
-    }
-    longer(text, words)
 }

@@ -16,9 +16,6 @@ use Rattle.compiler.specs.States.{TablesLent}
 use Rattle.compiler.specs.Compiling.{Compiles}
 use Rattle.messages.specs.Zeros.{zeros}
 
-abbrev pub tinyRoom : Room
-tinyRoom = record { definitions = 16; kernels = 16; goes = 16; states = 8; rules = 16 }
-
 abbrev pub shortRoom : Room
 shortRoom = record { definitions = 48; kernels = 64; goes = 64; states = 32; rules = 32 }
 
@@ -65,10 +62,6 @@ arrays-lent room rules definitions kernels goes = record {
   kernels-few = kernels;
   goes-few = goes;
 }
-
-pub tiny-arrays : ArraysLent tinyRoom (replicate 160 0) (replicate 784 0) (replicate 80 0) (replicate 48 0) (replicate 144 0) (replicate 144 0)
-    (replicate 144 0) (replicate 9 0) (replicate 256 0) (replicate 8 0) (replicate 512 255)
-tiny-arrays = arrays-lent tinyRoom (omega arith) (omega arith) (omega arith) (omega arith)
 
 pub short-arrays : ArraysLent shortRoom (replicate 320 0) (replicate 2352 0) (replicate 320 0) (replicate 192 0) (replicate 288 0) (replicate 288 0)
     (replicate 288 0) (replicate 33 0) (replicate 1024 0) (replicate 32 0) (replicate 2048 255)

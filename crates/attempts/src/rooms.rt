@@ -1,20 +1,7 @@
-// How much room tiny, short and medium books have.
+// How much room short and medium books have.
 ghost use mathlib.Core.Path.{_≡_};
-ghost use Rattle.attempts.specs.Rooms.{tinyRoom, shortRoom, mediumRoom};
+ghost use Rattle.attempts.specs.Rooms.{shortRoom, mediumRoom};
 use book::Room;
-
-// Room for a few lines of each kind.
-pub fn tiny_room() -> Room
-    ensures { λ r. ⌜ r ≡ tinyRoom ⌝ }
-{
-    Room {
-        definitions: 16,
-        kernels: 16,
-        goes: 16,
-        states: 8,
-        rules: 16,
-    }
-}
 
 // Room for most books that advisers write.
 pub fn short_room() -> Room

@@ -1,19 +1,15 @@
-// A message under a stored book, by the shortest arrays that have room for the book.
+// A message under a stored book, by arrays that have room for the book.
 ghost use mathlib.Core.Path.{_≡_};
 ghost use mathlib.Core.Bool.{true};
-ghost use Prim.Native.Nat.{_+_, _*_, _%_, _≤_};
+ghost use Prim.Native.Nat.{_≤_};
 ghost use lib.ListN.{length};
-ghost use Rattle.grammar.specs.Limits.{MAX-TEXT, BOOK-WORDS};
+ghost use Rattle.grammar.specs.Limits.{BOOK-WORDS};
 ghost use Rattle.grammar.specs.Engine.{evaluateWords};
-ghost use Rattle.book.specs.Rooms.{fullRoom};
 ghost use Rattle.packing.specs.Words.{Holds};
-ghost use Rattle.attempts.specs.Rooms.{LinesLent};
 ghost use Rattle.attempts.specs.Evaluations.{Answers};
-use super::MEDIUM_TEXT;
 use super::SHORT_TEXT;
 use attempts::evaluating::Answer;
 use attempts::evaluating::attempt;
-use attempts::rooms::medium_room;
 use attempts::rooms::short_room;
 use book::Book;
 use book::Room;
@@ -62,28 +58,17 @@ fn short(words: &[u32], n: usize, tokens: &[u32], rows: &mut [u32], count: &mut 
     )
 }
 
-// By arrays for all that the limits allow but for kernel and go lines, for a book whose text has `n` bytes. `text`, `kernels`, `goes` and `actions` are
-// room for it, for those lines and for the actions. What is used first is made last.
-fn any_book(
-    words: &[u32],
-    n: usize,
-    room: Room,
-    text: &mut [u8],
-    kernels: &mut [u32],
-    goes: &mut [u32],
-    actions: &mut [u8],
-    tokens: &[u32],
-    rows: &mut [u32],
-    count: &mut u32,
-) -> Answer
-    requires { ⌜ (length (now words) ≡ BOOK-WORDS) × Holds (now words) n × (n ≤ length (now text)) × (length (now text) % 16 ≡ 0)
-        × (length (now text) ≤ MAX-TEXT) × (length (now text) ≤ 5 * length (now actions) + 3) × (4096 ≤ length (now actions))
-        × (4096 ≤ length (now text)) × LinesLent room (now kernels) (now goes) ⌝ }
-    ensures { λ r. ⌜ (r .complete ≡ true → Answers (evaluateWords (now (words .entry)) (now (tokens .entry)) (length (now (rows .entry))))
-        (length (now (rows .entry))) (r .number) (now (rows .exit)) (now (count .exit)))
-        × (room ≡ fullRoom → r .complete ≡ true) ⌝ }
+// By arrays for any book; its text has `n` bytes, and may stand in all words. What is used first is made last.
+fn long(words: &[u32], n: usize, tokens: &[u32], rows: &mut [u32], count: &mut u32) -> u32
+    requires { ⌜ (length (now words) ≡ BOOK-WORDS) × Holds (now words) n ⌝ }
+    ensures { λ r. ⌜ Answers (evaluateWords (now (words .entry)) (now (tokens .entry)) (length (now (rows .entry)))) (length (now (rows .entry))) r
+        (now (rows .exit)) (now (count .exit)) ⌝ }
 {
-    unpack(words, n, text);
+    let mut text = [0u8; 65536];
+    unpack(words, n, &mut text);
+    let mut kernels = [0u32; 2560];
+    let mut goes = [0u32; 3072];
+    let mut actions = [0u8; 13107];
     let mut starts = [0u32; 129];
     let mut lookaheads = [0u32; 4096];
     let mut fronts = [0u64; 128];
@@ -94,13 +79,13 @@ fn any_book(
     let mut rules = [0u32; 640];
     let mut definitions = [0u32; 6272];
     attempt(
-        text,
+        &mut text,
         n,
-        room,
+        Room::full(),
         &mut rules,
         &mut definitions,
-        kernels,
-        goes,
+        &mut kernels,
+        &mut goes,
         &mut vanishes,
         &mut begins,
         &mut reached,
@@ -108,54 +93,6 @@ fn any_book(
         &mut lookaheads,
         &mut fronts,
         &mut table,
-        actions,
-        tokens,
-        rows,
-        count,
-    )
-}
-
-// By arrays for a medium book, whose text has `n` bytes.
-fn medium(words: &[u32], n: usize, tokens: &[u32], rows: &mut [u32], count: &mut u32) -> Answer
-    requires { ⌜ (length (now words) ≡ BOOK-WORDS) × Holds (now words) n × (n ≤ 16384) ⌝ }
-    ensures { λ r. ⌜ (r .complete ≡ true → Answers (evaluateWords (now (words .entry)) (now (tokens .entry)) (length (now (rows .entry))))
-        (length (now (rows .entry))) (r .number) (now (rows .exit)) (now (count .exit))) ⌝ }
-{
-    let mut text = [0u8; 16384];
-    let mut kernels = [0u32; 1280];
-    let mut goes = [0u32; 768];
-    let mut actions = [0u8; 4096];
-    any_book(
-        words,
-        n,
-        medium_room(),
-        &mut text,
-        &mut kernels,
-        &mut goes,
-        &mut actions,
-        tokens,
-        rows,
-        count,
-    )
-}
-
-// By arrays for any book; its text has `n` bytes, and may stand in all words.
-fn long(words: &[u32], n: usize, tokens: &[u32], rows: &mut [u32], count: &mut u32) -> u32
-    requires { ⌜ (length (now words) ≡ BOOK-WORDS) × Holds (now words) n ⌝ }
-    ensures { λ r. ⌜ Answers (evaluateWords (now (words .entry)) (now (tokens .entry)) (length (now (rows .entry)))) (length (now (rows .entry))) r
-        (now (rows .exit)) (now (count .exit)) ⌝ }
-{
-    let mut text = [0u8; 65536];
-    let mut kernels = [0u32; 2560];
-    let mut goes = [0u32; 3072];
-    let mut actions = [0u8; 13107];
-    any_book(
-        words,
-        n,
-        Room::full(),
-        &mut text,
-        &mut kernels,
-        &mut goes,
         &mut actions,
         tokens,
         rows,
@@ -163,23 +100,7 @@ fn long(words: &[u32], n: usize, tokens: &[u32], rows: &mut [u32], count: &mut u
     ).number
 }
 
-// By arrays for a medium book, or for any where those have no room.
-fn full(words: &[u32], n: usize, tokens: &[u32], rows: &mut [u32], count: &mut u32) -> u32
-    requires { ⌜ (length (now words) ≡ BOOK-WORDS) × Holds (now words) n ⌝ }
-    ensures { λ r. ⌜ Answers (evaluateWords (now (words .entry)) (now (tokens .entry)) (length (now (rows .entry)))) (length (now (rows .entry))) r
-        (now (rows .exit)) (now (count .exit)) ⌝ }
-{
-    if MEDIUM_TEXT < n {
-        return long(words, n, tokens, rows, count);
-    }
-    let first = medium(words, n, tokens, rows, count);
-    if first.complete {
-        return first.number;
-    }
-    long(words, n, tokens, rows, count)
-}
-
-// The number that is answered, by the shortest arrays that have room; where it is 0, the rows and their count are in place.
+// The number that is answered, by arrays for a short book, or for any where those have no room; where it is 0, the rows and their count are in place.
 pub fn number(words: &[u32], tokens: &[u32], rows: &mut [u32], count: &mut u32) -> u32
     ensures { λ r. ⌜ Answers (evaluateWords (now (words .entry)) (now (tokens .entry)) (length (now (rows .entry)))) (length (now (rows .entry))) r
         (now (rows .exit)) (now (count .exit)) ⌝ }
@@ -189,11 +110,11 @@ pub fn number(words: &[u32], tokens: &[u32], rows: &mut [u32], count: &mut u32) 
     }
     let n = text_length(words);
     if SHORT_TEXT < n {
-        return full(words, n, tokens, rows, count);
+        return long(words, n, tokens, rows, count);
     }
     let first = short(words, n, tokens, rows, count);
     if first.complete {
         return first.number;
     }
-    full(words, n, tokens, rows, count)
+    long(words, n, tokens, rows, count)
 }

@@ -1,8 +1,6 @@
-// Arrays for short, medium and long books: a text read, or a message answered, by the shortest that have room.
+// Arrays for short and for long books: a text read, or a message answered, by the shorter ones where they have room.
 pub mod evaluating;
 pub mod reading;
 
-// The longest texts for which arrays for a short book and for a medium one are tried.
+// The longest text for which arrays for a short book are tried.
 pub const SHORT_TEXT: usize = 4096;
-
-pub const MEDIUM_TEXT: usize = 16384;

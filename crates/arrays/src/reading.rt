@@ -1,17 +1,13 @@
-// The refusal of a text, by the shortest arrays that have room for its book.
+// The refusal of a text, by arrays that have room for its book.
 ghost use mathlib.Core.Path.{_≡_};
 ghost use mathlib.Core.Bool.{true};
-ghost use Prim.Native.Nat.{_+_, _*_, _≤_};
+ghost use Prim.Native.Nat.{_≤_};
 ghost use lib.ListN.{length};
 ghost use Rattle.grammar.specs.Limits.{MAX-TEXT, BOOK-WORDS};
 ghost use Rattle.grammar.specs.Refusal.{refusal};
-ghost use Rattle.book.specs.Rooms.{fullRoom};
-ghost use Rattle.attempts.specs.Rooms.{LinesLent};
-use super::MEDIUM_TEXT;
 use super::SHORT_TEXT;
 use attempts::reading::Answer;
 use attempts::reading::attempt;
-use attempts::rooms::medium_room;
 use attempts::rooms::short_room;
 use book::Room;
 
@@ -49,19 +45,14 @@ fn short(text: &[u8], words: &mut [u32]) -> Answer
     )
 }
 
-// By arrays for all that the limits allow but for kernel and go lines, for which `kernels` and `goes` are room; `actions` is room for the actions.
-fn any_text(
-    text: &[u8],
-    room: Room,
-    kernels: &mut [u32],
-    goes: &mut [u32],
-    actions: &mut [u8],
-    words: &mut [u32],
-) -> Answer
-    requires { ⌜ (length (now text) ≤ MAX-TEXT) × (length (now words) ≡ BOOK-WORDS) × (length (now text) ≤ 5 * length (now actions) + 3)
-        × (4096 ≤ length (now actions)) × LinesLent room (now kernels) (now goes) ⌝ }
-    ensures { λ r. ⌜ (r .complete ≡ true → r .refusal ≡ refusal (now (text .entry))) × (room ≡ fullRoom → r .complete ≡ true) ⌝ }
+// By arrays for any book. What is used first is made last.
+fn long(text: &[u8], words: &mut [u32]) -> u32
+    requires { ⌜ (length (now text) ≤ MAX-TEXT) × (length (now words) ≡ BOOK-WORDS) ⌝ }
+    ensures { λ r. ⌜ r ≡ refusal (now (text .entry)) ⌝ }
 {
+    let mut kernels = [0u32; 2560];
+    let mut goes = [0u32; 3072];
+    let mut actions = [0u8; 13107];
     let mut starts = [0u32; 129];
     let mut lookaheads = [0u32; 4096];
     let mut fronts = [0u64; 128];
@@ -72,10 +63,10 @@ fn any_text(
     let mut rules = [0u32; 640];
     attempt(
         text,
-        room,
+        Room::full(),
         &mut rules,
-        kernels,
-        goes,
+        &mut kernels,
+        &mut goes,
         &mut vanishes,
         &mut begins,
         &mut reached,
@@ -83,73 +74,22 @@ fn any_text(
         &mut lookaheads,
         &mut fronts,
         &mut table,
-        actions,
-        words,
-    )
-}
-
-// By arrays for a medium book.
-fn medium(text: &[u8], words: &mut [u32]) -> Answer
-    requires { ⌜ (length (now text) ≤ 16384) × (length (now words) ≡ BOOK-WORDS) ⌝ }
-    ensures { λ r. ⌜ (r .complete ≡ true → r .refusal ≡ refusal (now (text .entry))) ⌝ }
-{
-    let mut kernels = [0u32; 1280];
-    let mut goes = [0u32; 768];
-    let mut actions = [0u8; 4096];
-    any_text(
-        text,
-        medium_room(),
-        &mut kernels,
-        &mut goes,
-        &mut actions,
-        words,
-    )
-}
-
-// By arrays for any book.
-fn long(text: &[u8], words: &mut [u32]) -> u32
-    requires { ⌜ (length (now text) ≤ MAX-TEXT) × (length (now words) ≡ BOOK-WORDS) ⌝ }
-    ensures { λ r. ⌜ r ≡ refusal (now (text .entry)) ⌝ }
-{
-    let mut kernels = [0u32; 2560];
-    let mut goes = [0u32; 3072];
-    let mut actions = [0u8; 13107];
-    any_text(
-        text,
-        Room::full(),
-        &mut kernels,
-        &mut goes,
         &mut actions,
         words,
     ).refusal
 }
 
-// The first of 2 to 10 that applies to a text, or 0, by arrays for a medium book, or for any where those have no room.
-fn full(text: &[u8], words: &mut [u32]) -> u32
-    requires { ⌜ (length (now text) ≤ MAX-TEXT) × (length (now words) ≡ BOOK-WORDS) ⌝ }
-    ensures { λ r. ⌜ r ≡ refusal (now (text .entry)) ⌝ }
-{
-    if MEDIUM_TEXT < text.len() {
-        return long(text, words);
-    }
-    let first = medium(text, words);
-    if first.complete {
-        return first.refusal;
-    }
-    long(text, words)
-}
-
-// The first of 2 to 10 that applies to a text, or 0, by the shortest arrays that have room.
+// The first of 2 to 10 that applies to a text, or 0, by arrays for a short book, or for any where those have no room.
 pub fn refusal(text: &[u8], words: &mut [u32]) -> u32
     requires { ⌜ (length (now text) ≤ MAX-TEXT) × (length (now words) ≡ BOOK-WORDS) ⌝ }
     ensures { λ r. ⌜ r ≡ refusal (now (text .entry)) ⌝ }
 {
     if SHORT_TEXT < text.len() {
-        return full(text, words);
+        return long(text, words);
     }
     let first = short(text, words);
     if first.complete {
         return first.refusal;
     }
-    full(text, words)
+    long(text, words)
 }

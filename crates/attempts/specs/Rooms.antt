@@ -19,9 +19,6 @@ use Rattle.messages.specs.Zeros.{zeros}
 abbrev pub shortRoom : Room
 shortRoom = record { definitions = 48; kernels = 64; goes = 64; states = 32; rules = 32 }
 
-abbrev pub mediumRoom : Room
-mediumRoom = record { definitions = MAX-DEFINITIONS; kernels = 256; goes = 256; states = MAX-STATES; rules = MAX-RULES }
-
 -- the arrays that are as long as a room says, which is no more than the limits allow
 pub record ArraysLent (room : Room) (rules definitions kernels goes vanishes begins reached starts closures fronts table : List ℕ) : Type 0 where
   pub rules-long : length rules ≡ 10 * room .rules
@@ -41,11 +38,14 @@ pub record ArraysLent (room : Room) (rules definitions kernels goes vanishes beg
   pub goes-few : room .goes ≤ MAX-GOES
 
 -- arrays of zeros, and a go table of 255s
-arrays-lent : (room : Room) → room .rules ≤ MAX-RULES → room .definitions ≤ MAX-DEFINITIONS → room .kernels ≤ MAX-KERNELS → room .goes ≤ MAX-GOES
-    → ArraysLent room (replicate (10 * room .rules) 0) (replicate (49 * room .definitions) 0) (replicate (5 * room .kernels) 0)
+abbrev pub FreshArrays : Room → Type 0
+FreshArrays room = ArraysLent room (replicate (10 * room .rules) 0) (replicate (49 * room .definitions) 0) (replicate (5 * room .kernels) 0)
     (replicate (3 * room .goes) 0) (replicate (9 * room .rules) 0) (replicate (9 * room .rules) 0) (replicate (9 * room .rules) 0)
     (replicate (room .states + 1) 0) (replicate (32 * room .states) 0) (replicate (room .states) 0) (replicate (64 * room .states) 255)
-arrays-lent room rules definitions kernels goes = record {
+
+fresh-arrays : (room : Room) → room .rules ≤ MAX-RULES → room .definitions ≤ MAX-DEFINITIONS → room .kernels ≤ MAX-KERNELS → room .goes ≤ MAX-GOES
+    → FreshArrays room
+fresh-arrays room rules definitions kernels goes = record {
   rules-long = zeros (10 * room .rules);
   definitions-long = zeros (49 * room .definitions);
   kernels-long = zeros (5 * room .kernels);
@@ -63,59 +63,11 @@ arrays-lent room rules definitions kernels goes = record {
   goes-few = goes;
 }
 
-pub short-arrays : ArraysLent shortRoom (replicate 320 0) (replicate 2352 0) (replicate 320 0) (replicate 192 0) (replicate 288 0) (replicate 288 0)
-    (replicate 288 0) (replicate 33 0) (replicate 1024 0) (replicate 32 0) (replicate 2048 255)
-short-arrays = arrays-lent shortRoom (omega arith) (omega arith) (omega arith) (omega arith)
+pub short-arrays : FreshArrays shortRoom
+short-arrays = fresh-arrays shortRoom (omega arith) (omega arith) (omega arith) (omega arith)
 
--- room for all that the limits allow but for kernel and go lines, of which there is room for some
-pub record LinesLent (room : Room) (kernels goes : List ℕ) : Type 0 where
-  pub kernels-long : length kernels ≡ 5 * room .kernels
-  pub goes-long : length goes ≡ 3 * room .goes
-  pub kernels-few : room .kernels ≤ MAX-KERNELS
-  pub goes-few : room .goes ≤ MAX-GOES
-  pub rules-all : room .rules ≡ MAX-RULES
-  pub definitions-all : room .definitions ≡ MAX-DEFINITIONS
-  pub states-all : room .states ≡ MAX-STATES
-
-lines-lent : (k g : ℕ) → k ≤ MAX-KERNELS → g ≤ MAX-GOES
-    → LinesLent (record { definitions = MAX-DEFINITIONS; kernels = k; goes = g; states = MAX-STATES; rules = MAX-RULES }) (replicate (5 * k) 0)
-    (replicate (3 * g) 0)
-lines-lent k g kernels goes = record {
-  kernels-long = zeros (5 * k);
-  goes-long = zeros (3 * g);
-  kernels-few = kernels;
-  goes-few = goes;
-  rules-all = refl;
-  definitions-all = refl;
-  states-all = refl;
-}
-
-pub medium-lines : LinesLent mediumRoom (replicate 1280 0) (replicate 768 0)
-medium-lines = lines-lent 256 256 (omega arith) (omega arith)
-
-pub full-lines : LinesLent fullRoom (replicate 2560 0) (replicate 3072 0)
-full-lines = lines-lent MAX-KERNELS MAX-GOES (omega arith) (omega arith)
-
-pub wide-arrays : {room : Room} {kernels goes : List ℕ} → LinesLent room kernels goes
-    → ArraysLent room (replicate 640 0) (replicate 6272 0) kernels goes (replicate 576 0) (replicate 576 0) (replicate 576 0) (replicate 129 0)
-    (replicate 4096 0) (replicate 128 0) (replicate 8192 255)
-wide-arrays lent = record {
-  rules-long = rw (lent .rules-all) (zeros 640);
-  definitions-long = rw (lent .definitions-all) (zeros 6272);
-  kernels-long = lent .kernels-long;
-  goes-long = lent .goes-long;
-  vanishes-long = rw (lent .rules-all) (zeros 576);
-  begins-long = rw (lent .rules-all) (zeros 576);
-  reached-long = rw (lent .rules-all) (zeros 576);
-  starts-long = rw (lent .states-all) (zeros 129);
-  closures-none = rw (lent .states-all) refl;
-  fronts-long = rw (lent .states-all) (zeros 128);
-  table-unset = rw (lent .states-all) (unset-all MAX-STATES);
-  rules-few = omega (arith, lent .rules-all);
-  definitions-few = omega (arith, lent .definitions-all);
-  kernels-few = lent .kernels-few;
-  goes-few = lent .goes-few;
-}
+pub full-arrays : FreshArrays fullRoom
+full-arrays = fresh-arrays fullRoom (omega arith) (omega arith) (omega arith) (omega arith)
 
 -- where there is room for all that the limits allow, nothing is left out
 full-complete : (numbers : Book) → Complete fullRoom numbers

@@ -1,6 +1,6 @@
-// How much room short and medium books have.
+// How much room short books have.
 ghost use mathlib.Core.Path.{_≡_};
-ghost use Rattle.attempts.specs.Rooms.{shortRoom, mediumRoom};
+ghost use Rattle.attempts.specs.Rooms.{shortRoom};
 use book::Room;
 
 // Room for most books that advisers write.
@@ -13,18 +13,5 @@ pub fn short_room() -> Room
         goes: 64,
         states: 32,
         rules: 32,
-    }
-}
-
-// Room for all that the limits allow, but for fewer kernel and go lines.
-pub fn medium_room() -> Room
-    ensures { λ r. ⌜ r ≡ mediumRoom ⌝ }
-{
-    Room {
-        definitions: 128,
-        kernels: 256,
-        goes: 256,
-        states: 128,
-        rules: 64,
     }
 }

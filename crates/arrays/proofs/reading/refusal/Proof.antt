@@ -1,10 +1,10 @@
--- `reading::refusal` meets its contract: longer arrays are taken where those for a short book have no room. Assumes nothing.
+-- `reading::refusal` meets its contract: arrays for any book are taken where those for a short one have no room. Assumes nothing.
 use borrow.Author.Needs.{needs}
 use Rattle.arrays.proofs.reading.refusal.Statement.{statement}
 use Rattle.arrays.proofs.reading.refusal.Tie as tie
 
-full-requires : tie.Need-full-requires
-full-requires c κs = search needs
+long-requires : tie.Need-long-requires
+long-requires c κs = search needs
 
 same-length : tie.Need-same-length
 same-length c = search needs
@@ -21,8 +21,8 @@ same-length-2 c = search needs
 returns-2 : tie.Need-returns-2
 returns-2 c = c .before .before .before .short .ensures (c .if2 .taken)
 
-full-requires-2 : tie.Need-full-requires-2
-full-requires-2 c κs = search needs
+long-requires-2 : tie.Need-long-requires-2
+long-requires-2 c κs = search needs
 
 same-length-3 : tie.Need-same-length-3
 same-length-3 c = search needs
@@ -34,12 +34,12 @@ pub refusal-spec : {M : Type 1} → statement M
 refusal-spec =
     tie.close
     (tie.spec
-    full-requires
+    long-requires
     same-length
     returns
     short-requires
     same-length-2
     returns-2
-    full-requires-2
+    long-requires-2
     same-length-3
     returns-3)

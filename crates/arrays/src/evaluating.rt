@@ -6,36 +6,43 @@ ghost use lib.ListN.{length};
 ghost use Rattle.grammar.specs.Limits.{BOOK-WORDS};
 ghost use Rattle.grammar.specs.Engine.{evaluateWords};
 ghost use Rattle.packing.specs.Words.{Holds};
+ghost use Rattle.attempts.specs.Rooms.{SHORT-TEXT};
 ghost use Rattle.attempts.specs.Evaluations.{Answers};
 use super::SHORT_TEXT;
 use attempts::evaluating::Answer;
 use attempts::evaluating::attempt;
+use attempts::rooms::SHORT_DEFINITIONS;
+use attempts::rooms::SHORT_GOES;
+use attempts::rooms::SHORT_KERNELS;
+use attempts::rooms::SHORT_RULES;
+use attempts::rooms::SHORT_STATES;
 use attempts::rooms::short_room;
 use book::Book;
 use book::Room;
+use definitions::definitions::WORDS;
 use packing::unpacking::text_length;
 use packing::unpacking::unpack;
 
 // By arrays for a short book, whose text has `n` bytes.
 fn short(words: &[u32], n: usize, tokens: &[u32], rows: &mut [u32], count: &mut u32) -> Answer
-    requires { ⌜ (length (now words) ≡ BOOK-WORDS) × Holds (now words) n × (n ≤ 4096) ⌝ }
+    requires { ⌜ (length (now words) ≡ BOOK-WORDS) × Holds (now words) n × (n ≤ SHORT-TEXT) ⌝ }
     ensures { λ r. ⌜ (r .complete ≡ true → Answers (evaluateWords (now (words .entry)) (now (tokens .entry)) (length (now (rows .entry))))
         (length (now (rows .entry))) (r .number) (now (rows .exit)) (now (count .exit))) ⌝ }
 {
-    let mut text = [0u8; 4096];
+    let mut text = [0u8; SHORT_TEXT];
     unpack(words, n, &mut text);
-    let mut rules = [0u32; 320];
-    let mut definitions = [0u32; 2352];
-    let mut kernels = [0u32; 320];
-    let mut goes = [0u32; 192];
-    let mut vanishes = [0u32; 288];
-    let mut begins = [0u32; 288];
-    let mut reached = [0u32; 288];
-    let mut starts = [0u32; 33];
-    let mut lookaheads = [0u32; 1024];
-    let mut fronts = [0u64; 32];
-    let mut table = [255u8; 2048];
-    let mut actions = [0u8; 1024];
+    let mut rules = [0u32; 10 * SHORT_RULES];
+    let mut definitions = [0u32; WORDS * SHORT_DEFINITIONS];
+    let mut kernels = [0u32; 5 * SHORT_KERNELS];
+    let mut goes = [0u32; 3 * SHORT_GOES];
+    let mut vanishes = [0u32; 9 * SHORT_RULES];
+    let mut begins = [0u32; 9 * SHORT_RULES];
+    let mut reached = [0u32; 9 * SHORT_RULES];
+    let mut starts = [0u32; SHORT_STATES + 1];
+    let mut lookaheads = [0u32; 32 * SHORT_STATES];
+    let mut fronts = [0u64; SHORT_STATES];
+    let mut table = [255u8; 64 * SHORT_STATES];
+    let mut actions = [0u8; 32 * SHORT_STATES];
     attempt(
         &mut text,
         n,
@@ -64,20 +71,20 @@ fn long(words: &[u32], n: usize, tokens: &[u32], rows: &mut [u32], count: &mut u
     ensures { λ r. ⌜ Answers (evaluateWords (now (words .entry)) (now (tokens .entry)) (length (now (rows .entry)))) (length (now (rows .entry))) r
         (now (rows .exit)) (now (count .exit)) ⌝ }
 {
-    let mut text = [0u8; 65536];
+    let mut text = [0u8; Book::MAX_TEXT];
     unpack(words, n, &mut text);
-    let mut kernels = [0u32; 2560];
-    let mut goes = [0u32; 3072];
-    let mut actions = [0u8; 13107];
-    let mut starts = [0u32; 129];
-    let mut lookaheads = [0u32; 4096];
-    let mut fronts = [0u64; 128];
-    let mut table = [255u8; 8192];
-    let mut vanishes = [0u32; 576];
-    let mut begins = [0u32; 576];
-    let mut reached = [0u32; 576];
-    let mut rules = [0u32; 640];
-    let mut definitions = [0u32; 6272];
+    let mut kernels = [0u32; 5 * Book::MAX_KERNELS as usize];
+    let mut goes = [0u32; 3 * Book::MAX_GOES as usize];
+    let mut actions = [0u8; Book::MAX_TEXT / 5];
+    let mut starts = [0u32; Book::MAX_STATES as usize + 1];
+    let mut lookaheads = [0u32; 32 * Book::MAX_STATES as usize];
+    let mut fronts = [0u64; Book::MAX_STATES as usize];
+    let mut table = [255u8; 64 * Book::MAX_STATES as usize];
+    let mut vanishes = [0u32; 9 * Book::MAX_RULES as usize];
+    let mut begins = [0u32; 9 * Book::MAX_RULES as usize];
+    let mut reached = [0u32; 9 * Book::MAX_RULES as usize];
+    let mut rules = [0u32; 10 * Book::MAX_RULES as usize];
+    let mut definitions = [0u32; WORDS * Book::MAX_DEFINITIONS as usize];
     attempt(
         &mut text,
         n,

@@ -5,28 +5,34 @@ ghost use Prim.Native.Nat.{_≤_};
 ghost use lib.ListN.{length};
 ghost use Rattle.grammar.specs.Limits.{MAX-TEXT, BOOK-WORDS};
 ghost use Rattle.grammar.specs.Refusal.{refusal};
+ghost use Rattle.attempts.specs.Rooms.{SHORT-TEXT};
 use super::SHORT_TEXT;
 use attempts::reading::Answer;
 use attempts::reading::attempt;
+use attempts::rooms::SHORT_GOES;
+use attempts::rooms::SHORT_KERNELS;
+use attempts::rooms::SHORT_RULES;
+use attempts::rooms::SHORT_STATES;
 use attempts::rooms::short_room;
+use book::Book;
 use book::Room;
 
 // By arrays for a short book.
 fn short(text: &[u8], words: &mut [u32]) -> Answer
-    requires { ⌜ (length (now text) ≤ 4096) × (length (now words) ≡ BOOK-WORDS) ⌝ }
+    requires { ⌜ (length (now text) ≤ SHORT-TEXT) × (length (now words) ≡ BOOK-WORDS) ⌝ }
     ensures { λ r. ⌜ (r .complete ≡ true → r .refusal ≡ refusal (now (text .entry))) ⌝ }
 {
-    let mut rules = [0u32; 320];
-    let mut kernels = [0u32; 320];
-    let mut goes = [0u32; 192];
-    let mut vanishes = [0u32; 288];
-    let mut begins = [0u32; 288];
-    let mut reached = [0u32; 288];
-    let mut starts = [0u32; 33];
-    let mut lookaheads = [0u32; 1024];
-    let mut fronts = [0u64; 32];
-    let mut table = [255u8; 2048];
-    let mut actions = [0u8; 1024];
+    let mut rules = [0u32; 10 * SHORT_RULES];
+    let mut kernels = [0u32; 5 * SHORT_KERNELS];
+    let mut goes = [0u32; 3 * SHORT_GOES];
+    let mut vanishes = [0u32; 9 * SHORT_RULES];
+    let mut begins = [0u32; 9 * SHORT_RULES];
+    let mut reached = [0u32; 9 * SHORT_RULES];
+    let mut starts = [0u32; SHORT_STATES + 1];
+    let mut lookaheads = [0u32; 32 * SHORT_STATES];
+    let mut fronts = [0u64; SHORT_STATES];
+    let mut table = [255u8; 64 * SHORT_STATES];
+    let mut actions = [0u8; 32 * SHORT_STATES];
     attempt(
         text,
         short_room(),
@@ -50,17 +56,17 @@ fn long(text: &[u8], words: &mut [u32]) -> u32
     requires { ⌜ (length (now text) ≤ MAX-TEXT) × (length (now words) ≡ BOOK-WORDS) ⌝ }
     ensures { λ r. ⌜ r ≡ refusal (now (text .entry)) ⌝ }
 {
-    let mut kernels = [0u32; 2560];
-    let mut goes = [0u32; 3072];
-    let mut actions = [0u8; 13107];
-    let mut starts = [0u32; 129];
-    let mut lookaheads = [0u32; 4096];
-    let mut fronts = [0u64; 128];
-    let mut table = [255u8; 8192];
-    let mut vanishes = [0u32; 576];
-    let mut begins = [0u32; 576];
-    let mut reached = [0u32; 576];
-    let mut rules = [0u32; 640];
+    let mut kernels = [0u32; 5 * Book::MAX_KERNELS as usize];
+    let mut goes = [0u32; 3 * Book::MAX_GOES as usize];
+    let mut actions = [0u8; Book::MAX_TEXT / 5];
+    let mut starts = [0u32; Book::MAX_STATES as usize + 1];
+    let mut lookaheads = [0u32; 32 * Book::MAX_STATES as usize];
+    let mut fronts = [0u64; Book::MAX_STATES as usize];
+    let mut table = [255u8; 64 * Book::MAX_STATES as usize];
+    let mut vanishes = [0u32; 9 * Book::MAX_RULES as usize];
+    let mut begins = [0u32; 9 * Book::MAX_RULES as usize];
+    let mut reached = [0u32; 9 * Book::MAX_RULES as usize];
+    let mut rules = [0u32; 10 * Book::MAX_RULES as usize];
     attempt(
         text,
         Room::full(),

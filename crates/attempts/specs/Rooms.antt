@@ -16,6 +16,10 @@ use Rattle.compiler.specs.States.{TablesLent}
 use Rattle.compiler.specs.Compiling.{Compiles}
 use Rattle.messages.specs.Zeros.{zeros}
 
+-- what a short book has at the most
+abbrev pub SHORT-TEXT : ℕ
+SHORT-TEXT = 4096
+
 abbrev pub shortRoom : Room
 shortRoom = record { definitions = 48; kernels = 64; goes = 64; states = 32; rules = 32 }
 

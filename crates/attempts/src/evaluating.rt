@@ -8,29 +8,24 @@ ghost use Rattle.attempts.specs.Evaluations.{Asked};
 ghost use Rattle.attempts.specs.Attempts.{Read, Attempts};
 ghost use Rattle.book.specs.declared.Room.{Room};
 use super::tokens::kinds_right;
+use book::Book;
 use book::Room;
 use compiler::compile::Compiled;
 use compiler::compile::compile;
 use messages::messages::message;
 use text::classes;
 
-// Words of all rows.
-const PAGE_WORDS: usize = 5120;
-
-// Numbers of the most tokens.
-const TOKEN_WORDS: usize = 510;
-
 // The first of 12, 13 and 14 that applies to the room for rows and the tokens, or 0.
 fn asked(tokens: &[u32], terminals: u32, lent: usize) -> u32
     ensures { λ r. ⌜ Asked terminals (now (tokens .entry)) lent r ⌝ }
 {
-    if lent != PAGE_WORDS {
+    if lent != Book::PAGE_WORDS {
         return 12;
     }
     if tokens.len() % 2 != 0 {
         return 13;
     }
-    if TOKEN_WORDS < tokens.len() {
+    if 2 * Book::MAX_TOKENS < tokens.len() {
         return 13;
     }
     if !kinds_right(tokens, terminals) {
@@ -150,8 +145,8 @@ pub fn attempt(
         (now (count .exit)) ⌝ }
 {
     let t = classes();
-    let mut inherited = [0u32; 16];
-    let mut synthesized = [0u32; 32];
+    let mut inherited = [0u32; Book::MAX_INHERITED as usize];
+    let mut synthesized = [0u32; Book::MAX_SYNTHESIZED as usize];
     let compiled = compile(
         &t,
         &text[..n],

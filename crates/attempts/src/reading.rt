@@ -6,8 +6,10 @@ ghost use Rattle.grammar.specs.Limits.{MAX-TEXT, BOOK-WORDS};
 ghost use Rattle.definitions.specs.Expressions.{WaitsRoom};
 ghost use Rattle.attempts.specs.Rooms.{ArraysLent};
 ghost use Rattle.attempts.specs.Readings.{Attempted};
+use book::Book;
 use book::Room;
 use compiler::compile::compile;
+use definitions::definitions::WORDS;
 use text::classes;
 
 // The refusal of a text, or 0; nothing is said where arrays have no room for what the text has.
@@ -40,9 +42,9 @@ pub fn attempt(
     ensures { λ r. ⌜ Attempted room (now (text .entry)) (r .complete) (r .refusal) ⌝ }
 {
     let t = classes();
-    let size = 49 * room.definitions;
-    let mut inherited = [0u32; 16];
-    let mut synthesized = [0u32; 32];
+    let size = WORDS * room.definitions;
+    let mut inherited = [0u32; Book::MAX_INHERITED as usize];
+    let mut synthesized = [0u32; Book::MAX_SYNTHESIZED as usize];
     let compiled = compile(
         &t,
         text,

@@ -11,6 +11,9 @@ returns c = asked-rows _ _ _ (c .if1 .taken)
 returns-2 : tie.Need-returns-2
 returns-2 c = asked-odd _ _ _ (c .before .if1 .left) (c .if2 .taken)
 
+mul-if3 : tie.Need-mul-if3
+mul-if3 c = search needs
+
 returns-3 : tie.Need-returns-3
 returns-3 c = asked-long _ _ _ (c .before .before .if1 .left) (c .before .if2 .left) (c .if3 .taken)
 
@@ -28,4 +31,4 @@ returns-5 c = let k = c .before in
     asked-all _ _ _ (l .before .before .if1 .left) (l .before .if2 .left) (l .if3 .left) (k .kinds-right .ensures) (not-false _ (c .if4 .left))
 
 pub asked-spec : {M : Type 1} → statement M
-asked-spec = tie.close (tie.spec returns returns-2 returns-3 kinds-right-requires returns-4 returns-5)
+asked-spec = tie.close (tie.spec returns returns-2 mul-if3 returns-3 kinds-right-requires returns-4 returns-5)

@@ -74,15 +74,15 @@ module _ {numbers : Book} {inherited synthesized rules definitions kernels goes 
   pub places-room : 32 + 9 * length (b .rules) ≤ 608
   places-room = omega (arith, rules-low (asked-formulas (h .ready)))
 
--- the stacks as they are before the first move, with room for n symbols
-pub run-room : (n : ℕ) → n ≤ MAX-STACK → {rows : List ℕ} → length rows ≡ PAGE-WORDS
-    → Rooms (replicate (n + 1) 0) (replicate (16 * n + 16) 0) (replicate (33 * n) 0) (replicate n 0) rows
-run-room n low e = record {
+-- the stacks as they are before the first move
+pub run-room : {rows : List ℕ} → length rows ≡ PAGE-WORDS
+    → Rooms (replicate (MAX-STACK + 1) 0) (replicate (16 * MAX-STACK + 16) 0) (replicate (33 * MAX-STACK) 0) (replicate MAX-STACK 0) rows
+run-room e = record {
   stacks = record {
-    starts-low = omega (arith, zeros n);
-    states-long = omega (arith, zeros n, zeros (n + 1));
-    synthesized-long = omega (arith, zeros n, zeros (33 * n));
+    starts-low = omega (arith, zeros MAX-STACK);
+    states-long = omega (arith, zeros MAX-STACK, zeros (MAX-STACK + 1));
+    synthesized-long = omega (arith, zeros MAX-STACK, zeros (33 * MAX-STACK));
     rows-long = e;
   };
-  cells-long = omega (arith, zeros n, zeros (16 * n + 16));
+  cells-long = omega (arith, zeros MAX-STACK, zeros (16 * MAX-STACK + 16));
 }

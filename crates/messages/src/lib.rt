@@ -1,3 +1,3 @@
-// A message under a book that is taken: the machine's run over it, by stacks of two sizes.
+// A message under a book that is taken: the machine's run over it.
 pub mod messages;
 pub mod sides;

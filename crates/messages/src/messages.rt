@@ -1,6 +1,5 @@
-// The machine's run over a message under a book that is taken, by stacks of two sizes: short messages need few symbols, and long arrays cost time to clear.
+// The machine's run over a message under a book that is taken.
 ghost use mathlib.Core.Path.{_≡_};
-ghost use mathlib.Core.Logic.{_≢_};
 ghost use Prim.Native.Nat.{_*_, _≤_};
 ghost use lib.ListN.{length};
 ghost use Rattle.grammar.specs.Limits.{PAGE-WORDS};
@@ -8,8 +7,6 @@ ghost use Rattle.grammar.specs.Data.Book.{Book as Lines};
 ghost use Rattle.grammar.specs.Evaluator.Machine.{Answer, evaluate};
 ghost use Rattle.grammar.specs.Engine.{tablesOf};
 ghost use Rattle.conditions.specs.Answers.{Some};
-ghost use Rattle.plans.specs.Plans.{NoneListed};
-ghost use Rattle.machine.specs.Moving.{Rooms, Final};
 ghost use Rattle.machine.specs.RunningLaws.{Answered};
 ghost use Rattle.messages.specs.Messages.{TakenBook, Message};
 ghost use Rattle.messages.specs.Pages.{Paged};
@@ -21,224 +18,16 @@ use machine::run::run;
 use packing::packing::clear;
 use plans::members::mark_places;
 
-// Symbols of the short stacks and of the full ones. Each has a state, a cell of 16 words, a record of 33 and its start; above them stand the state and the
-// cell on top.
-const SHORT_STACK: usize = 32;
+// Nonterminals, with the one that stands for a whole message, and rules.
+const NONTERMINALS: usize = Book::MAX_NONTERMINALS as usize + 1;
 
-const FULL_STACK: usize = 128;
+const RULES: usize = Book::MAX_RULES as usize;
 
-// Slots for plans of a short message and of any other. Each has 17 bytes; behind them stands the number of the last one in use.
-const SHORT_PLANS: usize = 64;
+// Slots for plans. Each has 17 bytes; behind them stands the number of the last one in use.
+const PLANS: usize = 255;
 
-const FULL_PLANS: usize = 255;
-
-// Numbers of the most tokens of a short message.
-const SHORT_WORDS: usize = 48;
-
-// The answer where the symbols have no room.
-const NO_ROOM: u32 = 17;
-
-// The run by stacks of the caller, whose symbols are as many as their bounds, and by its lists of plans. `slots` may hold anything. Nothing is said
-// of a 17 for want of room in stacks that are not full.
-fn message_on(
-    book: Book,
-    inherited: &[u32],
-    synthesized: &[u32],
-    rules: &[u32],
-    definitions: &[u32],
-    kernels: &[u32],
-    goes: &[u32],
-    vanishes: &[u32],
-    reached: &[u32],
-    starts: &[u32],
-    lookaheads: &[u32],
-    table: &[u8],
-    actions: &[u8],
-    tokens: &[u32],
-    slots: &mut [u8],
-    rows: &mut [u32],
-    lists: &mut [u8],
-    states: &mut [u32],
-    cells: &mut [u32],
-    records: &mut [u32],
-    bounds: &mut [u32],
-) -> Outcome
-    requires { ⌜ Some (TakenBook book (now inherited) (now synthesized) (now rules) (now definitions) (now kernels) (now goes) (now vanishes)
-        (now reached) (now starts) (now lookaheads) (now table) (now actions)) ⌝ }
-    requires { ⌜ Message (book .terminals) (now tokens) × Rooms (now states) (now cells) (now records) (now bounds) (now rows)
-        × (32 * book .states ≤ length (now slots)) × NoneListed (now lists) ⌝ }
-    ensures { λ r. ⌜ ((b : Lines) → TakenBook book (now (inherited .entry)) (now (synthesized .entry)) (now (rules .entry))
-        (now (definitions .entry)) (now (kernels .entry)) (now (goes .entry)) (now (vanishes .entry)) (now (reached .entry)) (now (starts .entry))
-        (now (lookaheads .entry)) (now (table .entry)) (now (actions .entry)) b
-        → (m : Message (book .terminals) (now (tokens .entry)))
-        → Final (length (now (bounds .entry))) (r .number) → Answered (evaluate b (tablesOf b) (m .list)) r (now (rows .exit))) ⌝ }
-{
-    let mut own = [0u32; 32];
-    let mut firsts = [0u32; 65];
-    let mut down = [0u32; 160];
-    let mut up = [0u32; 160];
-    fill_sides(
-        book,
-        inherited,
-        synthesized,
-        definitions,
-        &mut own,
-        &mut firsts,
-        &mut down,
-        &mut up,
-    );
-    let mut places = [0u32; 608];
-    mark_places(
-        definitions,
-        book.inherited_definitions as usize,
-        rules,
-        &mut places,
-    );
-    fill(slots, 32 * book.states as usize, 0);
-    run(
-        rules,
-        definitions,
-        book.inherited_definitions,
-        &own,
-        kernels,
-        starts,
-        lookaheads,
-        vanishes,
-        reached,
-        &places,
-        &firsts,
-        &down,
-        &up,
-        table,
-        actions,
-        tokens,
-        slots,
-        lists,
-        states,
-        cells,
-        records,
-        bounds,
-        rows,
-    )
-}
-
-// The run by the short stacks. Nothing is said where they have no room.
-fn message_short(
-    book: Book,
-    inherited: &[u32],
-    synthesized: &[u32],
-    rules: &[u32],
-    definitions: &[u32],
-    kernels: &[u32],
-    goes: &[u32],
-    vanishes: &[u32],
-    reached: &[u32],
-    starts: &[u32],
-    lookaheads: &[u32],
-    table: &[u8],
-    actions: &[u8],
-    tokens: &[u32],
-    slots: &mut [u8],
-    rows: &mut [u32],
-) -> Outcome
-    requires { ⌜ Some (TakenBook book (now inherited) (now synthesized) (now rules) (now definitions) (now kernels) (now goes) (now vanishes)
-        (now reached) (now starts) (now lookaheads) (now table) (now actions)) ⌝ }
-    requires { ⌜ Message (book .terminals) (now tokens) × (length (now rows) ≡ PAGE-WORDS) × (32 * book .states ≤ length (now slots)) ⌝ }
-    ensures { λ r. ⌜ ((b : Lines) → TakenBook book (now (inherited .entry)) (now (synthesized .entry)) (now (rules .entry))
-        (now (definitions .entry)) (now (kernels .entry)) (now (goes .entry)) (now (vanishes .entry)) (now (reached .entry)) (now (starts .entry))
-        (now (lookaheads .entry)) (now (table .entry)) (now (actions .entry)) b
-        → (m : Message (book .terminals) (now (tokens .entry)))
-        → r .number ≢ 17 → Answered (evaluate b (tablesOf b) (m .list)) r (now (rows .exit))) ⌝ }
-{
-    let mut lists = [0u8; 17 * SHORT_PLANS + 1];
-    let mut states = [0u32; SHORT_STACK + 1];
-    let mut cells = [0u32; 16 * SHORT_STACK + 16];
-    let mut records = [0u32; 33 * SHORT_STACK];
-    let mut bounds = [0u32; SHORT_STACK];
-    message_on(
-        book,
-        inherited,
-        synthesized,
-        rules,
-        definitions,
-        kernels,
-        goes,
-        vanishes,
-        reached,
-        starts,
-        lookaheads,
-        table,
-        actions,
-        tokens,
-        slots,
-        rows,
-        &mut lists,
-        &mut states,
-        &mut cells,
-        &mut records,
-        &mut bounds,
-    )
-}
-
-// The run by the full stacks, of as many symbols as may stand.
-fn message_full(
-    book: Book,
-    inherited: &[u32],
-    synthesized: &[u32],
-    rules: &[u32],
-    definitions: &[u32],
-    kernels: &[u32],
-    goes: &[u32],
-    vanishes: &[u32],
-    reached: &[u32],
-    starts: &[u32],
-    lookaheads: &[u32],
-    table: &[u8],
-    actions: &[u8],
-    tokens: &[u32],
-    slots: &mut [u8],
-    rows: &mut [u32],
-) -> Outcome
-    requires { ⌜ Some (TakenBook book (now inherited) (now synthesized) (now rules) (now definitions) (now kernels) (now goes) (now vanishes)
-        (now reached) (now starts) (now lookaheads) (now table) (now actions)) ⌝ }
-    requires { ⌜ Message (book .terminals) (now tokens) × (length (now rows) ≡ PAGE-WORDS) × (32 * book .states ≤ length (now slots)) ⌝ }
-    ensures { λ r. ⌜ ((b : Lines) → TakenBook book (now (inherited .entry)) (now (synthesized .entry)) (now (rules .entry))
-        (now (definitions .entry)) (now (kernels .entry)) (now (goes .entry)) (now (vanishes .entry)) (now (reached .entry)) (now (starts .entry))
-        (now (lookaheads .entry)) (now (table .entry)) (now (actions .entry)) b
-        → (m : Message (book .terminals) (now (tokens .entry)))
-        → Answered (evaluate b (tablesOf b) (m .list)) r (now (rows .exit))) ⌝ }
-{
-    let mut lists = [0u8; 17 * FULL_PLANS + 1];
-    let mut states = [0u32; FULL_STACK + 1];
-    let mut cells = [0u32; 16 * FULL_STACK + 16];
-    let mut records = [0u32; 33 * FULL_STACK];
-    let mut bounds = [0u32; FULL_STACK];
-    message_on(
-        book,
-        inherited,
-        synthesized,
-        rules,
-        definitions,
-        kernels,
-        goes,
-        vanishes,
-        reached,
-        starts,
-        lookaheads,
-        table,
-        actions,
-        tokens,
-        slots,
-        rows,
-        &mut lists,
-        &mut states,
-        &mut cells,
-        &mut records,
-        &mut bounds,
-    )
-}
-
-// The run by the short stacks where the message is short, and by the full ones where it is not or where the short ones have no room.
+// The run by stacks with room for as many symbols as may stand: each has a state, a cell of 16 words, a record of 33 and its start, and above them stand the
+// state and the cell on top. `slots` may hold anything.
 fn message_run(
     book: Book,
     inherited: &[u32],
@@ -266,63 +55,56 @@ fn message_run(
         → (m : Message (book .terminals) (now (tokens .entry)))
         → Answered (evaluate b (tablesOf b) (m .list)) r (now (rows .exit))) ⌝ }
 {
-    if SHORT_WORDS < tokens.len() {
-        return message_full(
-            book,
-            inherited,
-            synthesized,
-            rules,
-            definitions,
-            kernels,
-            goes,
-            vanishes,
-            reached,
-            starts,
-            lookaheads,
-            table,
-            actions,
-            tokens,
-            slots,
-            rows,
-        );
-    }
-    let outcome = message_short(
+    let mut lists = [0u8; 17 * PLANS + 1];
+    let mut states = [0u32; Book::MAX_STACK + 1];
+    let mut cells = [0u32; 16 * Book::MAX_STACK + 16];
+    let mut records = [0u32; 33 * Book::MAX_STACK];
+    let mut bounds = [0u32; Book::MAX_STACK];
+    let mut own = [0u32; NONTERMINALS];
+    let mut firsts = [0u32; RULES + 1];
+    let mut down = [0u32; 5 * NONTERMINALS];
+    let mut up = [0u32; 5 * NONTERMINALS];
+    fill_sides(
         book,
         inherited,
         synthesized,
-        rules,
         definitions,
-        kernels,
-        goes,
-        vanishes,
-        reached,
-        starts,
-        lookaheads,
-        table,
-        actions,
-        tokens,
-        slots,
-        rows,
+        &mut own,
+        &mut firsts,
+        &mut down,
+        &mut up,
     );
-    if outcome.number != NO_ROOM {
-        return outcome;
-    }
-    message_full(
-        book,
-        inherited,
-        synthesized,
+    let mut places = [0u32; NONTERMINALS + 9 * RULES];
+    mark_places(
+        definitions,
+        book.inherited_definitions as usize,
+        rules,
+        &mut places,
+    );
+    fill(slots, 32 * book.states as usize, 0);
+    run(
         rules,
         definitions,
+        book.inherited_definitions,
+        &own,
         kernels,
-        goes,
-        vanishes,
-        reached,
         starts,
         lookaheads,
+        vanishes,
+        reached,
+        &places,
+        &firsts,
+        &down,
+        &up,
         table,
         actions,
         tokens,
         slots,
+        &mut lists,
+        &mut states,
+        &mut cells,
+        &mut records,
+        &mut bounds,
         rows,
     )
 }
@@ -335,7 +117,7 @@ fn clear_behind(outcome: Outcome, rows: &mut [u32])
     if outcome.number != 0 {
         return;
     }
-    let from = 10 * outcome.count as usize;
+    let from = Book::ROW_WORDS * outcome.count as usize;
     clear(&mut rows[from..]);
 }
 

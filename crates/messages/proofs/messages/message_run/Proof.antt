@@ -1,19 +1,111 @@
--- `messages::message_run` meets its contract: after a short run that has no room the full one follows, over whatever rows that left. Assumes nothing.
-use mathlib.Core.Path.{_∙_}
+-- `messages::message_run` meets its contract: the machine is asked with room for as many symbols as may stand, no plans, in slots that are cleared, and the
+-- places of the definitions. Assumes nothing.
+use mathlib.Core.Path.{refl}
 use native.Mathlib.Omega.{arith}
+use Rattle.grammar.specs.Limits.{MAX-STACK}
+use Rattle.compiler.specs.Compiling.{asked-formulas}
+use Rattle.plans.specs.PlansLaws.{none-listed}
+use Rattle.messages.specs.Zeros.{zeros, no-words}
+use Rattle.messages.specs.Sides.{asked-sides}
+use Rattle.messages.specs.Driving.{places-asked, places-room, run-in, tokens-of, plans-of, run-room}
 use borrow.Author.Needs.{needs}
 use Rattle.messages.proofs.messages.message_run.Statement.{statement}
 use Rattle.messages.proofs.messages.message_run.Tie as tie
 
--- from the call back to the entry
+-- from each call back to the entry
 
-abbrev start : tie.After-message-short → tie.Start
-start c =
+abbrev sides-start : tie.After-up → tie.Start
+sides-start c =
     c .before .before .before .before .before .before .before .before .before .before .before .before
     .before .before .before .before .before .before .before
 
-message-full-requires : tie.Need-message-full-requires
-message-full-requires c κs = search needs
+abbrev sides-at : tie.After-places → tie.After-fill-sides
+sides-at c = c .before .before .before .before .before .before
+
+abbrev marked-at : tie.After-struct-known2 → tie.After-mark-places
+marked-at c = c .before .before .before
+
+abbrev cleared-at : tie.After-run-arg2 → tie.After-fill
+cleared-at c = c .before .before .before .before .before .before .before .before .before .before .before .before .before .before
+
+slice-aggregate-fill-sides : tie.Need-slice-aggregate-fill-sides
+slice-aggregate-fill-sides c = search needs
+
+slice-aggregate-fill-sides-2 : tie.Need-slice-aggregate-fill-sides-2
+slice-aggregate-fill-sides-2 c = search needs
+
+slice-aggregate-fill-sides-3 : tie.Need-slice-aggregate-fill-sides-3
+slice-aggregate-fill-sides-3 c = search needs
+
+slice-aggregate-fill-sides-4 : tie.Need-slice-aggregate-fill-sides-4
+slice-aggregate-fill-sides-4 c = search needs
+
+fill-sides-requires : tie.Need-fill-sides-requires
+fill-sides-requires c κs = let s = sides-start c in
+    ((s .pre .0 .0, asked-sides (s .pre .0 .1 .ready)), (refl, refl, refl, refl))
+
+cast-mark-places : tie.Need-cast-mark-places
+cast-mark-places c = search needs
+
+slice-aggregate-mark-places : tie.Need-slice-aggregate-mark-places
+slice-aggregate-mark-places c = search needs
+
+mark-places-requires : tie.Need-mark-places-requires
+mark-places-requires c κs = let o = sides-at c in
+    let (b, t) = sides-start (o .before) .pre .0 in
+    (b, _, _, places-asked t (o .fill-sides .ensures b (asked-sides (t .ready))), asked-formulas (t .ready) .definitions-counted, places-room t)
+
+cast-fill : tie.Need-cast-fill
+cast-fill c = search needs
+
+mul-fill : tie.Need-mul-fill
+mul-fill c = search needs
+
+fill-requires : tie.Need-fill-requires
+fill-requires c κs = omega (arith, sides-start (sides-at (marked-at c .before) .before) .pre .1 .2)
+
+slice-aggregate-run : tie.Need-slice-aggregate-run
+slice-aggregate-run c = search needs
+
+slice-aggregate-run-2 : tie.Need-slice-aggregate-run-2
+slice-aggregate-run-2 c = search needs
+
+slice-aggregate-run-3 : tie.Need-slice-aggregate-run-3
+slice-aggregate-run-3 c = search needs
+
+slice-aggregate-run-4 : tie.Need-slice-aggregate-run-4
+slice-aggregate-run-4 c = search needs
+
+slice-aggregate-run-5 : tie.Need-slice-aggregate-run-5
+slice-aggregate-run-5 c = search needs
+
+slice-aggregate-run-6 : tie.Need-slice-aggregate-run-6
+slice-aggregate-run-6 c = search needs
+
+slice-aggregate-run-7 : tie.Need-slice-aggregate-run-7
+slice-aggregate-run-7 c = search needs
+
+slice-aggregate-run-8 : tie.Need-slice-aggregate-run-8
+slice-aggregate-run-8 c = search needs
+
+slice-aggregate-run-9 : tie.Need-slice-aggregate-run-9
+slice-aggregate-run-9 c = search needs
+
+slice-aggregate-run-10 : tie.Need-slice-aggregate-run-10
+slice-aggregate-run-10 c = search needs
+
+run-requires : tie.Need-run-requires
+run-requires c κs = let f = cleared-at c in
+    let p = marked-at (f .before) in
+    let o = sides-at (p .before) in
+    let s = sides-start (o .before) in
+    let (b, t) = s .pre .0 in
+    let (m, rows, long) = s .pre .1 in
+    let sides = o .fill-sides .ensures b (asked-sides (t .ready)) in
+    let places = p .mark-places .ensures b _ _ (places-asked t sides) (asked-formulas (t .ready) .definitions-counted) (places-room t) (no-words 608) in (
+      run-room rows,
+      (b, m .list, run-in t sides places (m .tokens-are), tokens-of t m, plans-of t _ long (f .fill .ensures) (none-listed 255 (omega arith) (omega arith))),
+    )
 
 same-length : tie.Need-same-length
 same-length c = search needs
@@ -22,52 +114,42 @@ same-length-2 : tie.Need-same-length-2
 same-length-2 c = search needs
 
 returns : tie.Need-returns
-returns c = search needs
-
-message-short-requires : tie.Need-message-short-requires
-message-short-requires c κs = search needs
-
-same-length-3 : tie.Need-same-length-3
-same-length-3 c = search needs
-
-same-length-4 : tie.Need-same-length-4
-same-length-4 c = search needs
-
-returns-2 : tie.Need-returns-2
-returns-2 c = λ b t m.
-    let k = c .before .before .before .before .before .before in
-    k .message-short .ensures b t m (c .if2 .taken)
-
-message-full-requires-2 : tie.Need-message-full-requires-2
-message-full-requires-2 c κs =
-    let k = c .before .before .before .before .before .before .before .before in
-    let s = start k in
-    let (message, rows, slots) = s .pre .1 in
-    let kept = k .message-short .kept .1 .1 .1 .1 .1 .1 .1 .1 .1 .1 .1 .1 .1 .1 in
-    (s .pre .0, (message, kept .1 .0 ∙ rows, omega (arith, kept .0, slots)))
-
-same-length-5 : tie.Need-same-length-5
-same-length-5 c = search needs
-
-same-length-6 : tie.Need-same-length-6
-same-length-6 c = search needs
-
-returns-3 : tie.Need-returns-3
-returns-3 c = search needs
+returns c = λ b t m. let k = c .before .before .before .before .before .before .before .before .before in
+    let f = cleared-at (k .before) in
+    let p = marked-at (f .before) in
+    let o = sides-at (p .before) in
+    let (_, _, long) = sides-start (o .before) .pre .1 in
+    let sides = o .fill-sides .ensures b (asked-sides (t .ready)) in
+    let places = p .mark-places .ensures b _ _ (places-asked t sides) (asked-formulas (t .ready) .definitions-counted) (places-room t) (no-words 608) in
+    k .run .ensures b (m .list) (run-in t sides places (m .tokens-are)) (tokens-of t m)
+    (plans-of t _ long (f .fill .ensures) (none-listed 255 (omega arith) (omega arith))) (λ e. zeros MAX-STACK)
 
 pub message-run-spec : {M : Type 1} → statement M
 message-run-spec =
     tie.close
     (tie.spec
-    message-full-requires
+    slice-aggregate-fill-sides
+    slice-aggregate-fill-sides-2
+    slice-aggregate-fill-sides-3
+    slice-aggregate-fill-sides-4
+    fill-sides-requires
+    cast-mark-places
+    slice-aggregate-mark-places
+    mark-places-requires
+    cast-fill
+    mul-fill
+    fill-requires
+    slice-aggregate-run
+    slice-aggregate-run-2
+    slice-aggregate-run-3
+    slice-aggregate-run-4
+    slice-aggregate-run-5
+    slice-aggregate-run-6
+    slice-aggregate-run-7
+    slice-aggregate-run-8
+    slice-aggregate-run-9
+    slice-aggregate-run-10
+    run-requires
     same-length
     same-length-2
-    returns
-    message-short-requires
-    same-length-3
-    same-length-4
-    returns-2
-    message-full-requires-2
-    same-length-5
-    same-length-6
-    returns-3)
+    returns)

@@ -20,7 +20,7 @@ pub record Apart (word : ℕ → ℕ) (base first n bits : ℕ) : Type 0 where
 
 -- Bits
 
-pub no-common : (a b : ℕ) → bitAnd a b ≡ 0 → (K : ℕ) → bit a K ≡ true → bit b K ≡ true → ⊥
+no-common : (a b : ℕ) → bitAnd a b ≡ 0 → (K : ℕ) → bit a K ≡ true → bit b K ≡ true → ⊥
 no-common a b e K p q = some-not-none (bitAnd a b) K (bit-and a b K ∙ ap (λ (t : Bool). t && bit b K) p ∙ q) e
 
 -- the bits of one of two words are among those of both

@@ -9,4 +9,3 @@ pub mod PassLaws
 pub mod PassesLaws
 pub mod SameLines
 pub mod SingleState
-pub mod Twins

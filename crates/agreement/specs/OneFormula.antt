@@ -31,10 +31,7 @@ use Rattle.attributes.specs.CheckHeldLaws.{check-held}
 use Rattle.attributes.specs.StateMarks.{MarksHeld, StateMarksIn}
 use Rattle.attributes.specs.Telling.{check-told}
 use Rattle.attributes.specs.Wanted.{all-below}
-use Rattle.agreement.specs.Givers.{check-alike}
-use Rattle.agreement.specs.Given.{GivenIn}
-use Rattle.agreement.specs.DefinitionLines.{lines-in}
-use Rattle.agreement.specs.Twins.{EndsIn, GiversIn}
+use Rattle.agreement.specs.Givers.{check-once}
 use Rattle.agreement.specs.SingleState.{Single}
 
 -- in every partial state each attribute has one formula (10)
@@ -126,17 +123,12 @@ module _ {b : Book} {rules : List ℕ} {count : ℕ} {definitions : List ℕ} {l
       let (sets, O) = owned-some (b .inheritedOwners) (attributes b) owner-low in
       (sets, held-check O (omega (arith, length-replicate {A = ℕ} (9 * length (b .rules)) 0)))
 
-  -- what definitions give, with the ends of rules' lines
-  pub givers-in : {given ends : List ℕ} {leaders : ℕ} → GivenIn b (grammar.definitions b) given leaders → EndsIn b (grammar.definitions b) ends
-      → GiversIn b definitions given ends leaders
-  givers-in G E = record { given-in = G; ends-in = E; definitions-in = H .definitions-in; lines-in = lines-in (H .ordered) (held-lines .1) }
-
-  -- of a state where what gives the same attribute is alike
+  -- of a state where each attribute is given once
   pub state-single : (S : ℕ) → Single b S → true ≡ stateRight b S
   state-single S single = all-below (λ a. check b (listedIn b S a)) (suc (b .terminals)) λ a l.
       let in-closure : (P D : ℕ) → listedIn b S a P D ≡ true → (c : ℕ) × Closure b S P D c = λ P D m.
       let (c, there) = listed-tell S a P D .sound m in (c, there .0) in
-      check-alike b (listedIn b S a) (held-lines .1 .premises) λ d e h k m n. single d e h k (in-closure _ _ m) (in-closure _ _ n)
+      check-once b (listedIn b S a) (held-lines .1 .premises) λ d e h k m n. single d e h k (in-closure _ _ m) (in-closure _ _ n)
 
   -- of all states
   pub states-told : allBelow (b .states) (stateRight b) ≡ formulasRight b

@@ -1,4 +1,4 @@
--- States in which the definitions that give the same attribute are alike, copies left out, as the words of the state and of `GiversIn` tell it.
+-- States in which each attribute is given by one definition at most, copies left out, as the words of the state and of `GivenIn` tell it.
 -- Assumes nothing.
 use Prim.Native.Nat.{ℕ, _+_, _*_, _-_, _<_, _≤_}
 use native.Mathlib.Omega.{arith}
@@ -23,17 +23,20 @@ use Rattle.automaton.specs.StatesIn.{ItemsIn}
 use Rattle.automaton.specs.Lefts.{Least, none-bit}
 use Rattle.automaton.specs.Fronts.{FrontsIn}
 use Rattle.agreement.specs.Apart.{Apart, apart-none, apart-more, apart-past}
-use Rattle.agreement.specs.Givers.{Copies, Alike, alike-sym, GivenAlike}
+use Rattle.agreement.specs.Givers.{Copies, GivenOnce}
 use Rattle.agreement.specs.Given.{GivenIn}
 use Rattle.agreement.specs.SameLines.{three-ways, same-line}
-use Rattle.agreement.specs.Twins.{GivesAt, Agreed}
 use Rattle.attributes.specs.StateWords.{InLine, InFront, located}
 
--- of the definitions at items of the closure, any two that are no copies and give the same attribute are alike
+-- of the definitions at items of the closure that are no copies, no two give the same attribute
 abbrev pub Single : Book → ℕ → Type 0
-Single b S = GivenAlike b (λ P D. (a : ℕ) × Closure b S P D a)
+Single b S = GivenOnce b (λ P D. (a : ℕ) × Closure b S P D a)
 
 -- What the test looks at
+
+-- the attributes given at the item of a kernel line
+abbrev pub lineWord : List ℕ → List ℕ → ℕ → ℕ
+lineWord kernels given i = getD given (9 * getD kernels (5 * i + 1) 0 + getD kernels (5 * i + 2) 0) 0
 
 -- some attributes, or none
 abbrev pub chosenOf : Bool → ℕ → ℕ
@@ -98,7 +101,7 @@ module _ {b : Book} {rules kernels starts closures fronts given : List ℕ} {lea
     (I : ItemsIn b (setsOf (b .rules)) rules kernels starts closures) (W : FrontsIn b rules closures fronts)
     (G : GivenIn b (grammar.definitions b) given leaders) {S first last : ℕ} (s : S < b .states) (first-is : first ≡ getD starts S 0)
     (last-is : last ≡ getD starts (S + 1) 0) {bits all : ℕ} (F : Apart (frontWord (bitAnd (getD fronts S 0) leaders) given) 0 0 64 bits)
-    (K : Agreed b kernels bits first last all) where
+    (K : Apart (lineWord kernels given) bits first last all) where
   -- where the words of the state speak of the definition in line d
   abbrev AtLine : ℕ → Type 0
   AtLine d = InLine kernels first last (lineAt b d .rule) (dotOf (lineAt b d))
@@ -125,9 +128,9 @@ module _ {b : Book} {rules kernels starts closures fronts given : List ℕ} {lea
             ∙ W .idle S _ s rule-there e))
 
     module _ (n : Copies (lineAt b d) → ⊥) where
-      -- the kernel line is given its attribute
-      line-gives : (i : AtLine d) → GivesAt b kernels (i .line) d
-      line-gives i = record { there = l; no-copy = n; rule-is = i .rule-is; dot-is = i .dot-is }
+      -- the kernel line's word has its attribute
+      line-has : (i : AtLine d) → bit (lineWord kernels given (i .line)) (lineAt b d .attribute) ≡ true
+      line-has i = rw (i .rule-is, i .dot-is) (G .item-is d l n)
 
       -- the words of the fronts have it
       front-has : AtFront d → bit (frontWord (bitAnd (getD fronts S 0) leaders) given (lineAt b d .rule)) (lineAt b d .attribute) ≡ true
@@ -141,20 +144,20 @@ module _ {b : Book} {rules kernels starts closures fronts given : List ℕ} {lea
   module _ (d e : ℕ) (l : d < grammar.definitions b) (k : e < grammar.definitions b) (n : Copies (lineAt b d) → ⊥) (o : Copies (lineAt b e) → ⊥)
       (same : lineAt b d .attribute ≡ lineAt b e .attribute) where
     -- two kernel lines, a line and a front, two fronts
-    lines : AtLine d → AtLine e → (d ≡ e) ⊎ Alike (lineAt b d) (lineAt b e)
+    lines : AtLine d → AtLine e → d ≡ e
     lines i j =
-        let p = line-gives d l n i in
-        let q = line-gives e k o j in
-        three-ways (i .line) (j .line) (λ less. inr (K .alike (i .line) (j .line) d e (i .low) less (j .high) p q same))
-        (λ more. inr (alike-sym (K .alike (j .line) (i .line) e d (j .low) more (i .high) q p (sym same))))
-        (λ at. inl (same-line ordered (I .states-in .grammar-in .declared) d e l k
+        let p = line-has d l n i in
+        let q = rw (← same) at (line-has e k o j) in
+        three-ways (i .line) (j .line) (λ less. absurd (K .apart (i .line) (j .line) _ (i .low) less (j .high) p q))
+        (λ more. absurd (K .apart (j .line) (i .line) _ (j .low) more (i .high) q p))
+        (λ at. same-line ordered (I .states-in .grammar-in .declared) d e l k
         (sym (i .rule-is) ∙ ap (λ (x : ℕ). getD kernels (5 * x + 1) 0) at ∙ j .rule-is)
-        (sym (i .dot-is) ∙ ap (λ (x : ℕ). getD kernels (5 * x + 2) 0) at ∙ j .dot-is) same))
+        (sym (i .dot-is) ∙ ap (λ (x : ℕ). getD kernels (5 * x + 2) 0) at ∙ j .dot-is) same)
 
     line-front : AtLine d → AtFront e → ⊥
     line-front i j =
-        K .base-apart (i .line) d (i .low) (i .high) (line-gives d l n i)
-        (F .held (lineAt b e .rule) (lineAt b d .attribute) (omega arith) (rule-low e k) (rw (← same) at (front-has e k o j)))
+        K .base-apart (i .line) (lineAt b d .attribute) (i .low) (i .high)
+        (F .held (lineAt b e .rule) (lineAt b d .attribute) (omega arith) (rule-low e k) (rw (← same) at (front-has e k o j))) (line-has d l n i)
 
     at-fronts : AtFront d → AtFront e → d ≡ e
     at-fronts i j =
@@ -168,8 +171,8 @@ module _ {b : Book} {rules kernels starts closures fronts given : List ℕ} {lea
   pub single-state : Single b S
   single-state d e l k (a, c) (a′, c′) n o same = by (located ordered I s first-is last-is c) (located ordered I s first-is last-is c′)
     where
-      by : AtLine d ⊎ AtFront d → AtLine e ⊎ AtFront e → (d ≡ e) ⊎ Alike (lineAt b d) (lineAt b e)
+      by : AtLine d ⊎ AtFront d → AtLine e ⊎ AtFront e → d ≡ e
       by (inl i) (inl j) = lines d e l k n o same i j
       by (inl i) (inr j) = absurd (line-front d e l k n o same i j)
       by (inr i) (inl j) = absurd (line-front e d k l o n (sym same) j i)
-      by (inr i) (inr j) = inl (at-fronts d e l k n o same i j)
+      by (inr i) (inr j) = at-fronts d e l k n o same i j

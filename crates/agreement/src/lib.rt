@@ -1,8 +1,6 @@
 // One formula for each inherited attribute in each partial state (10).
-pub mod agreed;
 pub mod alike;
 pub mod check;
 pub mod givers;
 pub mod one_formula;
 pub mod single;
-pub mod twins;

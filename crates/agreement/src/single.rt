@@ -15,15 +15,14 @@ ghost use Rattle.automaton.specs.StatesIn.{StatesIn, ItemsIn};
 ghost use Rattle.automaton.specs.Fronts.{FrontsIn};
 ghost use Rattle.agreement.specs.Apart.{Apart};
 ghost use Rattle.agreement.specs.Given.{GivenIn};
-ghost use Rattle.agreement.specs.SingleState.{Single, frontWord};
-ghost use Rattle.agreement.specs.Twins.{lineWord};
+ghost use Rattle.agreement.specs.SingleState.{Single, lineWord, frontWord};
 ghost use Rattle.agreement.specs.OneFormula.{FrontsHeld, formulasRight};
 use automaton::lefts::behind;
 use automaton::lefts::least;
 use items::words::word;
 
 // The attributes given at the item of kernel line i.
-pub fn line_gives(kernels: &[u32], i: usize, given: &[u32]) -> u32
+fn line_gives(kernels: &[u32], i: usize, given: &[u32]) -> u32
     requires { ⌜ ((b : Book) × (rules : List ℕ) × (starts : List ℕ) × StatesIn b rules (now kernels) starts × (i < length (b .kernels))
         × (9 * length (b .rules) ≤ length (now given))) ⌝ }
     ensures { λ r. ⌜ r ≡ lineWord (now (kernels .entry)) (now (given .entry)) i ⌝ }
@@ -53,13 +52,13 @@ fn lines_apart(kernels: &[u32], first: usize, last: usize, base: u32, given: &[u
 }
 
 // The attributes that are given at the fronts of a state, and whether each is given once there.
-pub struct FrontsGiven {
-    pub apart: bool,
-    pub bits: u32,
+struct FrontsGiven {
+    apart: bool,
+    bits: u32,
 }
 
 // Goes over the rules of a state's closure at whose front something is given; `fronts` has the rules of each state's closure.
-pub fn fronts_apart(fronts: &[u64], state: usize, given: &[u32], leaders: u64) -> FrontsGiven
+fn fronts_apart(fronts: &[u64], state: usize, given: &[u32], leaders: u64) -> FrontsGiven
     requires { ⌜ ((b : Book) × (rules : List ℕ) × (closures : List ℕ) × RulesIn (b .rules) rules × FrontsIn b rules closures (now fronts)
         × (state < b .states) × (9 * length (b .rules) ≤ length (now given))) ⌝ }
     ensures { λ r. ⌜ (r .apart ≡ true

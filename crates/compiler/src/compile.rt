@@ -18,7 +18,6 @@ ghost use Rattle.compiler.specs.Conditions.{BookKept, definitionsRefusal
 ghost use Rattle.compiler.specs.Prepared.{Prepared};
 ghost use Rattle.compiler.specs.Compiling.{Checked, Compiles};
 use super::states::tables;
-use agreement::agreed::all_agreed;
 use agreement::givers::fill_givers;
 use agreement::one_formula::one_formula;
 use agreement::single::all_single;
@@ -147,8 +146,8 @@ fn prepare(
     )
 }
 
-// Whether each attribute has one formula in every partial state (10): most books give each once, or by definitions that are alike, and have nothing to
-// compare. `given` is room for what definitions give. Where formulas are compared there is room for their nodes, 15 of each definition; most books have few.
+// Whether each attribute has one formula in every partial state (10): most books give each once, and have nothing to compare. `given` is room for what
+// definitions give. Where formulas are compared there is room for their nodes, 15 of each definition; most books have few.
 fn formulas_right(
     book: Book,
     inherited: &[u32],
@@ -173,18 +172,6 @@ fn formulas_right(
 {
     let leaders = fill_givers(book.rules, definitions, book.inherited_definitions, given);
     if all_single(kernels, starts, fronts, book.states, given, leaders) {
-        return true;
-    }
-    if all_agreed(
-        definitions,
-        book.inherited_definitions,
-        kernels,
-        starts,
-        fronts,
-        book.states,
-        given,
-        leaders,
-    ) {
         return true;
     }
     if book.inherited_definitions <= FEW {

@@ -6,7 +6,7 @@ use native.Mathlib.Omega.{arith}
 use borrow.Author.Needs.{needs}
 use Rattle.grammar.specs.Automaton.TestLaws.{true-false}
 use Rattle.agreement.specs.Apart.{Apart, apart-none, apart-more, apart-all}
-use Rattle.agreement.specs.Twins.{lineWord}
+use Rattle.agreement.specs.SingleState.{lineWord}
 use Rattle.agreement.proofs.single.lines_apart.Statement.{statement}
 use Rattle.agreement.proofs.single.lines_apart.Tie as tie
 

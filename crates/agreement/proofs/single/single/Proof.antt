@@ -7,7 +7,6 @@ use borrow.Author.Needs.{needs}
 use Rattle.grammar.specs.Automaton.TestLaws.{true-false}
 use Rattle.automaton.specs.StatesIn.{state-range}
 use Rattle.agreement.specs.SingleState.{single-state}
-use Rattle.agreement.specs.Twins.{agreed-apart}
 use Rattle.agreement.proofs.single.single.Statement.{statement}
 use Rattle.agreement.proofs.single.single.Tie as tie
 
@@ -40,7 +39,7 @@ returns-2 c =
     λ e b rules closures o I W G s.
     let (all, K) = c .lines-apart .ensures e in
     let F = c .before .before .before .before .before .fronts-apart .ensures (not-false _ (c .before .before .before .if1 .left)) in
-    single-state o I W G s (c .before .before .word .ensures) (c .before .word2 .ensures) F (agreed-apart G K)
+    single-state o I W G s (c .before .before .word .ensures) (c .before .word2 .ensures) F K
 
 pub single-spec : {M : Type 1} → statement M
 single-spec = tie.close (tie.spec fronts-apart-requires returns word-requires add-word word-requires-2 lines-apart-requires returns-2)

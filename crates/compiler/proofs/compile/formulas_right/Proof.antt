@@ -1,5 +1,5 @@
--- `compile::formulas_right` meets its contract: where in every state each attribute is given once, or by definitions that are alike, each has one formula;
--- else formulas are compared, in arrays that have room for those of the book's definitions.
+-- `compile::formulas_right` meets its contract: where in every state each attribute is given once, each has one formula; else formulas are compared, in
+-- arrays that have room for those of the book's definitions.
 -- Assumes nothing.
 use mathlib.Core.Path.{refl}
 use native.Mathlib.Omega.{arith}
@@ -33,21 +33,6 @@ returns c = λ b begins W O e.
     let v = s .before .before .before .before in
     s .all-single .ensures (c .if1 .taken) b _ _ _ _ _ _ _ _ _ W (v .fill-givers .ensures b _ _ _ _ _ _ _ _ _ (W .formulas-held))
 
-all-agreed-requires : tie.Need-all-agreed-requires
-all-agreed-requires c κs =
-    let v = c .before .before .before .before .before .before in
-    let (b, begins, W, O, e) = entry v .pre .0 in
-    (b, _, _, _, _, _, _, _, W, v .fill-givers .ensures b _ _ _ _ _ _ _ _ _ (W .formulas-held))
-
-same-length-2 : tie.Need-same-length-2
-same-length-2 c = search needs
-
-returns-2 : tie.Need-returns-2
-returns-2 c = λ b begins W O e.
-    let s = c .before in
-    let v = s .before .before .before .before .before .before .before in
-    s .all-agreed .ensures (c .if2 .taken) b _ _ _ _ _ _ _ W (v .fill-givers .ensures b _ _ _ _ _ _ _ _ _ (W .formulas-held))
-
 slice-aggregate-one-formula : tie.Need-slice-aggregate-one-formula
 slice-aggregate-one-formula c = search needs
 
@@ -57,19 +42,19 @@ slice-aggregate-one-formula-2 c = search needs
 one-formula-requires : tie.Need-one-formula-requires
 one-formula-requires c κs =
     let t = c .before .before .before in
-    let v = t .before .before .before .before .before .before .before .before .before .before in
+    let v = t .before .before .before .before .before .before .before in
     let (b, begins, W, O, e) = entry v .pre .0 in (
       (b, begins, W, O, e, v .fill-givers .ensures b _ _ _ _ _ _ _ _ _ (W .formulas-held)),
-      record { table-long = refl; nexts-low = omega arith; enough = omega (arith, t .if3 .taken) },
+      record { table-long = refl; nexts-low = omega arith; enough = omega (arith, t .if2 .taken) },
     )
 
-same-length-3 : tie.Need-same-length-3
-same-length-3 c = search needs
+same-length-2 : tie.Need-same-length-2
+same-length-2 c = search needs
 
-returns-3 : tie.Need-returns-3
-returns-3 c = λ b begins W O e.
+returns-2 : tie.Need-returns-2
+returns-2 c = λ b begins W O e.
     let f = c .before .before in
-    let v = f .before .before .before .before .before .before .before .before .before .before .before .before .before .before in
+    let v = f .before .before .before .before .before .before .before .before .before .before .before in
     f .one-formula .ensures b begins W O e (v .fill-givers .ensures b _ _ _ _ _ _ _ _ _ (W .formulas-held))
 
 slice-aggregate-one-formula-3 : tie.Need-slice-aggregate-one-formula-3
@@ -80,20 +65,20 @@ slice-aggregate-one-formula-4 c = search needs
 
 one-formula-requires-2 : tie.Need-one-formula-requires-2
 one-formula-requires-2 c κs =
-    let v = c .before .before .before .before .before .before .before .before .before .before .before .before .before in
+    let v = c .before .before .before .before .before .before .before .before .before .before in
     let (b, begins, W, O, e) = entry v .pre .0 in
     let H = W .formulas-held in (
       (b, begins, W, O, e, v .fill-givers .ensures b _ _ _ _ _ _ _ _ _ H),
       record { table-long = refl; nexts-low = omega arith; enough = omega (arith, H .definitions-counted, limits H .definitions-limit) },
     )
 
-same-length-4 : tie.Need-same-length-4
-same-length-4 c = search needs
+same-length-3 : tie.Need-same-length-3
+same-length-3 c = search needs
 
-returns-4 : tie.Need-returns-4
-returns-4 c = λ b begins W O e.
+returns-3 : tie.Need-returns-3
+returns-3 c = λ b begins W O e.
     let f = c .before .before in
-    let v = f .before .before .before .before .before .before .before .before .before .before .before .before .before .before in
+    let v = f .before .before .before .before .before .before .before .before .before .before .before in
     f .one-formula2 .ensures b begins W O e (v .fill-givers .ensures b _ _ _ _ _ _ _ _ _ (W .formulas-held))
 
 pub formulas-right-spec : {M : Type 1} → statement M
@@ -104,16 +89,13 @@ formulas-right-spec =
     all-single-requires
     same-length
     returns
-    all-agreed-requires
-    same-length-2
-    returns-2
     slice-aggregate-one-formula
     slice-aggregate-one-formula-2
     one-formula-requires
-    same-length-3
-    returns-3
+    same-length-2
+    returns-2
     slice-aggregate-one-formula-3
     slice-aggregate-one-formula-4
     one-formula-requires-2
-    same-length-4
-    returns-4)
+    same-length-3
+    returns-3)

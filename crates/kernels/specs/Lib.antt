@@ -1,4 +1,3 @@
 pub mod GoLines
 pub mod KernelLines
-pub mod KnownLookaheads
 pub mod Lookahead

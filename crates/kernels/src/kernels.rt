@@ -10,10 +10,7 @@ ghost use Rattle.book.specs.Layout.{kernelWords};
 ghost use Rattle.book.specs.Order.{keyOf, lastKey};
 ghost use Rattle.book.specs.Sections.{Fills, PutsKeyed};
 ghost use Rattle.kernels.specs.KernelLines.{KERNEL-WORDS, Item};
-ghost use Rattle.kernels.specs.KnownLookaheads.{KnownIn};
-use super::known::Known;
-use super::known::known_after;
-use super::known::next_lookaheads;
+use super::lookaheads::lookaheads;
 use book::Section;
 use book::order::Key;
 use book::order::ascends;
@@ -23,10 +20,9 @@ use book::spelling::closing;
 use book::store::put_line;
 use lines::line_head;
 
-// The key of a line, the lookaheads that are known after it, and where the text goes on.
+// The key of a line, and where the text goes on.
 struct KernelRead {
     key: Key,
-    known: Known,
     at: usize,
 }
 
@@ -125,16 +121,15 @@ fn kernel_line(
     at: usize,
     k: u32,
     last: Key,
-    known: Known,
     room: usize,
     out: &mut [u32],
 ) -> KernelRead
-    requires { ⌜ Lent (now t) (now text) × (room * KERNEL-WORDS ≤ length (now out)) × KnownIn (now text) known ⌝ }
+    requires { ⌜ Lent (now t) (now text) × (room * KERNEL-WORDS ≤ length (now out)) ⌝ }
     ensures { λ r. ⌜ PutsKeyed kernelKey kernelWords room k (kernelLine (lastKey k (keyOf last)) (rest (now (text .entry)) at))
-        (now (text .entry)) (now (out .entry)) (keyOf (r .key)) (r .at) (now (out .exit)) × KnownIn (now (text .entry)) (r .known) ⌝ }
+        (now (text .entry)) (now (out .entry)) (keyOf (r .key)) (r .at) (now (out .exit)) ⌝ }
 {
     let read = item(t, text, at);
-    let terminals = next_lookaheads(t, text, read.at, known);
+    let terminals = lookaheads(t, text, read.at);
     let c = text::require(t, text, terminals.at, 0 < terminals.count);
     let d = closing(t, text, c);
     let key = Key {
@@ -151,11 +146,7 @@ fn kernel_line(
         terminals.set,
     ];
     put_line(out, room, k, &line);
-    KernelRead {
-        key,
-        known: known_after(text, read.at, terminals, e, known),
-        at: e,
-    }
+    KernelRead { key, at: e }
 }
 
 // The lines, as far as there is room for them.
@@ -169,15 +160,13 @@ pub fn kernel_lines(t: &[u8; 256], text: &[u8], at: usize, room: usize, out: &mu
     let mut p = at;
     let mut k: u32 = 0;
     let mut last = Key::none();
-    let mut known = Known::none();
     loop {
         let a = line_head(t, text, p, KERNEL, head);
         if n < a {
             return Section { count: k, at: p };
         }
-        let line = kernel_line(t, text, a, k, last, known, room, out);
+        let line = kernel_line(t, text, a, k, last, room, out);
         last = line.key;
-        known = line.known;
         p = line.at;
         k += 1;
     }

@@ -1,6 +1,5 @@
 // The lines of states read into arrays: kernel lines and go lines.
 pub mod goes;
 pub mod kernels;
-pub mod known;
 pub mod lookahead;
 pub mod lookaheads;

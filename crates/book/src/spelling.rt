@@ -6,6 +6,7 @@ ghost use Rattle.grammar.specs.Format.Reader.{closing, naming};
 ghost use Rattle.grammar.specs.Format.Parse.{endLine};
 ghost use Rattle.book.specs.Numbered.{numbered};
 ghost use Rattle.book.specs.Sections.{Gives};
+use lines::head;
 use text::Cursor;
 
 // The words of lines and the letters of names, as numbers in base 32: a is 1, z is 26.
@@ -69,7 +70,6 @@ pub fn end_line(t: &[u8; 256], text: &[u8], at: usize) -> usize
     requires { ⌜ Lent (now t) (now text) ⌝ }
     ensures { λ r. ⌜ rest (now (text .entry)) r ≡ endLine (rest (now (text .entry)) at) ⌝ }
 {
-    let a = text::mark(t, text, at, text::OPEN);
-    let b = text::keyword(t, text, a, END);
-    closing(t, text, b)
+    let a = head(t, text, at, END, text::CLOSE);
+    text::mark(t, text, a, text::FEED)
 }

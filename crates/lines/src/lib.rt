@@ -4,7 +4,9 @@ ghost use mathlib.Core.Path.{_≡_};
 ghost use mathlib.Core.Bool.{true};
 ghost use Prim.Native.Nat.{_+_, _*_, _≤_};
 ghost use lib.ListN.{length};
-ghost use Rattle.text.specs.Rest.{rest};
+ghost use Rattle.text.specs.Class.{open-bracket};
+ghost use Rattle.text.specs.Numeral.{keyword};
+ghost use Rattle.text.specs.Rest.{rest, mark};
 ghost use Rattle.text.specs.Reading.{Lent};
 ghost use Rattle.grammar.specs.Format.Reader.{opening};
 ghost use Rattle.lines.specs.Heads.{Head, Four, Same};
@@ -14,14 +16,14 @@ pub struct LineReader<'a> {
     pub at: usize,
 }
 
-// `(word ` at a position of a text, by its parts.
-fn head(t: &[u8; 256], text: &[u8], at: usize, word: u32) -> usize
+// `(word` and a byte of the class `end`, at a position of a text, by its parts.
+pub fn head(t: &[u8; 256], text: &[u8], at: usize, word: u32, end: u8) -> usize
     requires { ⌜ Lent (now t) (now text) ⌝ }
-    ensures { λ r. ⌜ rest (now (text .entry)) r ≡ opening word (rest (now (text .entry)) at) ⌝ }
+    ensures { λ r. ⌜ rest (now (text .entry)) r ≡ mark end (keyword word (mark open-bracket (rest (now (text .entry)) at))) ⌝ }
 {
     let a = text::mark(t, text, at, text::OPEN);
     let b = text::keyword(t, text, a, word);
-    text::mark(t, text, b, text::SPACE)
+    text::mark(t, text, b, end)
 }
 
 // Four bytes as one number, which compilers load as one.
@@ -54,16 +56,16 @@ fn past_head(t: &[u8; 256], text: &[u8], at: usize, word: u32, bytes: &[u8]) -> 
     let n = text.len();
     let m = bytes.len();
     if n < m {
-        return head(t, text, at, word);
+        return head(t, text, at, word, text::SPACE);
     }
     if n - m < at {
-        return head(t, text, at, word);
+        return head(t, text, at, word, text::SPACE);
     }
     if !same_four(text, at, bytes, 0) {
-        return head(t, text, at, word);
+        return head(t, text, at, word, text::SPACE);
     }
     if !same_four(text, at + m - 4, bytes, m - 4) {
-        return head(t, text, at, word);
+        return head(t, text, at, word, text::SPACE);
     }
     at + m
 }

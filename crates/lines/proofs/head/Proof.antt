@@ -1,4 +1,4 @@
-use Rattle.grammar.specs.Format.Reader.{opening}
+-- `lines::head` meets its contract: one part after the other. Assumes nothing.
 use borrow.Author.Needs.{needs}
 use Rattle.lines.proofs.head.Statement.{statement}
 use Rattle.lines.proofs.head.Tie as tie
@@ -13,7 +13,6 @@ mark-requires-2 : tie.Need-mark-requires-2
 mark-requires-2 c κs = search needs
 
 returns : tie.Need-returns
-unfolding opening
 returns c = cc
 
 pub head-spec : {M : Type 1} → statement M

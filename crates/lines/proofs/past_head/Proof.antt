@@ -1,6 +1,7 @@
 -- `lines::past_head` meets its contract: by the bytes of the head, or by its parts. Assumes nothing.
 use native.Mathlib.Omega.{arith}
 use borrow.Author.Tests.{not-false}
+use Rattle.grammar.specs.Format.Reader.{opening}
 use Rattle.lines.specs.Heads.{head-read}
 use borrow.Author.Needs.{needs}
 use Rattle.lines.proofs.past_head.Statement.{statement}
@@ -10,13 +11,15 @@ head-requires : tie.Need-head-requires
 head-requires c κs = search needs
 
 returns : tie.Need-returns
-returns c = search needs
+unfolding opening
+returns c = c .head .ensures
 
 head-requires-2 : tie.Need-head-requires-2
 head-requires-2 c κs = search needs
 
 returns-2 : tie.Need-returns-2
-returns-2 c = search needs
+unfolding opening
+returns-2 c = c .head2 .ensures
 
 same-four-requires : tie.Need-same-four-requires
 same-four-requires c κs = search needs
@@ -25,7 +28,8 @@ head-requires-3 : tie.Need-head-requires-3
 head-requires-3 c κs = search needs
 
 returns-3 : tie.Need-returns-3
-returns-3 c = search needs
+unfolding opening
+returns-3 c = c .head3 .ensures
 
 add-same-four : tie.Need-add-same-four
 add-same-four c = search needs
@@ -43,7 +47,8 @@ head-requires-4 : tie.Need-head-requires-4
 head-requires-4 c κs = search needs
 
 returns-4 : tie.Need-returns-4
-returns-4 c = search needs
+unfolding opening
+returns-4 c = c .head4 .ensures
 
 add-result : tie.Need-add-result
 add-result c = search needs

@@ -1,5 +1,5 @@
-# make test: what the gate runs. make run: the desk program on document 01's example, or on another INPUT. make try: the same without the proofs, in seconds.
-# The C programs' targets stand in c.mk, the Python programs' in tests.mk.
+# make test: what the gate runs. make run: the desk program on document 01's example, or on another INPUT. make try: the same without the proofs, in
+# seconds. The C programs' targets stand in c.mk, the Python programs' in tests.mk.
 INPUT ?= examples/s.txt
 .PHONY: test run try
 test:

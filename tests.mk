@@ -1,6 +1,6 @@
 # The Python programs: what document 01 says by an unrelated program, stored cases, random runs.
 #
-#   make oracle    the unrelated program against 01's own cases and over the stored cases; the tests of the advisers' tools; whether must-fail edits stand
+#   make oracle    the unrelated program against 01's own cases and over the stored cases; the tests of the advisers' tools; whether must-fail edits stand and are named
 #   make vectors   makes the stored cases anew (about a minute); the same bytes again
 #   make fuzz      random cases against the engine's two calls (SECONDS=60); BASELINE=1 takes the baseline
 #   make desk      the desk program: long inputs, the stored cases, random cases (SECONDS=60)

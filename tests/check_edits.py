@@ -1,11 +1,16 @@
 #!/usr/bin/env python3
-"""Whether every must-fail edit still stands. Run: python3 tests/check_edits.py [CRATES]
+"""Whether every must-fail edit still stands, and tests/EDITS.md names every one and no other. Run: python3 tests/check_edits.py
 
 The gate applies an edit after all proofs, and would tell only then that its line is gone.
 """
 
 import pathlib
+import re
 import sys
+
+ROOT = pathlib.Path(__file__).resolve().parent.parent
+PAGE = ROOT / "tests" / "EDITS.md"
+NAME = re.compile(r"`([a-z]+/[a-z_]+)`")
 
 
 def pairs(text):
@@ -35,13 +40,19 @@ def fault(edit):
     return None if texts else "changes nothing"
 
 
+def unlike(edits):
+    """Where the page and the edits differ."""
+    named = set(NAME.findall(PAGE.read_text()))
+    yield from (f"{name}: not named on {PAGE.name}" for name in sorted(edits - named))
+    yield from (f"{name}: named on {PAGE.name}, but there is no such edit" for name in sorted(named - edits))
+
+
 def main():
-    crates = pathlib.Path(sys.argv[1] if len(sys.argv) > 1 else "crates")
-    edits = sorted(crates.glob("*/must-fail/*.edit"))
-    faults = [(edit, fault(edit)) for edit in edits]
-    bad = [f"{edit}: {what}" for edit, what in faults if what]
-    print("\n".join(bad + [f"edits: {len(edits) - len(bad)} stand, {len(bad)} do not"]))
-    return 1 if bad or not edits else 0
+    edits = {f"{path.parent.parent.name}/{path.stem}": path for path in sorted(ROOT.glob("crates/*/must-fail/*.edit"))}
+    faults = [f"{name}: {what}" for name, what in ((name, fault(path)) for name, path in edits.items()) if what]
+    faults += unlike(set(edits))
+    print("\n".join(faults + [f"edits: {len(edits)}, faults: {len(faults)}"]))
+    return 1 if faults or not edits else 0
 
 
 if __name__ == "__main__":

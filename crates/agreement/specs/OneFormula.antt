@@ -47,14 +47,14 @@ abbrev pub stateRight : Book → ℕ → Bool
 stateRight b S = allBelow (suc (b .terminals)) (λ a. check b (listedIn b S a))
 
 -- a book that conditions 2 to 7 let pass, in the arrays from which its formulas are worked out, and the number of the lines of each kind
-pub record FormulasHeld (b : Book) (rules : List ℕ) (count : ℕ) (definitions : List ℕ) (lines : ℕ) (kernels starts closures nulls firsts reaches : List ℕ)
+pub record FormulasHeld (b : Book) (rules : List ℕ) (count : ℕ) (definitions : List ℕ) (lines : ℕ) (kernels bounds closures nullables begins reaches : List ℕ)
     (terminals states : ℕ) : Type 0 where
   pub ordered : Ordered b
   pub owned : Owned b
   pub defined : Defined b
   pub kernel-rules : KernelRules b
   pub definitions-in : DefinitionsIn (b .inheritedDefinitions) (b .synthesizedDefinitions) definitions
-  pub marks-held : MarksHeld b rules kernels starts closures nulls firsts reaches
+  pub marks-held : MarksHeld b rules kernels bounds closures nullables begins reaches
   pub rules-counted : count ≡ length (b .rules)
   pub definitions-counted : lines ≡ grammar.definitions b
   pub terminals-are : terminals ≡ b .terminals
@@ -62,8 +62,8 @@ pub record FormulasHeld (b : Book) (rules : List ℕ) (count : ℕ) (definitions
 
 -- the same, with the rules of each state's closure
 pub record FrontsHeld (b : Book) (rules : List ℕ) (count : ℕ) (definitions : List ℕ) (lines : ℕ)
-    (kernels starts closures fronts nulls firsts reaches : List ℕ) (terminals states : ℕ) : Type 0 where
-  pub formulas-held : FormulasHeld b rules count definitions lines kernels starts closures nulls firsts reaches terminals states
+    (kernels bounds closures fronts nullables begins reaches : List ℕ) (terminals states : ℕ) : Type 0 where
+  pub formulas-held : FormulasHeld b rules count definitions lines kernels bounds closures nullables begins reaches terminals states
   pub fronts-in : FrontsIn b rules closures fronts
 
 -- the sets of the attributes that are counted
@@ -78,8 +78,8 @@ same-below f g (suc n) e =
     ap (λ (t : Bool). elim t [ true ↦ f n | false ↦ false ]) (same-below f g n (λ i l. e i (omega arith)))
     ∙ ap (λ (t : Bool). elim (allBelow n g) [ true ↦ t | false ↦ false ]) (e n (omega arith))
 
-module _ {b : Book} {rules : List ℕ} {count : ℕ} {definitions : List ℕ} {lines : ℕ} {kernels starts closures nulls firsts reaches : List ℕ}
-    {terminals states : ℕ} (H : FormulasHeld b rules count definitions lines kernels starts closures nulls firsts reaches terminals states) where
+module _ {b : Book} {rules : List ℕ} {count : ℕ} {definitions : List ℕ} {lines : ℕ} {kernels bounds closures nullables begins reaches : List ℕ}
+    {terminals states : ℕ} (H : FormulasHeld b rules count definitions lines kernels bounds closures nullables begins reaches terminals states) where
   pub limits : WithinLimits b
   limits = H .marks-held .items-in .states-in .grammar-in .limits
 

@@ -97,10 +97,10 @@ module _ {all : ℕ} {given : List ℕ} {rest bits rule : ℕ} (W : Walk all giv
 
 -- The state
 
-module _ {b : Book} {rules kernels starts closures fronts given : List ℕ} {leaders : ℕ} (ordered : Ordered b)
-    (I : ItemsIn b (setsOf (b .rules)) rules kernels starts closures) (W : FrontsIn b rules closures fronts)
-    (G : GivenIn b (grammar.definitions b) given leaders) {S first last : ℕ} (s : S < b .states) (first-is : first ≡ getD starts S 0)
-    (last-is : last ≡ getD starts (S + 1) 0) {bits all : ℕ} (F : Apart (frontWord (bitAnd (getD fronts S 0) leaders) given) 0 0 64 bits)
+module _ {b : Book} {rules kernels bounds closures fronts given : List ℕ} {leaders : ℕ} (ordered : Ordered b)
+    (I : ItemsIn b (setsOf (b .rules)) rules kernels bounds closures) (W : FrontsIn b rules closures fronts)
+    (G : GivenIn b (grammar.definitions b) given leaders) {S first last : ℕ} (s : S < b .states) (first-is : first ≡ getD bounds S 0)
+    (last-is : last ≡ getD bounds (S + 1) 0) {bits all : ℕ} (F : Apart (frontWord (bitAnd (getD fronts S 0) leaders) given) 0 0 64 bits)
     (K : Apart (lineWord kernels given) bits first last all) where
   -- where the words of the state speak of the definition in line d
   abbrev AtLine : ℕ → Type 0

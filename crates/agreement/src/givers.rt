@@ -76,12 +76,12 @@ fn mark_givers(definitions: &[u32], lines: usize, given: &mut [u32]) -> u64
 
 // The same, whatever the words hold: nine of them for each of `count` rules are cleared first.
 pub fn fill_givers(count: u32, definitions: &[u32], lines: u32, given: &mut [u32]) -> u64
-    requires { ⌜ ((b : Book) × (rules : List ℕ) × (kernels : List ℕ) × (starts : List ℕ) × (closures : List ℕ) × (nulls : List ℕ) × (firsts : List ℕ)
+    requires { ⌜ ((b : Book) × (rules : List ℕ) × (kernels : List ℕ) × (bounds : List ℕ) × (closures : List ℕ) × (nullables : List ℕ) × (begins : List ℕ)
         × (reaches : List ℕ) × (terminals : ℕ) × (states : ℕ)
-        × FormulasHeld b rules count (now definitions) lines kernels starts closures nulls firsts reaches terminals states)
+        × FormulasHeld b rules count (now definitions) lines kernels bounds closures nullables begins reaches terminals states)
         × (9 * count ≤ length (now given)) ⌝ }
-    ensures { λ r. ⌜ ((b : Book) (rules kernels starts closures nulls firsts reaches : List ℕ) (terminals states : ℕ)
-        → FormulasHeld b rules count (now (definitions .entry)) lines kernels starts closures nulls firsts reaches terminals states
+    ensures { λ r. ⌜ ((b : Book) (rules kernels bounds closures nullables begins reaches : List ℕ) (terminals states : ℕ)
+        → FormulasHeld b rules count (now (definitions .entry)) lines kernels bounds closures nullables begins reaches terminals states
         → GivenIn b (grammar.definitions b) (now (given .exit)) r) ⌝ }
 {
     clear(given, 9 * count as usize);

@@ -29,10 +29,10 @@ fn state_right(
     given: &[u32],
     leaders: u64,
     kernels: &[u32],
-    starts: &[u32],
+    bounds: &[u32],
     closures: &[u32],
     fronts: &[u64],
-    nulls: &[u32],
+    nullables: &[u32],
     reaches: &[u32],
     terminals: u32,
     state: usize,
@@ -43,16 +43,16 @@ fn state_right(
     heads: &mut [u32],
     nexts: &mut [u32],
 ) -> bool
-    requires { ⌜ ((b : Book) × (firsts : List ℕ) × (states : ℕ) × FrontsHeld b (now rules) count (now definitions) lines (now kernels) (now starts)
-        (now closures) (now fronts) (now nulls) firsts (now reaches) terminals states × OwnedIn (b .inheritedOwners) (attributes b) (now owned)
+    requires { ⌜ ((b : Book) × (begins : List ℕ) × (states : ℕ) × FrontsHeld b (now rules) count (now definitions) lines (now kernels) (now bounds)
+        (now closures) (now fronts) (now nullables) begins (now reaches) terminals states × OwnedIn (b .inheritedOwners) (attributes b) (now owned)
         × GivenIn b (grammar.definitions b) (now given) leaders × (state < states))
         × (9 * count ≤ length (now sets)) × Room lines (now slots) (now done) (now table) (now heads) (now nexts) ⌝ }
-    ensures { λ r. ⌜ ((b : Book) (firsts : List ℕ) (states : ℕ) → FrontsHeld b (now (rules .entry)) count (now (definitions .entry)) lines
-        (now (kernels .entry)) (now (starts .entry)) (now (closures .entry)) (now (fronts .entry)) (now (nulls .entry)) firsts (now (reaches .entry))
+    ensures { λ r. ⌜ ((b : Book) (begins : List ℕ) (states : ℕ) → FrontsHeld b (now (rules .entry)) count (now (definitions .entry)) lines
+        (now (kernels .entry)) (now (bounds .entry)) (now (closures .entry)) (now (fronts .entry)) (now (nullables .entry)) begins (now (reaches .entry))
         terminals states → OwnedIn (b .inheritedOwners) (attributes b) (now (owned .entry)) → GivenIn b (grammar.definitions b) (now (given .entry)) leaders
         → state < states → r ≡ stateRight b state) ⌝ }
 {
-    if single(kernels, starts, fronts, state, given, leaders) {
+    if single(kernels, bounds, fronts, state, given, leaders) {
         return true;
     }
     masks(
@@ -60,9 +60,9 @@ fn state_right(
         lines as usize,
         rules,
         kernels,
-        starts,
+        bounds,
         closures,
-        nulls,
+        nullables,
         reaches,
         state,
         sets,
@@ -92,10 +92,10 @@ fn states_right(
     given: &[u32],
     leaders: u64,
     kernels: &[u32],
-    starts: &[u32],
+    bounds: &[u32],
     closures: &[u32],
     fronts: &[u64],
-    nulls: &[u32],
+    nullables: &[u32],
     reaches: &[u32],
     terminals: u32,
     states: u32,
@@ -106,12 +106,12 @@ fn states_right(
     heads: &mut [u32],
     nexts: &mut [u32],
 ) -> bool
-    requires { ⌜ ((b : Book) × (firsts : List ℕ) × FrontsHeld b (now rules) count (now definitions) lines (now kernels) (now starts) (now closures)
-        (now fronts) (now nulls) firsts (now reaches) terminals states × OwnedIn (b .inheritedOwners) (attributes b) (now owned)
+    requires { ⌜ ((b : Book) × (begins : List ℕ) × FrontsHeld b (now rules) count (now definitions) lines (now kernels) (now bounds) (now closures)
+        (now fronts) (now nullables) begins (now reaches) terminals states × OwnedIn (b .inheritedOwners) (attributes b) (now owned)
         × GivenIn b (grammar.definitions b) (now given) leaders)
         × (9 * count ≤ length (now sets)) × Room lines (now slots) (now done) (now table) (now heads) (now nexts) ⌝ }
-    ensures { λ r. ⌜ ((b : Book) (firsts : List ℕ) → FrontsHeld b (now (rules .entry)) count (now (definitions .entry)) lines (now (kernels .entry))
-        (now (starts .entry)) (now (closures .entry)) (now (fronts .entry)) (now (nulls .entry)) firsts (now (reaches .entry)) terminals states
+    ensures { λ r. ⌜ ((b : Book) (begins : List ℕ) → FrontsHeld b (now (rules .entry)) count (now (definitions .entry)) lines (now (kernels .entry))
+        (now (bounds .entry)) (now (closures .entry)) (now (fronts .entry)) (now (nullables .entry)) begins (now (reaches .entry)) terminals states
         → OwnedIn (b .inheritedOwners) (attributes b) (now (owned .entry)) → GivenIn b (grammar.definitions b) (now (given .entry)) leaders
         → r ≡ allBelow (b .states) (stateRight b)) ⌝ }
 {
@@ -127,10 +127,10 @@ fn states_right(
             given,
             leaders,
             kernels,
-            starts,
+            bounds,
             closures,
             fronts,
-            nulls,
+            nullables,
             reaches,
             terminals,
             state,
@@ -157,10 +157,10 @@ pub fn one_formula(
     definitions: &[u32],
     lines: u32,
     kernels: &[u32],
-    starts: &[u32],
+    bounds: &[u32],
     closures: &[u32],
     fronts: &[u64],
-    nulls: &[u32],
+    nullables: &[u32],
     reaches: &[u32],
     terminals: u32,
     states: u32,
@@ -169,11 +169,11 @@ pub fn one_formula(
     table: &mut [u32],
     nexts: &mut [u32],
 ) -> bool
-    requires { ⌜ ((b : Book) × (firsts : List ℕ) × FrontsHeld b (now rules) count (now definitions) lines (now kernels) (now starts) (now closures)
-        (now fronts) (now nulls) firsts (now reaches) terminals states × OwnersIn MAX-INHERITED (b .inheritedOwners) (now owners)
+    requires { ⌜ ((b : Book) × (begins : List ℕ) × FrontsHeld b (now rules) count (now definitions) lines (now kernels) (now bounds) (now closures)
+        (now fronts) (now nullables) begins (now reaches) terminals states × OwnersIn MAX-INHERITED (b .inheritedOwners) (now owners)
         × (attributes ≡ length (b .inheritedOwners)) × GivenIn b (grammar.definitions b) (now given) leaders) × NodesRoom lines (now table) (now nexts) ⌝ }
-    ensures { λ r. ⌜ ((b : Book) (firsts : List ℕ) → FrontsHeld b (now (rules .entry)) count (now (definitions .entry)) lines (now (kernels .entry))
-        (now (starts .entry)) (now (closures .entry)) (now (fronts .entry)) (now (nulls .entry)) firsts (now (reaches .entry)) terminals states
+    ensures { λ r. ⌜ ((b : Book) (begins : List ℕ) → FrontsHeld b (now (rules .entry)) count (now (definitions .entry)) lines (now (kernels .entry))
+        (now (bounds .entry)) (now (closures .entry)) (now (fronts .entry)) (now (nullables .entry)) begins (now (reaches .entry)) terminals states
         → OwnersIn MAX-INHERITED (b .inheritedOwners) (now (owners .entry)) → attributes ≡ length (b .inheritedOwners)
         → GivenIn b (grammar.definitions b) (now (given .entry)) leaders → r ≡ formulasRight b) ⌝ }
 {
@@ -192,10 +192,10 @@ pub fn one_formula(
         given,
         leaders,
         kernels,
-        starts,
+        bounds,
         closures,
         fronts,
-        nulls,
+        nullables,
         reaches,
         terminals,
         states,

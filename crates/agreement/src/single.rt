@@ -23,7 +23,7 @@ use items::words::word;
 
 // The attributes given at the item of kernel line i.
 fn line_gives(kernels: &[u32], i: usize, given: &[u32]) -> u32
-    requires { ⌜ ((b : Book) × (rules : List ℕ) × (starts : List ℕ) × StatesIn b rules (now kernels) starts × (i < length (b .kernels))
+    requires { ⌜ ((b : Book) × (rules : List ℕ) × (bounds : List ℕ) × StatesIn b rules (now kernels) bounds × (i < length (b .kernels))
         × (9 * length (b .rules) ≤ length (now given))) ⌝ }
     ensures { λ r. ⌜ r ≡ lineWord (now (kernels .entry)) (now (given .entry)) i ⌝ }
 {
@@ -34,7 +34,7 @@ fn line_gives(kernels: &[u32], i: usize, given: &[u32]) -> u32
 
 // True only if the items of the kernel lines from `first` up to `last` are given different attributes, and none of `base`.
 fn lines_apart(kernels: &[u32], first: usize, last: usize, base: u32, given: &[u32]) -> bool
-    requires { ⌜ ((b : Book) × (rules : List ℕ) × (starts : List ℕ) × StatesIn b rules (now kernels) starts × (last ≤ length (b .kernels))
+    requires { ⌜ ((b : Book) × (rules : List ℕ) × (bounds : List ℕ) × StatesIn b rules (now kernels) bounds × (last ≤ length (b .kernels))
         × (9 * length (b .rules) ≤ length (now given))) × (first ≤ last) ⌝ }
     ensures { λ r. ⌜ (r ≡ true → ((all : ℕ) × Apart (lineWord (now (kernels .entry)) (now (given .entry))) base first last all)) ⌝ }
 {
@@ -84,45 +84,45 @@ fn fronts_apart(fronts: &[u64], state: usize, given: &[u32], leaders: u64) -> Fr
 // True only if each attribute is given to the items of a state by one definition.
 pub fn single(
     kernels: &[u32],
-    starts: &[u32],
+    bounds: &[u32],
     fronts: &[u64],
     state: usize,
     given: &[u32],
     leaders: u64,
 ) -> bool
-    requires { ⌜ ((b : Book) × (rules : List ℕ) × (closures : List ℕ) × ItemsIn b (setsOf (b .rules)) rules (now kernels) (now starts) closures
+    requires { ⌜ ((b : Book) × (rules : List ℕ) × (closures : List ℕ) × ItemsIn b (setsOf (b .rules)) rules (now kernels) (now bounds) closures
         × FrontsIn b rules closures (now fronts) × (state < b .states) × (9 * length (b .rules) ≤ length (now given))) ⌝ }
     ensures { λ r. ⌜ (r ≡ true → (b : Book) (rules closures : List ℕ) → Ordered b
-        → ItemsIn b (setsOf (b .rules)) rules (now (kernels .entry)) (now (starts .entry)) closures → FrontsIn b rules closures (now (fronts .entry))
+        → ItemsIn b (setsOf (b .rules)) rules (now (kernels .entry)) (now (bounds .entry)) closures → FrontsIn b rules closures (now (fronts .entry))
         → GivenIn b (grammar.definitions b) (now (given .entry)) leaders → state < b .states → Single b state) ⌝ }
 {
     let fronted = fronts_apart(fronts, state, given, leaders);
     if !fronted.apart {
         return false;
     }
-    let first = word(starts, state);
-    let last = word(starts, state + 1);
+    let first = word(bounds, state);
+    let last = word(bounds, state + 1);
     lines_apart(kernels, first, last, fronted.bits, given)
 }
 
 // True only if that is so in all states.
 fn states_single(
     kernels: &[u32],
-    starts: &[u32],
+    bounds: &[u32],
     fronts: &[u64],
     states: usize,
     given: &[u32],
     leaders: u64,
 ) -> bool
-    requires { ⌜ ((b : Book) × (rules : List ℕ) × (closures : List ℕ) × ItemsIn b (setsOf (b .rules)) rules (now kernels) (now starts) closures
+    requires { ⌜ ((b : Book) × (rules : List ℕ) × (closures : List ℕ) × ItemsIn b (setsOf (b .rules)) rules (now kernels) (now bounds) closures
         × FrontsIn b rules closures (now fronts) × (states ≡ b .states) × (9 * length (b .rules) ≤ length (now given))) ⌝ }
     ensures { λ r. ⌜ (r ≡ true → (b : Book) (rules closures : List ℕ) → Ordered b
-        → ItemsIn b (setsOf (b .rules)) rules (now (kernels .entry)) (now (starts .entry)) closures → FrontsIn b rules closures (now (fronts .entry))
+        → ItemsIn b (setsOf (b .rules)) rules (now (kernels .entry)) (now (bounds .entry)) closures → FrontsIn b rules closures (now (fronts .entry))
         → GivenIn b (grammar.definitions b) (now (given .entry)) leaders → states ≡ b .states → (S : ℕ) → S < b .states → Single b S) ⌝ }
 {
     let mut state = 0;
     while state < states {
-        if !single(kernels, starts, fronts, state, given, leaders) {
+        if !single(kernels, bounds, fronts, state, given, leaders) {
             return false;
         }
         state += 1;
@@ -133,20 +133,20 @@ fn states_single(
 // True only if that is so in all states of a book: then each attribute has one formula in every partial state (10).
 pub fn all_single(
     kernels: &[u32],
-    starts: &[u32],
+    bounds: &[u32],
     fronts: &[u64],
     states: u32,
     given: &[u32],
     leaders: u64,
 ) -> bool
-    requires { ⌜ ((b : Book) × (rules : List ℕ) × (count : ℕ) × (definitions : List ℕ) × (lines : ℕ) × (closures : List ℕ) × (nulls : List ℕ)
-        × (firsts : List ℕ) × (reaches : List ℕ) × (terminals : ℕ)
-        × FrontsHeld b rules count definitions lines (now kernels) (now starts) closures (now fronts) nulls firsts reaches terminals states
+    requires { ⌜ ((b : Book) × (rules : List ℕ) × (count : ℕ) × (definitions : List ℕ) × (lines : ℕ) × (closures : List ℕ) × (nullables : List ℕ)
+        × (begins : List ℕ) × (reaches : List ℕ) × (terminals : ℕ)
+        × FrontsHeld b rules count definitions lines (now kernels) (now bounds) closures (now fronts) nullables begins reaches terminals states
         × GivenIn b (grammar.definitions b) (now given) leaders) ⌝ }
     ensures { λ r. ⌜ (r ≡ true → (b : Book) (rules : List ℕ) (count : ℕ) (definitions : List ℕ) (lines : ℕ)
-        (closures nulls firsts reaches : List ℕ) (terminals : ℕ)
-        → FrontsHeld b rules count definitions lines (now (kernels .entry)) (now (starts .entry)) closures (now (fronts .entry)) nulls firsts reaches
+        (closures nullables begins reaches : List ℕ) (terminals : ℕ)
+        → FrontsHeld b rules count definitions lines (now (kernels .entry)) (now (bounds .entry)) closures (now (fronts .entry)) nullables begins reaches
         terminals states → GivenIn b (grammar.definitions b) (now (given .entry)) leaders → true ≡ formulasRight b) ⌝ }
 {
-    states_single(kernels, starts, fronts, states as usize, given, leaders)
+    states_single(kernels, bounds, fronts, states as usize, given, leaders)
 }

@@ -35,11 +35,11 @@ fn short(words: &[u32], n: usize, tokens: &[u32], rows: &mut [u32], count: &mut 
     let mut definitions = [0u32; WORDS * SHORT_DEFINITIONS];
     let mut kernels = [0u32; 5 * SHORT_KERNELS];
     let mut goes = [0u32; 3 * SHORT_GOES];
-    let mut vanishes = [0u32; 9 * SHORT_RULES];
+    let mut nullables = [0u32; 9 * SHORT_RULES];
     let mut begins = [0u32; 9 * SHORT_RULES];
-    let mut reached = [0u32; 9 * SHORT_RULES];
-    let mut starts = [0u32; SHORT_STATES + 1];
-    let mut lookaheads = [0u32; 32 * SHORT_STATES];
+    let mut reaches = [0u32; 9 * SHORT_RULES];
+    let mut bounds = [0u32; SHORT_STATES + 1];
+    let mut closures = [0u32; 32 * SHORT_STATES];
     let mut fronts = [0u64; SHORT_STATES];
     let mut table = [255u8; 64 * SHORT_STATES];
     let mut actions = [0u8; 32 * SHORT_STATES];
@@ -51,11 +51,11 @@ fn short(words: &[u32], n: usize, tokens: &[u32], rows: &mut [u32], count: &mut 
         &mut definitions,
         &mut kernels,
         &mut goes,
-        &mut vanishes,
+        &mut nullables,
         &mut begins,
-        &mut reached,
-        &mut starts,
-        &mut lookaheads,
+        &mut reaches,
+        &mut bounds,
+        &mut closures,
         &mut fronts,
         &mut table,
         &mut actions,
@@ -76,13 +76,13 @@ fn long(words: &[u32], n: usize, tokens: &[u32], rows: &mut [u32], count: &mut u
     let mut kernels = [0u32; 5 * Book::MAX_KERNELS as usize];
     let mut goes = [0u32; 3 * Book::MAX_GOES as usize];
     let mut actions = [0u8; Book::MAX_TEXT / 5];
-    let mut starts = [0u32; Book::MAX_STATES as usize + 1];
-    let mut lookaheads = [0u32; 32 * Book::MAX_STATES as usize];
+    let mut bounds = [0u32; Book::MAX_STATES as usize + 1];
+    let mut closures = [0u32; 32 * Book::MAX_STATES as usize];
     let mut fronts = [0u64; Book::MAX_STATES as usize];
     let mut table = [255u8; 64 * Book::MAX_STATES as usize];
-    let mut vanishes = [0u32; 9 * Book::MAX_RULES as usize];
+    let mut nullables = [0u32; 9 * Book::MAX_RULES as usize];
     let mut begins = [0u32; 9 * Book::MAX_RULES as usize];
-    let mut reached = [0u32; 9 * Book::MAX_RULES as usize];
+    let mut reaches = [0u32; 9 * Book::MAX_RULES as usize];
     let mut rules = [0u32; 10 * Book::MAX_RULES as usize];
     let mut definitions = [0u32; WORDS * Book::MAX_DEFINITIONS as usize];
     attempt(
@@ -93,11 +93,11 @@ fn long(words: &[u32], n: usize, tokens: &[u32], rows: &mut [u32], count: &mut u
         &mut definitions,
         &mut kernels,
         &mut goes,
-        &mut vanishes,
+        &mut nullables,
         &mut begins,
-        &mut reached,
-        &mut starts,
-        &mut lookaheads,
+        &mut reaches,
+        &mut bounds,
+        &mut closures,
         &mut fronts,
         &mut table,
         &mut actions,

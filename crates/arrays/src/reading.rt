@@ -25,11 +25,11 @@ fn short(text: &[u8], words: &mut [u32]) -> Answer
     let mut rules = [0u32; 10 * SHORT_RULES];
     let mut kernels = [0u32; 5 * SHORT_KERNELS];
     let mut goes = [0u32; 3 * SHORT_GOES];
-    let mut vanishes = [0u32; 9 * SHORT_RULES];
+    let mut nullables = [0u32; 9 * SHORT_RULES];
     let mut begins = [0u32; 9 * SHORT_RULES];
-    let mut reached = [0u32; 9 * SHORT_RULES];
-    let mut starts = [0u32; SHORT_STATES + 1];
-    let mut lookaheads = [0u32; 32 * SHORT_STATES];
+    let mut reaches = [0u32; 9 * SHORT_RULES];
+    let mut bounds = [0u32; SHORT_STATES + 1];
+    let mut closures = [0u32; 32 * SHORT_STATES];
     let mut fronts = [0u64; SHORT_STATES];
     let mut table = [255u8; 64 * SHORT_STATES];
     let mut actions = [0u8; 32 * SHORT_STATES];
@@ -39,11 +39,11 @@ fn short(text: &[u8], words: &mut [u32]) -> Answer
         &mut rules,
         &mut kernels,
         &mut goes,
-        &mut vanishes,
+        &mut nullables,
         &mut begins,
-        &mut reached,
-        &mut starts,
-        &mut lookaheads,
+        &mut reaches,
+        &mut bounds,
+        &mut closures,
         &mut fronts,
         &mut table,
         &mut actions,
@@ -59,13 +59,13 @@ fn long(text: &[u8], words: &mut [u32]) -> u32
     let mut kernels = [0u32; 5 * Book::MAX_KERNELS as usize];
     let mut goes = [0u32; 3 * Book::MAX_GOES as usize];
     let mut actions = [0u8; Book::MAX_TEXT / 5];
-    let mut starts = [0u32; Book::MAX_STATES as usize + 1];
-    let mut lookaheads = [0u32; 32 * Book::MAX_STATES as usize];
+    let mut bounds = [0u32; Book::MAX_STATES as usize + 1];
+    let mut closures = [0u32; 32 * Book::MAX_STATES as usize];
     let mut fronts = [0u64; Book::MAX_STATES as usize];
     let mut table = [255u8; 64 * Book::MAX_STATES as usize];
-    let mut vanishes = [0u32; 9 * Book::MAX_RULES as usize];
+    let mut nullables = [0u32; 9 * Book::MAX_RULES as usize];
     let mut begins = [0u32; 9 * Book::MAX_RULES as usize];
-    let mut reached = [0u32; 9 * Book::MAX_RULES as usize];
+    let mut reaches = [0u32; 9 * Book::MAX_RULES as usize];
     let mut rules = [0u32; 10 * Book::MAX_RULES as usize];
     attempt(
         text,
@@ -73,11 +73,11 @@ fn long(text: &[u8], words: &mut [u32]) -> u32
         &mut rules,
         &mut kernels,
         &mut goes,
-        &mut vanishes,
+        &mut nullables,
         &mut begins,
-        &mut reached,
-        &mut starts,
-        &mut lookaheads,
+        &mut reaches,
+        &mut bounds,
+        &mut closures,
         &mut fronts,
         &mut table,
         &mut actions,

@@ -24,10 +24,10 @@ use Rattle.attempts.specs.Evaluations.{Asked, Answers, answers-none, ans
 
 -- the first n bytes of a text are those of stored words, and were compiled
 pub record Read (room : Room) (n : ℕ) (text : List ℕ) (complete : Bool) (r : ℕ) (numbers : Book) (inherited synthesized rules definitions kernels goes : List ℕ)
-    (vanishes reached starts closures table actions : List ℕ) : Type 0 where
+    (nullables reaches bounds closures table actions : List ℕ) : Type 0 where
   pub words : List ℕ
   pub found : Found words text n
-  pub compiles : Compiles room (take n text) complete r numbers inherited synthesized rules definitions kernels goes vanishes reached starts closures
+  pub compiles : Compiles room (take n text) complete r numbers inherited synthesized rules definitions kernels goes nullables reaches bounds closures
       table actions
 
 -- the answer to a message under the book in such words, where arrays have room for what it has; where there is room for all, they have
@@ -37,11 +37,11 @@ pub record Attempts (room : Room) (text : List ℕ) (n : ℕ) (tokens : List ℕ
 
 -- where it is not refused, the book is taken
 module _ {room : Room} {n : ℕ} {text : List ℕ} {complete : Bool} {r : ℕ} {numbers : Book} {inherited synthesized rules definitions kernels goes : List ℕ}
-    {vanishes reached starts closures table actions : List ℕ}
-    (R : Read room n text complete r numbers inherited synthesized rules definitions kernels goes vanishes reached starts closures table actions)
+    {nullables reaches bounds closures table actions : List ℕ}
+    (R : Read room n text complete r numbers inherited synthesized rules definitions kernels goes nullables reaches bounds closures table actions)
     (whole : complete ≡ true) (taken : r ≡ 0) where
   pub book-taken : (b : Lines)
-      × TakenBook numbers inherited synthesized rules definitions kernels goes vanishes reached starts closures table actions b
+      × TakenBook numbers inherited synthesized rules definitions kernels goes nullables reaches bounds closures table actions b
   book-taken = let (b, q, t) = found-book (R .found) whole (R .compiles) taken in (b, t)
 
   -- and has no more states than the room
@@ -52,8 +52,8 @@ module _ {room : Room} {n : ℕ} {text : List ℕ} {complete : Bool} {r : ℕ} {
       (omega (arith, t .ready .conditions-met .limits .states-limit .high, counted b (t .ready .numbers-are) .states-are))
 
 module _ {room : Room} {n : ℕ} {text : List ℕ} {complete : Bool} {r : ℕ} {numbers : Book} {inherited synthesized rules definitions kernels goes : List ℕ}
-    {vanishes reached starts closures table actions : List ℕ}
-    (R : Read room n text complete r numbers inherited synthesized rules definitions kernels goes vanishes reached starts closures table actions)
+    {nullables reaches bounds closures table actions : List ℕ}
+    (R : Read room n text complete r numbers inherited synthesized rules definitions kernels goes nullables reaches bounds closures table actions)
     {tokens : List ℕ} {lent : ℕ} where
   -- something was left out
   pub attempts-part : {number count : ℕ} {rows : List ℕ} → complete ≡ false → Attempts room text n tokens lent false number rows count
@@ -82,7 +82,7 @@ module _ {room : Room} {n : ℕ} {text : List ℕ} {complete : Bool} {r : ℕ} {
 
       -- the machine runs
       pub attempts-run : {outcome : Outcome} {rows : List ℕ} (passed : first ≡ 0)
-          → ((b : Lines) → TakenBook numbers inherited synthesized rules definitions kernels goes vanishes reached starts closures table actions b
+          → ((b : Lines) → TakenBook numbers inherited synthesized rules definitions kernels goes nullables reaches bounds closures table actions b
           → (m : Message (numbers .terminals) tokens) → Paged (evaluate b (tablesOf b) (m .list)) outcome rows)
           → Attempts room text n tokens lent true (outcome .number) rows (outcome .count)
       attempts-run passed ran = record {

@@ -24,15 +24,15 @@ abbrev pub shortRoom : Room
 shortRoom = record { definitions = 48; kernels = 64; goes = 64; states = 32; rules = 32 }
 
 -- the arrays that are as long as a room says, which is no more than the limits allow
-pub record ArraysLent (room : Room) (rules definitions kernels goes vanishes begins reached starts closures fronts table : List ℕ) : Type 0 where
+pub record ArraysLent (room : Room) (rules definitions kernels goes nullables begins reaches bounds closures fronts table : List ℕ) : Type 0 where
   pub rules-long : length rules ≡ 10 * room .rules
   pub definitions-long : length definitions ≡ 49 * room .definitions
   pub kernels-long : length kernels ≡ 5 * room .kernels
   pub goes-long : length goes ≡ 3 * room .goes
-  pub vanishes-long : length vanishes ≡ 9 * room .rules
+  pub nullables-long : length nullables ≡ 9 * room .rules
   pub begins-long : length begins ≡ 9 * room .rules
-  pub reached-long : length reached ≡ 9 * room .rules
-  pub starts-long : length starts ≡ room .states + 1
+  pub reaches-long : length reaches ≡ 9 * room .rules
+  pub starts-long : length bounds ≡ room .states + 1
   pub closures-none : closures ≡ replicate (32 * room .states) 0
   pub fronts-long : length fronts ≡ room .states
   pub table-unset : Unset (room .states) table
@@ -54,9 +54,9 @@ fresh-arrays room rules definitions kernels goes = record {
   definitions-long = zeros (49 * room .definitions);
   kernels-long = zeros (5 * room .kernels);
   goes-long = zeros (3 * room .goes);
-  vanishes-long = zeros (9 * room .rules);
+  nullables-long = zeros (9 * room .rules);
   begins-long = zeros (9 * room .rules);
-  reached-long = zeros (9 * room .rules);
+  reaches-long = zeros (9 * room .rules);
   starts-long = zeros (room .states + 1);
   closures-none = refl;
   fronts-long = zeros (room .states);
@@ -84,9 +84,9 @@ full-complete numbers = record {
 }
 
 pub compiled-whole : {room : Room} {text : List ℕ} {complete : Bool} {r : ℕ} {numbers : Book} {inherited synthesized rules definitions kernels goes : List ℕ}
-    {vanishes reached starts closures table actions : List ℕ}
+    {nullables reaches bounds closures table actions : List ℕ}
     → room ≡ fullRoom
-    → Compiles room text complete r numbers inherited synthesized rules definitions kernels goes vanishes reached starts closures table actions
+    → Compiles room text complete r numbers inherited synthesized rules definitions kernels goes nullables reaches bounds closures table actions
     → complete ≡ true
 compiled-whole {complete = complete} {numbers = numbers} all c = go complete refl
   where
@@ -95,17 +95,17 @@ compiled-whole {complete = complete} {numbers = numbers} all c = go complete ref
     go false e = absurd (c .left-out e (rw all (full-complete numbers)))
 
 -- the first of the words that are lent serve as the array of definitions
-pub words-lent : {room : Room} {rules definitions kernels goes vanishes begins reached starts closures fronts table : List ℕ} (words : List ℕ)
-    → length words ≡ BOOK-WORDS → ArraysLent room rules definitions kernels goes vanishes begins reached starts closures fronts table
-    → ArraysLent room rules (take (49 * room .definitions) words) kernels goes vanishes begins reached starts closures fronts table
+pub words-lent : {room : Room} {rules definitions kernels goes nullables begins reaches bounds closures fronts table : List ℕ} (words : List ℕ)
+    → length words ≡ BOOK-WORDS → ArraysLent room rules definitions kernels goes nullables begins reaches bounds closures fronts table
+    → ArraysLent room rules (take (49 * room .definitions) words) kernels goes nullables begins reaches bounds closures fronts table
 words-lent {room} words e lent = record {
   rules-long = lent .rules-long;
   definitions-long = length-take (49 * room .definitions) words ∙ omega (arith, e, lent .definitions-few);
   kernels-long = lent .kernels-long;
   goes-long = lent .goes-long;
-  vanishes-long = lent .vanishes-long;
+  nullables-long = lent .nullables-long;
   begins-long = lent .begins-long;
-  reached-long = lent .reached-long;
+  reaches-long = lent .reaches-long;
   starts-long = lent .starts-long;
   closures-none = lent .closures-none;
   fronts-long = lent .fronts-long;
@@ -116,8 +116,8 @@ words-lent {room} words e lent = record {
   goes-few = lent .goes-few;
 }
 
-module _ {room : Room} {rules definitions kernels goes vanishes begins reached starts closures fronts table : List ℕ}
-    (lent : ArraysLent room rules definitions kernels goes vanishes begins reached starts closures fronts table) where
+module _ {room : Room} {rules definitions kernels goes nullables begins reaches bounds closures fronts table : List ℕ}
+    (lent : ArraysLent room rules definitions kernels goes nullables begins reaches bounds closures fronts table) where
   pub lines-room : Roomy room (arrays (replicate 16 0) (replicate 32 0) rules definitions kernels goes)
   lines-room = record {
     inherited-long = zeros 16;
@@ -133,11 +133,11 @@ module _ {room : Room} {rules definitions kernels goes vanishes begins reached s
   }
 
   pub tables-lent : {actions : List ℕ} → 32 * room .states ≤ length actions
-      → TablesLent room vanishes begins reached starts closures fronts table actions
+      → TablesLent room nullables begins reaches bounds closures fronts table actions
   tables-lent long = record {
-    vanishes-long = omega (arith, lent .vanishes-long);
+    nullables-long = omega (arith, lent .nullables-long);
     begins-long = omega (arith, lent .begins-long);
-    reached-long = omega (arith, lent .reached-long);
+    reaches-long = omega (arith, lent .reaches-long);
     starts-long = omega (arith, lent .starts-long);
     closures-none = lent .closures-none;
     fronts-long = omega (arith, lent .fronts-long);

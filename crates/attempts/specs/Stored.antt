@@ -70,8 +70,8 @@ module _ {words text : List ℕ} {count : ℕ} (F : Found words text count) wher
   }
 
   module _ {r : ℕ} {numbers : Book} {inherited synthesized rules definitions kernels goes : List ℕ}
-      {vanishes reached starts closures table actions : List ℕ} {complete : Bool} {room : Room} (whole : complete ≡ true)
-      (c : Compiles room (take count text) complete r numbers inherited synthesized rules definitions kernels goes vanishes reached starts closures
+      {nullables reaches bounds closures table actions : List ℕ} {complete : Bool} {room : Room} (whole : complete ≡ true)
+      (c : Compiles room (take count text) complete r numbers inherited synthesized rules definitions kernels goes nullables reaches bounds closures
       table actions)
     where
       -- where the text in the words is refused, they hold no book
@@ -87,7 +87,7 @@ module _ {words text : List ℕ} {count : ℕ} (F : Found words text count) wher
       -- else there is a book, which is taken, and in the arrays
       pub found-book : r ≡ 0
           → (b : Lines) × (storedBook words ≡ some b)
-          × TakenBook numbers inherited synthesized rules definitions kernels goes vanishes reached starts closures table actions b
+          × TakenBook numbers inherited synthesized rules definitions kernels goes nullables reaches bounds closures table actions b
       unfolding stored
       found-book z =
           let t = refusal-taken (take count text) (sym (c .told whole) ∙ z) in (

@@ -50,10 +50,10 @@ fn respond(
     definitions: &[u32],
     kernels: &[u32],
     goes: &[u32],
-    vanishes: &[u32],
-    reached: &[u32],
-    starts: &[u32],
-    lookaheads: &[u32],
+    nullables: &[u32],
+    reaches: &[u32],
+    bounds: &[u32],
+    closures: &[u32],
     table: &[u8],
     actions: &[u8],
     tokens: &[u32],
@@ -62,11 +62,11 @@ fn respond(
     count: &mut u32,
 ) -> Answer
     requires { ⌜ ((room : Room) × (n : ℕ) × (text : List ℕ) × Read room n text (compiled .complete) (compiled .refusal) (compiled .book) (now inherited)
-        (now synthesized) (now rules) (now definitions) (now kernels) (now goes) (now vanishes) (now reached) (now starts) (now lookaheads)
+        (now synthesized) (now rules) (now definitions) (now kernels) (now goes) (now nullables) (now reaches) (now bounds) (now closures)
         (now table) (now actions) × (32 * room .states ≤ length (now slots))) ⌝ }
     ensures { λ r. ⌜ ((room : Room) (n : ℕ) (text : List ℕ) → Read room n text (compiled .complete) (compiled .refusal) (compiled .book)
         (now (inherited .entry)) (now (synthesized .entry)) (now (rules .entry)) (now (definitions .entry)) (now (kernels .entry)) (now (goes .entry))
-        (now (vanishes .entry)) (now (reached .entry)) (now (starts .entry)) (now (lookaheads .entry)) (now (table .entry))
+        (now (nullables .entry)) (now (reaches .entry)) (now (bounds .entry)) (now (closures .entry)) (now (table .entry))
         (now (actions .entry))
         → Attempts room text n (now (tokens .entry)) (length (now (rows .entry))) (r .complete) (r .number) (now (rows .exit)) (now (count .exit))) ⌝ }
 {
@@ -98,10 +98,10 @@ fn respond(
         definitions,
         kernels,
         goes,
-        vanishes,
-        reached,
-        starts,
-        lookaheads,
+        nullables,
+        reaches,
+        bounds,
+        closures,
         table,
         actions,
         tokens,
@@ -125,11 +125,11 @@ pub fn attempt(
     definitions: &mut [u32],
     kernels: &mut [u32],
     goes: &mut [u32],
-    vanishes: &mut [u32],
+    nullables: &mut [u32],
     begins: &mut [u32],
-    reached: &mut [u32],
-    starts: &mut [u32],
-    lookaheads: &mut [u32],
+    reaches: &mut [u32],
+    bounds: &mut [u32],
+    closures: &mut [u32],
     fronts: &mut [u64],
     table: &mut [u8],
     actions: &mut [u8],
@@ -139,7 +139,7 @@ pub fn attempt(
 ) -> Answer
     requires { ⌜ ((words : List ℕ) × Found words (now text) n) × (n ≤ 5 * length (now actions) + 3) × (32 * room .states ≤ length (now actions))
         × (32 * room .states ≤ length (now text))
-        × ArraysLent room (now rules) (now definitions) (now kernels) (now goes) (now vanishes) (now begins) (now reached) (now starts) (now lookaheads)
+        × ArraysLent room (now rules) (now definitions) (now kernels) (now goes) (now nullables) (now begins) (now reaches) (now bounds) (now closures)
         (now fronts) (now table) ⌝ }
     ensures { λ r. ⌜ Attempts room (now (text .entry)) n (now (tokens .entry)) (length (now (rows .entry))) (r .complete) (r .number) (now (rows .exit))
         (now (count .exit)) ⌝ }
@@ -157,11 +157,11 @@ pub fn attempt(
         definitions,
         kernels,
         goes,
-        vanishes,
+        nullables,
         begins,
-        reached,
-        starts,
-        lookaheads,
+        reaches,
+        bounds,
+        closures,
         fronts,
         table,
         actions,
@@ -174,10 +174,10 @@ pub fn attempt(
         definitions,
         kernels,
         goes,
-        vanishes,
-        reached,
-        starts,
-        lookaheads,
+        nullables,
+        reaches,
+        bounds,
+        closures,
         table,
         actions,
         tokens,

@@ -25,11 +25,11 @@ pub fn attempt(
     rules: &mut [u32],
     kernels: &mut [u32],
     goes: &mut [u32],
-    vanishes: &mut [u32],
+    nullables: &mut [u32],
     begins: &mut [u32],
-    reached: &mut [u32],
-    starts: &mut [u32],
-    lookaheads: &mut [u32],
+    reaches: &mut [u32],
+    bounds: &mut [u32],
+    closures: &mut [u32],
     fronts: &mut [u64],
     table: &mut [u8],
     actions: &mut [u8],
@@ -37,8 +37,8 @@ pub fn attempt(
 ) -> Answer
     requires { ⌜ (length (now text) ≤ MAX-TEXT) × (length (now words) ≡ BOOK-WORDS)
         × WaitsRoom (now text) (now actions) × (32 * room .states ≤ length (now actions))
-        × ArraysLent room (now rules) (take (49 * room .definitions) (now words)) (now kernels) (now goes) (now vanishes) (now begins)
-        (now reached) (now starts) (now lookaheads) (now fronts) (now table) ⌝ }
+        × ArraysLent room (now rules) (take (49 * room .definitions) (now words)) (now kernels) (now goes) (now nullables) (now begins)
+        (now reaches) (now bounds) (now closures) (now fronts) (now table) ⌝ }
     ensures { λ r. ⌜ Attempted room (now (text .entry)) (r .complete) (r .refusal) ⌝ }
 {
     let t = classes();
@@ -55,11 +55,11 @@ pub fn attempt(
         &mut words[..size],
         kernels,
         goes,
-        vanishes,
+        nullables,
         begins,
-        reached,
-        starts,
-        lookaheads,
+        reaches,
+        bounds,
+        closures,
         fronts,
         table,
         actions,

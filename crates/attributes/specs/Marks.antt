@@ -20,14 +20,14 @@ use Rattle.grammar.specs.Automaton.CoreItems.{Core, core}
 use Rattle.grammar.specs.Formulas.FormulaCheck.{definitions, dotOf, lineAt}
 
 -- words for the items of all rules, in three arrays
-pub record MarksRoom (G : List Rule) (nulls reaches masks : List ℕ) : Type 0 where
-  pub nulls-long : 9 * length G ≤ length nulls
+pub record MarksRoom (G : List Rule) (nullables reaches masks : List ℕ) : Type 0 where
+  pub nullables-long : 9 * length G ≤ length nullables
   pub reaches-long : 9 * length G ≤ length reaches
   pub masks-long : 9 * length G ≤ length masks
 
-pub room-kept : {G : List Rule} {nulls reaches masks more : List ℕ} → MarksRoom G nulls reaches masks → length more ≡ length masks
-    → MarksRoom G nulls reaches more
-room-kept H e = record { nulls-long = H .nulls-long; reaches-long = H .reaches-long; masks-long = omega (arith, e, H .masks-long) }
+pub room-kept : {G : List Rule} {nullables reaches masks more : List ℕ} → MarksRoom G nullables reaches masks → length more ≡ length masks
+    → MarksRoom G nullables reaches more
+room-kept H e = record { nullables-long = H .nullables-long; reaches-long = H .reaches-long; masks-long = omega (arith, e, H .masks-long) }
 
 module _ (b : Book) (F : Sets) (R : List ℕ) where
   -- an entry for the item (P, D) that reaches a

@@ -11,9 +11,9 @@ use Rattle.grammar.specs.Automaton.FirstSets.{Sets, null}
 use Rattle.grammar.specs.Automaton.ReachSets.{reachWith}
 use Rattle.items.specs.Arrays.{flag, SuffixesIn, ReachesIn}
 
-module _ {G : List Rule} {F : Sets} {R nulls firsts reaches : List ℕ} (N : SuffixesIn G F nulls firsts) (H : ReachesIn G F R reaches) (P D M : ℕ)
+module _ {G : List Rule} {F : Sets} {R nullables begins reaches : List ℕ} (N : SuffixesIn G F nullables begins) (H : ReachesIn G F R reaches) (P D M : ℕ)
     (p : P < length G) (d : D ≤ length (rightOf G P)) where
-  pub reach-null : (getD nulls (9 * P + D) 0 ≡ 0 → ⊥) → reachWith F R (after G P D) M ≡ union (getD reaches (9 * P + D) 0) M
+  pub reach-null : (getD nullables (9 * P + D) 0 ≡ 0 → ⊥) → reachWith F R (after G P D) M ≡ union (getD reaches (9 * P + D) 0) M
   unfolding reachWith flag
   reach-null h = go (null F (after G P D)) refl
     where
@@ -21,7 +21,7 @@ module _ {G : List Rule} {F : Sets} {R nulls firsts reaches : List ℕ} (N : Suf
       go true e = rw (e, reachWith, H .reach-is P D p d)
       go false e = absurd (h (rw (N .null-is P D p d, e)))
 
-  pub reach-full : getD nulls (9 * P + D) 0 ≡ 0 → reachWith F R (after G P D) M ≡ getD reaches (9 * P + D) 0
+  pub reach-full : getD nullables (9 * P + D) 0 ≡ 0 → reachWith F R (after G P D) M ≡ getD reaches (9 * P + D) 0
   unfolding reachWith flag
   reach-full h = go (null F (after G P D)) refl
     where

@@ -25,9 +25,9 @@ use Rattle.attributes.specs.MarkFronts.{LooksIn}
 use Rattle.attributes.specs.MarkLines.{ItemLinesIn}
 
 -- a book's states with their closures in arrays, and the sets of the rules' rests
-pub record MarksHeld (b : Book) (rules kernels starts closures nulls firsts reaches : List ℕ) : Type 0 where
-  pub items-in : ItemsIn b (setsOf (b .rules)) rules kernels starts closures
-  pub rests-in : RestSetsIn (b .rules) nulls firsts reaches
+pub record MarksHeld (b : Book) (rules kernels bounds closures nullables begins reaches : List ℕ) : Type 0 where
+  pub items-in : ItemsIn b (setsOf (b .rules)) rules kernels bounds closures
+  pub rests-in : RestSetsIn (b .rules) nullables begins reaches
 
 -- the sets of a state's items, where definitions are of them
 pub record StateMarksIn (b : Book) (S : ℕ) (masks : List ℕ) : Type 0 where
@@ -36,11 +36,11 @@ pub record StateMarksIn (b : Book) (S : ℕ) (masks : List ℕ) : Type 0 where
       → Decides (bit (getD masks (9 * lineAt b d .rule + dotOf (lineAt b d)) 0) a)
       (CoreIn b (setsOf (b .rules)) (reachSets (b .rules) (setsOf (b .rules))) S a (lineAt b d .rule) (dotOf (lineAt b d)))
 
-module _ {b : Book} {rules kernels starts closures nulls firsts reaches : List ℕ} (H : MarksHeld b rules kernels starts closures nulls firsts reaches) where
+module _ {b : Book} {rules kernels bounds closures nullables begins reaches : List ℕ} (H : MarksHeld b rules kernels bounds closures nullables begins reaches) where
   pub marks-room : {definitions owned cleared masks : List ℕ} → CheckHeld b definitions rules owned cleared → length masks ≡ length cleared
-      → MarksRoom (b .rules) nulls reaches masks
+      → MarksRoom (b .rules) nullables reaches masks
   marks-room C e = record {
-    nulls-long = H .rests-in .suffixes-in .nulls-long;
+    nullables-long = H .rests-in .suffixes-in .nullables-long;
     reaches-long = H .rests-in .reaches-in .long;
     masks-long = omega (arith, e, C .masks-long);
   }
@@ -70,10 +70,10 @@ module _ {b : Book} {rules kernels starts closures nulls firsts reaches : List �
     pub looks-below : 32 * S + 32 ≤ length closures
     looks-below = omega (arith, H .items-in .closures-in .long, H .items-in .states-in .grammar-in .limits .states-limit .high)
 
-    pub starts-below : S + 1 < length starts
+    pub starts-below : S + 1 < length bounds
     starts-below = state-starts (H .items-in .states-in) S s
 
-    module _ {first last : ℕ} (first-is : first ≡ getD starts S 0) (last-is : last ≡ getD starts (S + 1) 0) where
+    module _ {first last : ℕ} (first-is : first ≡ getD bounds S 0) (last-is : last ≡ getD bounds (S + 1) 0) where
       pub range : Range b S first last
       range = rw (first-is, last-is) (state-range (H .items-in .states-in) S s)
 

@@ -39,8 +39,8 @@ pub record InFront (closures : List ℕ) (first A : ℕ) : Type 0 where
   pub fits : getD closures (first + A) 0 < 2 ^ 32
   pub some : getD closures (first + A) 0 ≡ 0 → ⊥
 
-module _ {b : Book} {rules kernels starts closures : List ℕ} (ordered : Ordered b) (I : ItemsIn b (setsOf (b .rules)) rules kernels starts closures)
-    {S first last : ℕ} (s : S < b .states) (first-is : first ≡ getD starts S 0) (last-is : last ≡ getD starts (S + 1) 0) where
+module _ {b : Book} {rules kernels bounds closures : List ℕ} (ordered : Ordered b) (I : ItemsIn b (setsOf (b .rules)) rules kernels bounds closures)
+    {S first last : ℕ} (s : S < b .states) (first-is : first ≡ getD bounds S 0) (last-is : last ≡ getD bounds (S + 1) 0) where
   small : SmallBook b
   small = small-book ordered (I .states-in .grammar-in .limits) (I .states-in .grammar-in .declared)
 

@@ -20,52 +20,59 @@ ghost use Rattle.attributes.specs.StateMarks.{MarksHeld, StateMarksIn};
 use items::words::word;
 
 // What is reached by items of a rule, with the dot after `dot` symbols and the lookaheads `own`.
-pub fn reach_with(nulls: &[u32], reaches: &[u32], rule: usize, dot: usize, own: u32) -> u32
-    requires { ⌜ (9 * rule + dot < length (now nulls)) × (9 * rule + dot < length (now reaches)) ⌝ }
-    ensures { λ r. ⌜ ((G : List Rule) (F : Sets) (R firsts : List ℕ) → SuffixesIn G F (now (nulls .entry)) firsts → ReachesIn G F R (now (reaches .entry))
+pub fn reach_with(nullables: &[u32], reaches: &[u32], rule: usize, dot: usize, own: u32) -> u32
+    requires { ⌜ (9 * rule + dot < length (now nullables)) × (9 * rule + dot < length (now reaches)) ⌝ }
+    ensures { λ r. ⌜ ((G : List Rule) (F : Sets) (R begins : List ℕ) → SuffixesIn G F (now (nullables .entry)) begins → ReachesIn G F R (now (reaches .entry))
         → rule < length G → dot ≤ length (rightOf G rule) → r ≡ reachWith F R (after G rule dot) own) ⌝ }
 {
     let place = 9 * rule + dot;
     let reach = reaches[place];
-    if nulls[place] == 0 {
+    if nullables[place] == 0 {
         return reach;
     }
     sets::union(reach, own)
 }
 
 // An item of a rule, with the dot after `dot` symbols and the lookaheads `own`: what it reaches joins its set.
-fn mark_item(nulls: &[u32], reaches: &[u32], rule: usize, dot: usize, own: u32, masks: &mut [u32])
-    requires { ⌜ (9 * rule + dot < length (now nulls)) × (9 * rule + dot < length (now reaches)) × (9 * rule + dot < length (now masks)) ⌝ }
-    ensures { λ _. ⌜ ((G : List Rule) (F : Sets) (R firsts : List ℕ) → SuffixesIn G F (now (nulls .entry)) firsts → ReachesIn G F R (now (reaches .entry))
+fn mark_item(
+    nullables: &[u32],
+    reaches: &[u32],
+    rule: usize,
+    dot: usize,
+    own: u32,
+    masks: &mut [u32],
+)
+    requires { ⌜ (9 * rule + dot < length (now nullables)) × (9 * rule + dot < length (now reaches)) × (9 * rule + dot < length (now masks)) ⌝ }
+    ensures { λ _. ⌜ ((G : List Rule) (F : Sets) (R begins : List ℕ) → SuffixesIn G F (now (nullables .entry)) begins → ReachesIn G F R (now (reaches .entry))
         → rule < length G → dot ≤ length (rightOf G rule)
         → now (masks .exit) ≡ set (now (masks .entry)) (9 * rule + dot)
         (union (getD (now (masks .entry)) (9 * rule + dot) 0) (reachWith F R (after G rule dot) own))) ⌝ }
 {
     let place = 9 * rule + dot;
-    let reach = reach_with(nulls, reaches, rule, dot, own);
+    let reach = reach_with(nullables, reaches, rule, dot, own);
     masks[place] = sets::union(masks[place], reach);
 }
 
-// The set of a rule's item with the dot in front: nothing where the closure, from word `first` of `looks` on, has no lookaheads of its left side.
+// The set of a rule's item with the dot in front: nothing where the closure, from word `first` of `closures` on, has no lookaheads of its left side.
 pub fn front_set(
     rules: &[u32],
-    looks: &[u32],
+    closures: &[u32],
     first: usize,
-    nulls: &[u32],
+    nullables: &[u32],
     reaches: &[u32],
     rule: usize,
 ) -> u32
-    requires { ⌜ ((G : List Rule) × (L : List ℕ) × LooksIn G (now rules) L (now looks) first × (rule < length G)) × (first + 32 ≤ length (now looks))
-        × (9 * rule < length (now nulls)) × (9 * rule < length (now reaches)) ⌝ }
-    ensures { λ r. ⌜ ((G : List Rule) (F : Sets) (R firsts L : List ℕ) → LooksIn G (now (rules .entry)) L (now (looks .entry)) first
-        → rule < length G → SuffixesIn G F (now (nulls .entry)) firsts → ReachesIn G F R (now (reaches .entry)) → r ≡ frontWord G F R L rule 0) ⌝ }
+    requires { ⌜ ((G : List Rule) × (L : List ℕ) × LooksIn G (now rules) L (now closures) first × (rule < length G)) × (first + 32 ≤ length (now closures))
+        × (9 * rule < length (now nullables)) × (9 * rule < length (now reaches)) ⌝ }
+    ensures { λ r. ⌜ ((G : List Rule) (F : Sets) (R begins L : List ℕ) → LooksIn G (now (rules .entry)) L (now (closures .entry)) first
+        → rule < length G → SuffixesIn G F (now (nullables .entry)) begins → ReachesIn G F R (now (reaches .entry)) → r ≡ frontWord G F R L rule 0) ⌝ }
 {
     let left = word(rules, 10 * rule);
-    let own = looks[first + left];
+    let own = closures[first + left];
     if own == 0 {
         return 0;
     }
-    reach_with(nulls, reaches, rule, 0, own)
+    reach_with(nullables, reaches, rule, 0, own)
 }
 
 // The item of the definition in a line: its set, if the dot is in front, and nothing, if it is not.
@@ -73,18 +80,18 @@ fn mark_front(
     definitions: &[u32],
     line: usize,
     rules: &[u32],
-    looks: &[u32],
+    closures: &[u32],
     first: usize,
-    nulls: &[u32],
+    nullables: &[u32],
     reaches: &[u32],
     masks: &mut [u32],
 )
     requires { ⌜ ((b : Book) × (owned : List ℕ) × (cleared : List ℕ) × (L : List ℕ) × CheckHeld b (now definitions) (now rules) owned cleared
-        × LooksIn (b .rules) (now rules) L (now looks) first × (line < grammar.definitions b)
-        × MarksRoom (b .rules) (now nulls) (now reaches) (now masks)) × (first + 32 ≤ length (now looks)) ⌝ }
-    ensures { λ _. ⌜ ((b : Book) (F : Sets) (R firsts owned cleared L : List ℕ) → CheckHeld b (now (definitions .entry)) (now (rules .entry)) owned cleared
-        → LooksIn (b .rules) (now (rules .entry)) L (now (looks .entry)) first → line < grammar.definitions b
-        → SuffixesIn (b .rules) F (now (nulls .entry)) firsts → ReachesIn (b .rules) F R (now (reaches .entry))
+        × LooksIn (b .rules) (now rules) L (now closures) first × (line < grammar.definitions b)
+        × MarksRoom (b .rules) (now nullables) (now reaches) (now masks)) × (first + 32 ≤ length (now closures)) ⌝ }
+    ensures { λ _. ⌜ ((b : Book) (F : Sets) (R begins owned cleared L : List ℕ) → CheckHeld b (now (definitions .entry)) (now (rules .entry)) owned cleared
+        → LooksIn (b .rules) (now (rules .entry)) L (now (closures .entry)) first → line < grammar.definitions b
+        → SuffixesIn (b .rules) F (now (nullables .entry)) begins → ReachesIn (b .rules) F R (now (reaches .entry))
         → FrontsMarked b F R L line (now (masks .entry)) → FrontsMarked b F R L (line + 1) (now (masks .exit))) ⌝ }
 {
     let rule = word(definitions, 49 * line);
@@ -93,7 +100,7 @@ fn mark_front(
         masks[9 * rule + position - 1] = 0;
         return;
     }
-    masks[9 * rule] = front_set(rules, looks, first, nulls, reaches, rule);
+    masks[9 * rule] = front_set(rules, closures, first, nullables, reaches, rule);
 }
 
 // The items of all definitions, whatever the sets hold.
@@ -101,38 +108,47 @@ fn mark_fronts(
     definitions: &[u32],
     lines: usize,
     rules: &[u32],
-    looks: &[u32],
+    closures: &[u32],
     first: usize,
-    nulls: &[u32],
+    nullables: &[u32],
     reaches: &[u32],
     masks: &mut [u32],
 )
     requires { ⌜ ((b : Book) × (owned : List ℕ) × (cleared : List ℕ) × (L : List ℕ) × CheckHeld b (now definitions) (now rules) owned cleared
-        × LooksIn (b .rules) (now rules) L (now looks) first × (lines ≡ grammar.definitions b)
-        × MarksRoom (b .rules) (now nulls) (now reaches) (now masks)) × (first + 32 ≤ length (now looks)) ⌝ }
-    ensures { λ _. ⌜ ((b : Book) (F : Sets) (R firsts owned cleared L : List ℕ) → CheckHeld b (now (definitions .entry)) (now (rules .entry)) owned cleared
-        → LooksIn (b .rules) (now (rules .entry)) L (now (looks .entry)) first → lines ≡ grammar.definitions b
-        → SuffixesIn (b .rules) F (now (nulls .entry)) firsts → ReachesIn (b .rules) F R (now (reaches .entry))
+        × LooksIn (b .rules) (now rules) L (now closures) first × (lines ≡ grammar.definitions b)
+        × MarksRoom (b .rules) (now nullables) (now reaches) (now masks)) × (first + 32 ≤ length (now closures)) ⌝ }
+    ensures { λ _. ⌜ ((b : Book) (F : Sets) (R begins owned cleared L : List ℕ) → CheckHeld b (now (definitions .entry)) (now (rules .entry)) owned cleared
+        → LooksIn (b .rules) (now (rules .entry)) L (now (closures .entry)) first → lines ≡ grammar.definitions b
+        → SuffixesIn (b .rules) F (now (nullables .entry)) begins → ReachesIn (b .rules) F R (now (reaches .entry))
         → 9 * length (b .rules) ≤ length (now (masks .entry)) → FrontsMarked b F R L lines (now (masks .exit))) ⌝ }
 {
     let mut i = 0;
     while i < lines {
-        mark_front(definitions, i, rules, looks, first, nulls, reaches, masks);
+        mark_front(
+            definitions,
+            i,
+            rules,
+            closures,
+            first,
+            nullables,
+            reaches,
+            masks,
+        );
         i += 1;
     }
 }
 
 // The item of kernel line i.
-fn mark_line(kernels: &[u32], i: usize, nulls: &[u32], reaches: &[u32], masks: &mut [u32])
+fn mark_line(kernels: &[u32], i: usize, nullables: &[u32], reaches: &[u32], masks: &mut [u32])
     requires { ⌜ ((b : Book) × ItemLinesIn b (now kernels) × (i < length (b .kernels))
-        × MarksRoom (b .rules) (now nulls) (now reaches) (now masks)) ⌝ }
-    ensures { λ _. ⌜ ((b : Book) (F : Sets) (R firsts : List ℕ) (items : List Core) → ItemLinesIn b (now (kernels .entry)) → i < length (b .kernels)
-        → SuffixesIn (b .rules) F (now (nulls .entry)) firsts → ReachesIn (b .rules) F R (now (reaches .entry)) → MarksIn b F R items (now (masks .entry))
+        × MarksRoom (b .rules) (now nullables) (now reaches) (now masks)) ⌝ }
+    ensures { λ _. ⌜ ((b : Book) (F : Sets) (R begins : List ℕ) (items : List Core) → ItemLinesIn b (now (kernels .entry)) → i < length (b .kernels)
+        → SuffixesIn (b .rules) F (now (nullables .entry)) begins → ReachesIn (b .rules) F R (now (reaches .entry)) → MarksIn b F R items (now (masks .entry))
         → MarksIn b F R (itemOf (b .kernels) i ∷ items) (now (masks .exit))) ⌝ }
 {
     let rule = word(kernels, 5 * i + 1);
     let dot = word(kernels, 5 * i + 2);
-    mark_item(nulls, reaches, rule, dot, kernels[5 * i + 4], masks);
+    mark_item(nullables, reaches, rule, dot, kernels[5 * i + 4], masks);
 }
 
 // The items of the kernel lines from `first` up to `last`, the last line first.
@@ -140,20 +156,20 @@ fn mark_lines(
     kernels: &[u32],
     first: usize,
     last: usize,
-    nulls: &[u32],
+    nullables: &[u32],
     reaches: &[u32],
     masks: &mut [u32],
 )
     requires { ⌜ ((b : Book) × ItemLinesIn b (now kernels) × (last ≤ length (b .kernels))
-        × MarksRoom (b .rules) (now nulls) (now reaches) (now masks)) × (first ≤ last) ⌝ }
-    ensures { λ _. ⌜ ((b : Book) (F : Sets) (R firsts : List ℕ) (items : List Core) → ItemLinesIn b (now (kernels .entry)) → last ≤ length (b .kernels)
-        → SuffixesIn (b .rules) F (now (nulls .entry)) firsts → ReachesIn (b .rules) F R (now (reaches .entry)) → MarksIn b F R items (now (masks .entry))
+        × MarksRoom (b .rules) (now nullables) (now reaches) (now masks)) × (first ≤ last) ⌝ }
+    ensures { λ _. ⌜ ((b : Book) (F : Sets) (R begins : List ℕ) (items : List Core) → ItemLinesIn b (now (kernels .entry)) → last ≤ length (b .kernels)
+        → SuffixesIn (b .rules) F (now (nullables .entry)) begins → ReachesIn (b .rules) F R (now (reaches .entry)) → MarksIn b F R items (now (masks .entry))
         → MarksIn b F R (ofKernels (slice first last (b .kernels)) ++ items) (now (masks .exit))) ⌝ }
 {
     let mut i = last;
     while i > first {
         i -= 1;
-        mark_line(kernels, i, nulls, reaches, masks);
+        mark_line(kernels, i, nullables, reaches, masks);
     }
 }
 
@@ -176,19 +192,19 @@ pub fn masks(
     lines: usize,
     rules: &[u32],
     kernels: &[u32],
-    starts: &[u32],
+    bounds: &[u32],
     closures: &[u32],
-    nulls: &[u32],
+    nullables: &[u32],
     reaches: &[u32],
     state: usize,
     masks: &mut [u32],
 )
-    requires { ⌜ ((b : Book) × (firsts : List ℕ) × (owned : List ℕ)
-        × MarksHeld b (now rules) (now kernels) (now starts) (now closures) (now nulls) firsts (now reaches)
+    requires { ⌜ ((b : Book) × (begins : List ℕ) × (owned : List ℕ)
+        × MarksHeld b (now rules) (now kernels) (now bounds) (now closures) (now nullables) begins (now reaches)
         × CheckHeld b (now definitions) (now rules) owned (now masks) × (lines ≡ grammar.definitions b)
         × (state < b .states)) ⌝ }
-    ensures { λ _. ⌜ ((b : Book) (firsts owned : List ℕ) → MarksHeld b (now (rules .entry)) (now (kernels .entry)) (now (starts .entry))
-        (now (closures .entry)) (now (nulls .entry)) firsts (now (reaches .entry))
+    ensures { λ _. ⌜ ((b : Book) (begins owned : List ℕ) → MarksHeld b (now (rules .entry)) (now (kernels .entry)) (now (bounds .entry))
+        (now (closures .entry)) (now (nullables .entry)) begins (now (reaches .entry))
         → CheckHeld b (now (definitions .entry)) (now (rules .entry)) owned (now (masks .entry)) → lines ≡ grammar.definitions b
         → state < b .states → StateMarksIn b state (now (masks .exit))) ⌝ }
 {
@@ -198,11 +214,11 @@ pub fn masks(
         rules,
         closures,
         32 * state,
-        nulls,
+        nullables,
         reaches,
         masks,
     );
-    let first = word(starts, state);
-    let last = word(starts, state + 1);
-    mark_lines(kernels, first, last, nulls, reaches, masks);
+    let first = word(bounds, state);
+    let last = word(bounds, state + 1);
+    mark_lines(kernels, first, last, nullables, reaches, masks);
 }

@@ -211,45 +211,45 @@ module _ {rules closures fronts : List ℕ} {T S : ℕ} {old now : List ℕ} {re
 -- ---- the kernel lines of a state, from the last on
 
 -- the lines from i on are done
-pub record KernelsActing (rules kernels starts : List ℕ) (T S first : ℕ) (old now : List ℕ) (i : ℕ) : Type 0 where
-  pub first-is : first ≡ getD starts S 0
+pub record KernelsActing (rules kernels bounds : List ℕ) (T S first : ℕ) (old now : List ℕ) (i : ℕ) : Type 0 where
+  pub first-is : first ≡ getD bounds S 0
   pub low : first ≤ i
-  pub within : i ≤ getD starts (S + 1) 0
+  pub within : i ≤ getD bounds (S + 1) 0
   pub long : length now ≡ length old
-  pub so-far : (b : Book) (items : List Core) → StatesIn b rules kernels starts → S < b .states → T ≡ b .terminals → Row T S (cellFrom (b .rules) items) old
-      → Melded T S (cellFrom (b .rules) (ofKernels (slice i (getD starts (S + 1) 0) (b .kernels)) ++ items)) old now true
+  pub so-far : (b : Book) (items : List Core) → StatesIn b rules kernels bounds → S < b .states → T ≡ b .terminals → Row T S (cellFrom (b .rules) items) old
+      → Melded T S (cellFrom (b .rules) (ofKernels (slice i (getD bounds (S + 1) 0) (b .kernels)) ++ items)) old now true
 
-pub kernels-none : (rules kernels starts : List ℕ) (T S : ℕ) {first last : ℕ} (old : List ℕ) → first ≡ getD starts S 0 → last ≡ getD starts (S + 1) 0
-    → first ≤ last → KernelsActing rules kernels starts T S first old old last
+pub kernels-none : (rules kernels bounds : List ℕ) (T S : ℕ) {first last : ℕ} (old : List ℕ) → first ≡ getD bounds S 0 → last ≡ getD bounds (S + 1) 0
+    → first ≤ last → KernelsActing rules kernels bounds T S first old old last
 unfolding ofKernels
-kernels-none rules kernels starts T S old first-is last-is l = record {
+kernels-none rules kernels bounds T S old first-is last-is l = record {
   first-is = first-is;
   low = l;
   within = omega arith;
   long = refl;
-  so-far = λ b items h s t row. rw (last-is, slice-empty (getD starts (S + 1) 0) (b .kernels)) (melded-none row);
+  so-far = λ b items h s t row. rw (last-is, slice-empty (getD bounds (S + 1) 0) (b .kernels)) (melded-none row);
 }
 
-module _ {rules kernels starts : List ℕ} {T S first : ℕ} {old now : List ℕ} {i : ℕ} (k : KernelsActing rules kernels starts T S first old now i) where
-  pub kernels-all : i ≤ first → (b : Book) (items : List Core) → StatesIn b rules kernels starts → S < b .states → T ≡ b .terminals
+module _ {rules kernels bounds : List ℕ} {T S first : ℕ} {old now : List ℕ} {i : ℕ} (k : KernelsActing rules kernels bounds T S first old now i) where
+  pub kernels-all : i ≤ first → (b : Book) (items : List Core) → StatesIn b rules kernels bounds → S < b .states → T ≡ b .terminals
       → Row T S (cellFrom (b .rules) items) old → Melded T S (cellFrom (b .rules) (ofKernels (kernelsIn (b .kernels) S) ++ items)) old now true
   kernels-all l b items h s t row =
-      let e : i ≡ getD starts S 0 = omega (arith, k .low, k .first-is) in
+      let e : i ≡ getD bounds S 0 = omega (arith, k .low, k .first-is) in
       rw (state-range h S s .lines-are) (rw e at (k .so-far b items h s t row))
 
   module _ (l : first < i) where
     -- the line before i
-    pub line-there : (b : Book) → StatesIn b rules kernels starts → S < b .states → i - 1 < length (b .kernels)
+    pub line-there : (b : Book) → StatesIn b rules kernels bounds → S < b .states → i - 1 < length (b .kernels)
     line-there b h s = omega (arith, state-range h S s .within, k .within)
 
     module _ {rule dot : ℕ} (rule-is : rule ≡ getD kernels (5 * (i - 1) + 1) 0) (dot-is : dot ≡ getD kernels (5 * (i - 1) + 2) 0) {new : List ℕ} {r : Bool}
         (f : (b : Book) (cells : ℕ → Cell) → GrammarIn b rules → Stands b S rule dot → T ≡ b .terminals → Row T S cells now
         → Melded T S (itemCells rule (getD kernels (5 * (i - 1) + 4) 0) (after (b .rules) rule dot) cells) now new r) where
-      next-line : (b : Book) (items : List Core) → StatesIn b rules kernels starts → S < b .states → T ≡ b .terminals → Row T S (cellFrom (b .rules) items) old
-          → Melded T S (cellFrom (b .rules) (ofKernels (slice (i - 1) (getD starts (S + 1) 0) (b .kernels)) ++ items)) old new r
+      next-line : (b : Book) (items : List Core) → StatesIn b rules kernels bounds → S < b .states → T ≡ b .terminals → Row T S (cellFrom (b .rules) items) old
+          → Melded T S (cellFrom (b .rules) (ofKernels (slice (i - 1) (getD bounds (S + 1) 0) (b .kernels)) ++ items)) old new r
       unfolding ofKernels cellFrom
       next-line b items h s t row =
-          let last : ℕ = getD starts (S + 1) 0 in
+          let last : ℕ = getD bounds (S + 1) 0 in
           let inside : i - 1 < length (b .kernels) = line-there b h s in
           let up : i - 1 + 1 ≡ i = omega arith in
           let below : i - 1 < last = omega (arith, k .within) in
@@ -263,7 +263,7 @@ module _ {rules kernels starts : List ℕ} {T S first : ℕ} {old now : List ℕ
           (melded-then m
           (rw (rule-is, dot-is, lines .rule-is (i - 1) inside, lines .dot-is (i - 1) inside, lines .set-is (i - 1) inside) at n))
 
-      pub kernels-more : r ≡ true → length new ≡ length now → KernelsActing rules kernels starts T S first old new (i - 1)
+      pub kernels-more : r ≡ true → length new ≡ length now → KernelsActing rules kernels bounds T S first old new (i - 1)
       kernels-more q e = record {
         first-is = k .first-is;
         low = omega arith;
@@ -272,12 +272,12 @@ module _ {rules kernels starts : List ℕ} {T S first : ℕ} {old now : List ℕ
         so-far = λ b items h s t row. rw q at (next-line b items h s t row);
       }
 
-      pub kernels-fail : r ≡ false → (b : Book) (items : List Core) → StatesIn b rules kernels starts → S < b .states → T ≡ b .terminals
+      pub kernels-fail : r ≡ false → (b : Book) (items : List Core) → StatesIn b rules kernels bounds → S < b .states → T ≡ b .terminals
           → Row T S (cellFrom (b .rules) items) old → Melded T S (cellFrom (b .rules) (ofKernels (kernelsIn (b .kernels) S) ++ items)) old new false
       kernels-fail q b items h s t row =
-          let range : Range b S (getD starts S 0) (getD starts (S + 1) 0) = state-range h S s in
+          let range : Range b S (getD bounds S 0) (getD bounds (S + 1) 0) = state-range h S s in
           rw (range .lines-are)
-          (melded-clash (clash-kernels (b .rules) (b .kernels) items (getD starts S 0) (getD starts (S + 1) 0) (i - 1) (omega (arith, k .first-is))
+          (melded-clash (clash-kernels (b .rules) (b .kernels) items (getD bounds S 0) (getD bounds (S + 1) 0) (i - 1) (omega (arith, k .first-is))
           (omega (arith, k .within)) (range .within) (next-line b items h s t row .clash q)))
 
 -- ---- all items of a state

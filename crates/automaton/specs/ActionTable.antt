@@ -102,15 +102,15 @@ abbrev pub Bare : ℕ → ℕ → List ℕ → Type 0
 Bare n states actions = (S a : ℕ) → n ≤ S → S < states → a < 32 → getD actions (32 * S + a) 0 ≡ 0
 
 -- the states below `state` are done
-pub record StatesActing (rules kernels starts closures fronts : List ℕ) (T states : ℕ) (now : List ℕ) (state : ℕ) : Type 0 where
+pub record StatesActing (rules kernels bounds closures fronts : List ℕ) (T states : ℕ) (now : List ℕ) (state : ℕ) : Type 0 where
   pub within : state ≤ states
   pub long : 32 * states ≤ length now
-  pub so-far : (b : Book) (F : Sets) → ItemsIn b F rules kernels starts closures → T ≡ b .terminals → states ≡ b .states → FrontsIn b rules closures fronts
+  pub so-far : (b : Book) (F : Sets) → ItemsIn b F rules kernels bounds closures → T ≡ b .terminals → states ≡ b .states → FrontsIn b rules closures fronts
       → Rows b F T state now × Bare state states now
 
-pub states-none : (rules kernels starts closures fronts : List ℕ) (T states : ℕ) (old : List ℕ) → 32 * states ≤ length old
-    → StatesActing rules kernels starts closures fronts T states (replicate (32 * states) 0 ++ drop (32 * states) old) 0
-states-none rules kernels starts closures fronts T states old f = record {
+pub states-none : (rules kernels bounds closures fronts : List ℕ) (T states : ℕ) (old : List ℕ) → 32 * states ≤ length old
+    → StatesActing rules kernels bounds closures fronts T states (replicate (32 * states) 0 ++ drop (32 * states) old) 0
+states-none rules kernels bounds closures fronts T states old f = record {
   within = omega arith;
   long = simp (length-append, length-replicate, length-drop) (omega arith);
   so-far = λ b F h t s c. (λ S n. absurd (omega arith), bare);
@@ -130,31 +130,31 @@ bare-row b {n = n} few s bare = record {
   clear = λ a l. nothing;
 }
 
-module _ {rules kernels starts closures fronts : List ℕ} {T states : ℕ} {now : List ℕ} {state : ℕ}
-    (k : StatesActing rules kernels starts closures fronts T states now state) where
-  pub states-all : states ≤ state → (b : Book) (F : Sets) → ItemsIn b F rules kernels starts closures → T ≡ b .terminals → states ≡ b .states
+module _ {rules kernels bounds closures fronts : List ℕ} {T states : ℕ} {now : List ℕ} {state : ℕ}
+    (k : StatesActing rules kernels bounds closures fronts T states now state) where
+  pub states-all : states ≤ state → (b : Book) (F : Sets) → ItemsIn b F rules kernels bounds closures → T ≡ b .terminals → states ≡ b .states
       → FrontsIn b rules closures fronts → Acted b F now true
   states-all l b F h t s c =
       let e : state ≡ b .states = omega (arith, k .within) in
       acted-all b F t (omega (arith, k .long)) (rw e at (k .so-far b F h t s c .0))
 
   module _ (l : state < states) {new : List ℕ} {r : Bool}
-      (f : (b : Book) (F : Sets) → ItemsIn b F rules kernels starts closures → state < b .states → T ≡ b .terminals → FrontsIn b rules closures fronts
+      (f : (b : Book) (F : Sets) → ItemsIn b F rules kernels bounds closures → state < b .states → T ≡ b .terminals → FrontsIn b rules closures fronts
       → Row T state (cellFrom (b .rules) []) now → Melded T state (cellFrom (b .rules) (coreItems b F state)) now new r) where
-    next-state : (b : Book) (F : Sets) → ItemsIn b F rules kernels starts closures → T ≡ b .terminals → states ≡ b .states → FrontsIn b rules closures fronts
+    next-state : (b : Book) (F : Sets) → ItemsIn b F rules kernels bounds closures → T ≡ b .terminals → states ≡ b .states → FrontsIn b rules closures fronts
         → Melded T state (cellFrom (b .rules) (coreItems b F state)) now new r
     next-state b F h t s c =
         f b F h (omega arith) t c
         (bare-row b (omega (arith, h .states-in .grammar-in .limits .terminals-limit .high)) l (k .so-far b F h t s c .1))
 
-    pub states-fail : r ≡ false → (b : Book) (F : Sets) → ItemsIn b F rules kernels starts closures → T ≡ b .terminals → states ≡ b .states
+    pub states-fail : r ≡ false → (b : Book) (F : Sets) → ItemsIn b F rules kernels bounds closures → T ≡ b .terminals → states ≡ b .states
         → FrontsIn b rules closures fronts → Acted b F new false
     states-fail q b F h t s c = acted-clash b F t (omega arith) (next-state b F h t s c .clash q)
 
-    pub states-more : r ≡ true → length new ≡ length now → StatesActing rules kernels starts closures fronts T states new (state + 1)
+    pub states-more : r ≡ true → length new ≡ length now → StatesActing rules kernels bounds closures fronts T states new (state + 1)
     states-more q e = record { within = omega arith; long = omega (arith, k .long); so-far = more }
       where
-        more : (b : Book) (F : Sets) → ItemsIn b F rules kernels starts closures → T ≡ b .terminals → states ≡ b .states → FrontsIn b rules closures fronts
+        more : (b : Book) (F : Sets) → ItemsIn b F rules kernels bounds closures → T ≡ b .terminals → states ≡ b .states → FrontsIn b rules closures fronts
             → Rows b F T (state + 1) new × Bare (state + 1) states new
         more b F h t s c =
             let m : Melded T state (cellFrom (b .rules) (coreItems b F state)) now new r = next-state b F h t s c in

@@ -43,7 +43,7 @@ pub record Leads (b : Book) (S P D M T : ℕ) : Type 0 where
   pub target-is : T < b .states
   pub stands : advances b S P D M (after (b .rules) P D) ≡ holdsItem P (suc D) M (kernelsIn (b .kernels) T)
 
-module _ {b : Book} {rules kernels starts table : List ℕ} (h : MovesIn b rules kernels starts table) {S P D : ℕ} (s : Stands b S P D) where
+module _ {b : Book} {rules kernels bounds table : List ℕ} (h : MovesIn b rules kernels bounds table) {S P D : ℕ} (s : Stands b S P D) where
   pub advances-complete : (M : ℕ) → getD rules (10 * P + 1) 0 ≤ D → true ≡ advances b S P D M (after (b .rules) P D)
   unfolding advances
   advances-complete M l = sym (rw (after-none (h .states-in .grammar-in) P D (s .rule-there) l))
@@ -105,7 +105,7 @@ module _ {b : Book} {rules kernels starts table : List ℕ} (h : MovesIn b rules
     led : (M : ℕ) → Leads b S P D M (getD table (64 * S + symbol) 0)
     led M = rw symbol-is (advances-leads M more (rw symbol-is at somewhere))
 
-    pub target-range : let T : ℕ = getD table (64 * S + symbol) 0 in Range b T (getD starts T 0) (getD starts (T + 1) 0)
+    pub target-range : let T : ℕ = getD table (64 * S + symbol) 0 in Range b T (getD bounds T 0) (getD bounds (T + 1) 0)
     target-range = state-range (h .states-in) (getD table (64 * S + symbol) 0) (led 0 .target-is)
 
     pub target-within : getD table (64 * S + symbol) 0 < b .states
@@ -114,8 +114,8 @@ module _ {b : Book} {rules kernels starts table : List ℕ} (h : MovesIn b rules
     pub target-low : getD table (64 * S + symbol) 0 < MAX-STATES
     target-low = omega (arith, target-within, h .states-in .grammar-in .limits .states-limit .high)
 
-    pub advances-found : (M : ℕ) {r : Bool} {first last : ℕ} → first ≡ getD starts (getD table (64 * S + symbol) 0) 0
-        → last ≡ getD starts (getD table (64 * S + symbol) 0 + 1) 0
+    pub advances-found : (M : ℕ) {r : Bool} {first last : ℕ} → first ≡ getD bounds (getD table (64 * S + symbol) 0) 0
+        → last ≡ getD bounds (getD table (64 * S + symbol) 0 + 1) 0
         → ((ks : List Kernel) → KernelsIn ks kernels → last ≤ length ks → r ≡ holdsItem P (D + 1) M (slice first last ks))
         → r ≡ advances b S P D M (after (b .rules) P D)
     advances-found M {r} {first} {last} e f found =
@@ -130,7 +130,7 @@ unfoldable pub kernelAdvances : Book → ℕ → Kernel → Bool
 kernelAdvances b S k = advances b S (k .rule) (k .dot) (setOf (k .lookaheads)) (after (b .rules) (k .rule) (k .dot))
 
 -- by the words that were read
-module _ {b : Book} {rules kernels starts : List ℕ} (h : StatesIn b rules kernels starts) {S : ℕ} (s : S < b .states) {i : ℕ} (l : i < length (b .kernels))
+module _ {b : Book} {rules kernels bounds : List ℕ} (h : StatesIn b rules kernels bounds) {S : ℕ} (s : S < b .states) {i : ℕ} (l : i < length (b .kernels))
     {rule dot : ℕ} (rule-is : rule ≡ getD kernels (5 * i + 1) 0) (dot-is : dot ≡ getD kernels (5 * i + 2) 0) where
   pub kernel-stands : Stands b S rule dot
   kernel-stands =
@@ -145,24 +145,24 @@ module _ {b : Book} {rules kernels starts : List ℕ} (h : StatesIn b rules kern
       e ∙ rw (rule-is, dot-is, h .kernels-in .rule-is i l, h .kernels-in .dot-is i l, h .kernels-in .set-is i l)
 
 -- the lines before i advance
-pub record KernelsAdvance (rules kernels starts table : List ℕ) (S last i : ℕ) : Type 0 where
-  pub last-is : last ≡ getD starts (S + 1) 0
+pub record KernelsAdvance (rules kernels bounds table : List ℕ) (S last i : ℕ) : Type 0 where
+  pub last-is : last ≡ getD bounds (S + 1) 0
   pub within : i ≤ last
-  pub same : (b : Book) → MovesIn b rules kernels starts table → S < b .states
+  pub same : (b : Book) → MovesIn b rules kernels bounds table → S < b .states
       → allAdvance b S (ofKernels (slice i last (b .kernels))) ≡ allAdvance b S (ofKernels (kernelsIn (b .kernels) S))
 
-pub kernels-none : (rules kernels starts table : List ℕ) (S : ℕ) {first last : ℕ} → first ≡ getD starts S 0 → last ≡ getD starts (S + 1) 0 → first ≤ last
-    → KernelsAdvance rules kernels starts table S last first
-kernels-none rules kernels starts table S e f l = record {
+pub kernels-none : (rules kernels bounds table : List ℕ) (S : ℕ) {first last : ℕ} → first ≡ getD bounds S 0 → last ≡ getD bounds (S + 1) 0 → first ≤ last
+    → KernelsAdvance rules kernels bounds table S last first
+kernels-none rules kernels bounds table S e f l = record {
   last-is = f;
   within = l;
   same = λ b h s. rw (e, f) (ap (λ (ks : List Kernel). allAdvance b S (ofKernels ks)) (sym (state-range (h .states-in) S s .lines-are)));
 }
 
-module _ {rules kernels starts table : List ℕ} {S last i : ℕ} (k : KernelsAdvance rules kernels starts table S last i) where
+module _ {rules kernels bounds table : List ℕ} {S last i : ℕ} (k : KernelsAdvance rules kernels bounds table S last i) where
   -- in every book that the arrays hold
   abbrev pub Everywhere : (Book → Type 0) → Type 0
-  Everywhere Q = (b : Book) → MovesIn b rules kernels starts table → S < b .states → Q b
+  Everywhere Q = (b : Book) → MovesIn b rules kernels bounds table → S < b .states → Q b
 
   last-within : Everywhere (λ b. last ≤ length (b .kernels))
   last-within b h s = rw (k .last-is) (state-range (h .states-in) S s .within)
@@ -183,15 +183,15 @@ module _ {rules kernels starts table : List ℕ} {S last i : ℕ} (k : KernelsAd
         ap (λ (ks : List Kernel). allAdvance b S (ofKernels ks)) (lines-next (b .kernels) l f)
         ∙ ap (λ (x : Bool). elim x [ true ↦ allAdvance b S (ofKernels (slice (i + 1) last (b .kernels))) | false ↦ false ]) e
 
-    pub kernels-more : ((b : Book) → MovesIn b rules kernels starts table → S < b .states → i < length (b .kernels)
-        → true ≡ kernelAdvances b S (kernelAt (b .kernels) i)) → KernelsAdvance rules kernels starts table S last (i + 1)
+    pub kernels-more : ((b : Book) → MovesIn b rules kernels bounds table → S < b .states → i < length (b .kernels)
+        → true ≡ kernelAdvances b S (kernelAt (b .kernels) i)) → KernelsAdvance rules kernels bounds table S last (i + 1)
     kernels-more e = record {
       last-is = k .last-is;
       within = omega arith;
       same = λ b h s. sym (next-line b (last-within b h s) true (sym (e b h s (omega (arith, last-within b h s))))) ∙ k .same b h s;
     }
 
-    pub kernels-fail : ((b : Book) → MovesIn b rules kernels starts table → S < b .states → i < length (b .kernels)
+    pub kernels-fail : ((b : Book) → MovesIn b rules kernels bounds table → S < b .states → i < length (b .kernels)
         → false ≡ kernelAdvances b S (kernelAt (b .kernels) i)) → Everywhere (λ b. false ≡ allAdvance b S (ofKernels (kernelsIn (b .kernels) S)))
     kernels-fail e b h s = sym (next-line b (last-within b h s) false (sym (e b h s (omega (arith, last-within b h s))))) ∙ k .same b h s
 
@@ -218,7 +218,7 @@ entered-item b S P (suc M) items t e =
     ap (λ (x : Bool). elim x [ true ↦ allAdvance b S items | false ↦ false ]) (sym (one-item b S P (suc M)) ∙ e)
 
 -- by the words that were read
-module _ {b : Book} {F : Sets} {rules kernels starts closures : List ℕ} (h : ItemsIn b F rules kernels starts closures) {S P : ℕ} (s : Stands b S P 0)
+module _ {b : Book} {F : Sets} {rules kernels bounds closures : List ℕ} (h : ItemsIn b F rules kernels bounds closures) {S P : ℕ} (s : Stands b S P 0)
     {left : ℕ} (left-is : left ≡ getD rules (10 * P) 0) where
   word-set : getD closures (32 * S + left) 0 ≡ setAt (closureSets b F S) (leftOf (b .rules) P)
   word-set = set-word (h .states-in .grammar-in) (h .closures-in) (s .state-there) (s .rule-there) left-is
@@ -254,18 +254,18 @@ rules-false b S looks (suc n) p l e =
         unfold ofRules in entered-item b S n M (ofRules (b .rules) looks n) t refl ∙ stays t q
 
 -- the rules below `rule` advance, and the others that the closure has are among the bits of `rest`
-pub record RulesAdvance (rules kernels starts closures table fronts : List ℕ) (S rest rule : ℕ) : Type 0 where
+pub record RulesAdvance (rules kernels bounds closures table fronts : List ℕ) (S rest rule : ℕ) : Type 0 where
   pub walk : (b : Book) → S < b .states → FrontsIn b rules closures fronts → Rest rules closures S (length (b .rules)) rest rule
-  pub so-far : (b : Book) (F : Sets) → AutomatonIn b F rules kernels starts closures table → S < b .states → FrontsIn b rules closures fronts
+  pub so-far : (b : Book) (F : Sets) → AutomatonIn b F rules kernels bounds closures table → S < b .states → FrontsIn b rules closures fronts
       → allAdvance b S (ofRules (b .rules) (closureSets b F S) rule) ≡ true
 
-pub rules-none : (rules kernels starts closures table fronts : List ℕ) (S : ℕ)
-    → RulesAdvance rules kernels starts closures table fronts S (getD fronts S 0) 0
+pub rules-none : (rules kernels bounds closures table fronts : List ℕ) (S : ℕ)
+    → RulesAdvance rules kernels bounds closures table fronts S (getD fronts S 0) 0
 unfolding allAdvance ofRules
-rules-none rules kernels starts closures table fronts S = record { walk = λ b s W. rest-first W s; so-far = λ b F h s W. refl }
+rules-none rules kernels bounds closures table fronts S = record { walk = λ b s W. rest-first W s; so-far = λ b F h s W. refl }
 
-module _ {rules kernels starts closures table fronts : List ℕ} {S rest rule : ℕ} (k : RulesAdvance rules kernels starts closures table fronts S rest rule) where
-  pub rules-all : rest ≡ 0 → (b : Book) (F : Sets) → AutomatonIn b F rules kernels starts closures table → S < b .states
+module _ {rules kernels bounds closures table fronts : List ℕ} {S rest rule : ℕ} (k : RulesAdvance rules kernels bounds closures table fronts S rest rule) where
+  pub rules-all : rest ≡ 0 → (b : Book) (F : Sets) → AutomatonIn b F rules kernels bounds closures table → S < b .states
       → FrontsIn b rules closures fronts → true ≡ allAdvance b S (ofRules (b .rules) (closureSets b F S) (length (b .rules)))
   rules-all z b F h s W =
       let R : Rest rules closures S (length (b .rules)) rest rule = k .walk b s W in
@@ -277,7 +277,7 @@ module _ {rules kernels starts closures table fronts : List ℕ} {S rest rule : 
     pub rule-stands : (b : Book) → S < b .states → FrontsIn b rules closures fronts → Stands b S (rule + gap) 0
     rule-stands b s W = record { state-there = s; rule-there = rest-there (k .walk b s W) least; dot-there = zero-le }
 
-    next-rule : (b : Book) (F : Sets) → AutomatonIn b F rules kernels starts closures table → S < b .states → FrontsIn b rules closures fronts
+    next-rule : (b : Book) (F : Sets) → AutomatonIn b F rules kernels bounds closures table → S < b .states → FrontsIn b rules closures fronts
         → (t : Bool) → ruleAdvances b F S (rule + gap) ≡ t → allAdvance b S (ofRules (b .rules) (closureSets b F S) (rule + gap + 1)) ≡ t
     unfolding ofRules ruleAdvances
     next-rule b F h s W t q =
@@ -290,17 +290,17 @@ module _ {rules kernels starts closures table fronts : List ℕ} {S rest rule : 
         own true e = e
         own false e = refl
 
-    pub rules-more : ((b : Book) (F : Sets) → AutomatonIn b F rules kernels starts closures table → Stands b S (rule + gap) 0
+    pub rules-more : ((b : Book) (F : Sets) → AutomatonIn b F rules kernels bounds closures table → Stands b S (rule + gap) 0
         → true ≡ ruleAdvances b F S (rule + gap)) → {next : ℕ} → ((i : ℕ) → bit next i ≡ bit rest (gap + 1 + i))
-        → RulesAdvance rules kernels starts closures table fronts S next (rule + gap + 1)
+        → RulesAdvance rules kernels bounds closures table fronts S next (rule + gap + 1)
     rules-more e next-is = record {
       walk = λ b s W. rest-more (k .walk b s W) least next-is;
       so-far = λ b F h s W. next-rule b F h s W true (sym (e b F h (rule-stands b s W)));
     }
 
-    pub rules-fail : ((b : Book) (F : Sets) → AutomatonIn b F rules kernels starts closures table → Stands b S (rule + gap) 0
+    pub rules-fail : ((b : Book) (F : Sets) → AutomatonIn b F rules kernels bounds closures table → Stands b S (rule + gap) 0
         → false ≡ ruleAdvances b F S (rule + gap))
-        → (b : Book) (F : Sets) → AutomatonIn b F rules kernels starts closures table → S < b .states → FrontsIn b rules closures fronts
+        → (b : Book) (F : Sets) → AutomatonIn b F rules kernels bounds closures table → S < b .states → FrontsIn b rules closures fronts
         → false ≡ allAdvance b S (ofRules (b .rules) (closureSets b F S) (length (b .rules)))
     rules-fail e b F h s W =
         let there : rule + gap < length (b .rules) = rest-there (k .walk b s W) least in
@@ -337,18 +337,18 @@ module _ (b : Book) (F : Sets) (S : ℕ) where
 -- ---- all states
 
 -- the states from `state` on advance
-pub record StatesAdvance (rules kernels starts closures table fronts : List ℕ) (states state : ℕ) : Type 0 where
+pub record StatesAdvance (rules kernels bounds closures table fronts : List ℕ) (states state : ℕ) : Type 0 where
   pub within : state ≤ states
-  pub same : (b : Book) (F : Sets) → AutomatonIn b F rules kernels starts closures table → states ≡ b .states → FrontsIn b rules closures fronts
+  pub same : (b : Book) (F : Sets) → AutomatonIn b F rules kernels bounds closures table → states ≡ b .states → FrontsIn b rules closures fronts
       → statesAdvance b (coreItems b F) state ≡ statesAdvance b (coreItems b F) states
 
-pub states-none : (rules kernels starts closures table fronts : List ℕ) (states : ℕ)
-    → StatesAdvance rules kernels starts closures table fronts states states
-states-none rules kernels starts closures table fronts states = record { within = omega arith; same = λ b F h s c. refl }
+pub states-none : (rules kernels bounds closures table fronts : List ℕ) (states : ℕ)
+    → StatesAdvance rules kernels bounds closures table fronts states states
+states-none rules kernels bounds closures table fronts states = record { within = omega arith; same = λ b F h s c. refl }
 
-module _ {rules kernels starts closures table fronts : List ℕ} {states state : ℕ}
-    (k : StatesAdvance rules kernels starts closures table fronts states state) where
-  pub states-all : state ≤ 0 → (b : Book) (F : Sets) → AutomatonIn b F rules kernels starts closures table → states ≡ b .states
+module _ {rules kernels bounds closures table fronts : List ℕ} {states state : ℕ}
+    (k : StatesAdvance rules kernels bounds closures table fronts states state) where
+  pub states-all : state ≤ 0 → (b : Book) (F : Sets) → AutomatonIn b F rules kernels bounds closures table → states ≡ b .states
       → FrontsIn b rules closures fronts → true ≡ statesAdvance b (coreItems b F) states
   unfolding statesAdvance
   states-all z b F h s c = let e : state ≡ 0 = omega arith in sym (rw e) ∙ k .same b F h s c
@@ -361,17 +361,17 @@ module _ {rules kernels starts closures table fronts : List ℕ} {states state :
         let e : state ≡ suc (state - 1) = omega arith in
         ap (statesAdvance b (coreItems b F)) e ∙ ap (λ (x : Bool). elim x [ true ↦ statesAdvance b (coreItems b F) (state - 1) | false ↦ false ]) q
 
-    pub states-more : ((b : Book) (F : Sets) → AutomatonIn b F rules kernels starts closures table → state - 1 < b .states
+    pub states-more : ((b : Book) (F : Sets) → AutomatonIn b F rules kernels bounds closures table → state - 1 < b .states
         → FrontsIn b rules closures fronts → true ≡ allAdvance b (state - 1) (coreItems b F (state - 1)))
-        → StatesAdvance rules kernels starts closures table fronts states (state - 1)
+        → StatesAdvance rules kernels bounds closures table fronts states (state - 1)
     states-more e = record {
       within = omega (arith, k .within);
       same = λ b F h s c. sym (next-state b F true (sym (e b F h (omega (arith, k .within)) c))) ∙ k .same b F h s c;
     }
 
-    pub states-fail : ((b : Book) (F : Sets) → AutomatonIn b F rules kernels starts closures table → state - 1 < b .states
+    pub states-fail : ((b : Book) (F : Sets) → AutomatonIn b F rules kernels bounds closures table → state - 1 < b .states
         → FrontsIn b rules closures fronts → false ≡ allAdvance b (state - 1) (coreItems b F (state - 1)))
-        → (b : Book) (F : Sets) → AutomatonIn b F rules kernels starts closures table → states ≡ b .states → FrontsIn b rules closures fronts
+        → (b : Book) (F : Sets) → AutomatonIn b F rules kernels bounds closures table → states ≡ b .states → FrontsIn b rules closures fronts
         → false ≡ statesAdvance b (coreItems b F) states
     states-fail e b F h s c = sym (next-state b F false (sym (e b F h (omega (arith, k .within)) c))) ∙ k .same b F h s c
 

@@ -16,7 +16,7 @@ use Rattle.grammar.specs.Automaton.FirstSets.{setsOf}
 use Rattle.grammar.specs.Automaton.FirstSetsLaws.{sets-right}
 use Rattle.grammar.specs.Data.ListLaws.{at-member}
 use Rattle.book.specs.Held.{RulesIn, KernelsIn, kernelAt}
-use Rattle.items.specs.Arrays.{SuffixesIn, StartsIn}
+use Rattle.items.specs.Arrays.{SuffixesIn, BoundsIn}
 use Rattle.items.specs.Derives.{GrammarIn}
 use Rattle.items.specs.KernelLines.{KernelItemsIn}
 use Rattle.items.specs.Closures.{StateItemsIn}
@@ -47,8 +47,8 @@ module _ {b : Book} (ordered : Ordered b) (limits : WithinLimits b) (declared : 
   small : Small (b .rules)
   small = small-book ordered limits declared .small-rules
 
-  module _ {rules nulls firsts : List ℕ} (R : RulesIn (b .rules) rules) (S : SuffixesIn (b .rules) (setsOf (b .rules)) nulls firsts) where
-    pub grammar-in : GrammarIn b (setsOf (b .rules)) rules nulls firsts
+  module _ {rules nullables begins : List ℕ} (R : RulesIn (b .rules) rules) (S : SuffixesIn (b .rules) (setsOf (b .rules)) nullables begins) where
+    pub grammar-in : GrammarIn b (setsOf (b .rules)) rules nullables begins
     grammar-in = record {
       rules-in = R;
       rests-in = S;
@@ -59,12 +59,12 @@ module _ {b : Book} (ordered : Ordered b) (limits : WithinLimits b) (declared : 
 
     module _ {kernels : List ℕ} (K : KernelsIn (b .kernels) kernels) where
       -- for the closure of a state
-      pub kernel-items-in : KernelItemsIn b (setsOf (b .rules)) rules kernels nulls firsts
+      pub kernel-items-in : KernelItemsIn b (setsOf (b .rules)) rules kernels nullables begins
       kernel-items-in = record { grammar-in = grammar-in; kernels-in = K; rule-there = λ i h. kernel-there declared i h .rule-there }
 
       -- and of all states
-      pub state-items-in : {starts : List ℕ} → StartsIn (b .kernels) (b .states) starts
-          → StateItemsIn b (setsOf (b .rules)) rules (length (b .rules)) kernels starts (b .states) nulls firsts
+      pub state-items-in : {bounds : List ℕ} → BoundsIn (b .kernels) (b .states) bounds
+          → StateItemsIn b (setsOf (b .rules)) rules (length (b .rules)) kernels bounds (b .states) nullables begins
       state-items-in T =
           record { items-in = kernel-items-in; starts-in = T; counted = refl; states-are = refl; few = limits .states-limit .high }
 

@@ -104,7 +104,7 @@ module _ (G : List Rule) (looks : List ℕ) (P : ℕ) where
       lower l = some-entered 0 n (setAt looks (leftOf G n)) (ofRules G looks n) (rw (ne-eqb n P (λ e. omega arith)))
 
 -- by what was found among the kernel lines and in the closure
-module _ {b : Book} {F : Sets} {rules kernels starts closures : List ℕ} (h : ItemsIn b F rules kernels starts closures) {S P D : ℕ} (s : Stands b S P D) where
+module _ {b : Book} {F : Sets} {rules kernels bounds closures : List ℕ} (h : ItemsIn b F rules kernels bounds closures) {S P D : ℕ} (s : Stands b S P D) where
   some-core : (t : Bool) → holdsItem P D 0 (kernelsIn (b .kernels) S) ≡ t
       → someItem P D (coreItems b F S) ≡ (t || someItem P D (ofRules (b .rules) (closureSets b F S) (length (b .rules))))
   unfolding coreItems
@@ -120,12 +120,12 @@ module _ {b : Book} {F : Sets} {rules kernels starts closures : List ℕ} (h : I
       (some-rule (b .rules) (closureSets b F S) P (length (b .rules)) (s .rule-there))
 
   -- a search among the state's kernel lines
-  pub searched : {first last none : ℕ} → first ≡ getD starts S 0 → last ≡ getD starts (S + 1) 0 → none ≡ empty → {r : Bool}
+  pub searched : {first last none : ℕ} → first ≡ getD bounds S 0 → last ≡ getD bounds (S + 1) 0 → none ≡ empty → {r : Bool}
       → ((ks : List Kernel) → KernelsIn ks kernels → last ≤ length ks → r ≡ holdsItem P D none (slice first last ks))
       → r ≡ holdsItem P D 0 (kernelsIn (b .kernels) S)
   unfolding empty
   searched first-is last-is none-is f =
-      let range : Range b S (getD starts S 0) (getD starts (S + 1) 0) = state-range (h .states-in) S (s .state-there) in
+      let range : Range b S (getD bounds S 0) (getD bounds (S + 1) 0) = state-range (h .states-in) S (s .state-there) in
       f (b .kernels) (h .states-in .kernels-in) (rw last-is (range .within)) ∙ rw (none-is, first-is, last-is, range .lines-are)
 
   -- the closure has it
@@ -169,7 +169,7 @@ unfoldable pub lineComes : List Rule → Symbol → List Core → ℕ → ℕ �
 lineComes G X items P D = leb 1 D && comesFrom G X P (D - 1) items
 
 -- by the words that were read
-module _ {b : Book} {F : Sets} {rules kernels starts closures : List ℕ} (h : ItemsIn b F rules kernels starts closures) {S P D : ℕ} (s : Stands b S P D)
+module _ {b : Book} {F : Sets} {rules kernels bounds closures : List ℕ} (h : ItemsIn b F rules kernels bounds closures) {S P D : ℕ} (s : Stands b S P D)
     (X : Symbol) where
   pub comes-front : D ≡ 0 → false ≡ lineComes (b .rules) X (coreItems b F S) P D
   unfolding lineComes
@@ -204,7 +204,7 @@ module _ {b : Book} {F : Sets} {rules kernels starts closures : List ℕ} (h : I
       comes-item e q = q ∙ sym (line-is true (eq-eqb symbol word (sym e)))
 
 -- by the words of a line
-pub line-words : {b : Book} {rules kernels starts : List ℕ} → StatesIn b rules kernels starts → {i : ℕ} → i < length (b .kernels) → {rule dot : ℕ}
+pub line-words : {b : Book} {rules kernels bounds : List ℕ} → StatesIn b rules kernels bounds → {i : ℕ} → i < length (b .kernels) → {rule dot : ℕ}
     → rule ≡ getD kernels (5 * i + 1) 0 → dot ≡ getD kernels (5 * i + 2) 0 → (X : Symbol) (items : List Core) → {r : Bool}
     → r ≡ lineComes (b .rules) X items rule dot → r ≡ lineComes (b .rules) X items (kernelAt (b .kernels) i .rule) (kernelAt (b .kernels) i .dot)
 line-words h {i} l rule-is dot-is X items q = rw (rule-is, dot-is, h .kernels-in .rule-is i l, h .kernels-in .dot-is i l) at q
@@ -212,18 +212,18 @@ line-words h {i} l rule-is dot-is X items q = rw (rule-is, dot-is, h .kernels-in
 -- ---- the kernel lines of a target
 
 -- the lines before i come from items
-pub record AllCome (rules kernels starts closures : List ℕ) (S symbol first last i : ℕ) : Type 0 where
+pub record AllCome (rules kernels bounds closures : List ℕ) (S symbol first last i : ℕ) : Type 0 where
   pub within : i ≤ last
-  pub same : (b : Book) (F : Sets) (X : Symbol) → ItemsIn b F rules kernels starts closures → S < b .states → last ≤ length (b .kernels) → GoSymbol b X
+  pub same : (b : Book) (F : Sets) (X : Symbol) → ItemsIn b F rules kernels bounds closures → S < b .states → last ≤ length (b .kernels) → GoSymbol b X
       → symbol ≡ symbolCode X
       → allCome (b .rules) X (coreItems b F S) (slice i last (b .kernels)) ≡ allCome (b .rules) X (coreItems b F S) (slice first last (b .kernels))
 
-pub come-none : (rules kernels starts closures : List ℕ) (S symbol first last : ℕ) → first ≤ last
-    → AllCome rules kernels starts closures S symbol first last first
-come-none rules kernels starts closures S symbol first last l = record { within = l; same = λ b F X h s f x e. refl }
+pub come-none : (rules kernels bounds closures : List ℕ) (S symbol first last : ℕ) → first ≤ last
+    → AllCome rules kernels bounds closures S symbol first last first
+come-none rules kernels bounds closures S symbol first last l = record { within = l; same = λ b F X h s f x e. refl }
 
-module _ {rules kernels starts closures : List ℕ} {S symbol first last i : ℕ} (k : AllCome rules kernels starts closures S symbol first last i) where
-  pub come-all : last ≤ i → (b : Book) (F : Sets) (X : Symbol) → ItemsIn b F rules kernels starts closures → S < b .states → last ≤ length (b .kernels)
+module _ {rules kernels bounds closures : List ℕ} {S symbol first last i : ℕ} (k : AllCome rules kernels bounds closures S symbol first last i) where
+  pub come-all : last ≤ i → (b : Book) (F : Sets) (X : Symbol) → ItemsIn b F rules kernels bounds closures → S < b .states → last ≤ length (b .kernels)
       → GoSymbol b X → symbol ≡ symbolCode X → true ≡ allCome (b .rules) X (coreItems b F S) (slice first last (b .kernels))
   unfolding allCome
   come-all l b F X h s f x q =
@@ -240,19 +240,19 @@ module _ {rules kernels starts closures : List ℕ} {S symbol first last i : ℕ
         ap (allCome (b .rules) X (coreItems b F S)) (lines-next (b .kernels) l f)
         ∙ ap (λ (x : Bool). elim x [ true ↦ allCome (b .rules) X (coreItems b F S) (slice (i + 1) last (b .kernels)) | false ↦ false ]) e
 
-    pub come-more : ((b : Book) (F : Sets) (X : Symbol) → ItemsIn b F rules kernels starts closures → S < b .states → i < length (b .kernels) → GoSymbol b X
+    pub come-more : ((b : Book) (F : Sets) (X : Symbol) → ItemsIn b F rules kernels bounds closures → S < b .states → i < length (b .kernels) → GoSymbol b X
         → symbol ≡ symbolCode X
         → true ≡ lineComes (b .rules) X (coreItems b F S) (kernelAt (b .kernels) i .rule) (kernelAt (b .kernels) i .dot))
-        → AllCome rules kernels starts closures S symbol first last (i + 1)
+        → AllCome rules kernels bounds closures S symbol first last (i + 1)
     come-more e = record {
       within = omega arith;
       same = λ b F X h s f x q. sym (next-kernel b F X f true (sym (e b F X h s (omega arith) x q))) ∙ k .same b F X h s f x q;
     }
 
-    pub come-fail : ((b : Book) (F : Sets) (X : Symbol) → ItemsIn b F rules kernels starts closures → S < b .states → i < length (b .kernels) → GoSymbol b X
+    pub come-fail : ((b : Book) (F : Sets) (X : Symbol) → ItemsIn b F rules kernels bounds closures → S < b .states → i < length (b .kernels) → GoSymbol b X
         → symbol ≡ symbolCode X
         → false ≡ lineComes (b .rules) X (coreItems b F S) (kernelAt (b .kernels) i .rule) (kernelAt (b .kernels) i .dot))
-        → (b : Book) (F : Sets) (X : Symbol) → ItemsIn b F rules kernels starts closures → S < b .states → last ≤ length (b .kernels)
+        → (b : Book) (F : Sets) (X : Symbol) → ItemsIn b F rules kernels bounds closures → S < b .states → last ≤ length (b .kernels)
         → GoSymbol b X → symbol ≡ symbolCode X → false ≡ allCome (b .rules) X (coreItems b F S) (slice first last (b .kernels))
     come-fail e b F X h s f x q = sym (next-kernel b F X f false (sym (e b F X h s (omega arith) x q))) ∙ k .same b F X h s f x q
 
@@ -263,7 +263,7 @@ unfoldable pub goComes : Book → (ℕ → List Core) → Go → Bool
 goComes b items g = someKernel (kernelsIn (b .kernels) (g .target)) && allCome (b .rules) (g .symbol) (items (g .state)) (kernelsIn (b .kernels) (g .target))
 
 -- the words of go line i
-module _ {b : Book} {rules kernels starts goes : List ℕ} (h : StatesIn b rules kernels starts) (g : GoesIn (b .goes) goes) {i : ℕ}
+module _ {b : Book} {rules kernels bounds goes : List ℕ} (h : StatesIn b rules kernels bounds) (g : GoesIn (b .goes) goes) {i : ℕ}
     (l : i < length (b .goes)) where
   pub go-low : LineLow goes i
   go-low = line-low (record { limits = h .grammar-in .limits; declared = h .grammar-in .declared; lines-in = g; count-is = refl; states-is = refl }) i l
@@ -278,7 +278,7 @@ module _ {b : Book} {rules kernels starts goes : List ℕ} (h : StatesIn b rules
     pub goal-there : target < b .states
     goal-there = rw (target-is, g .target-is i l) (go-declared .target-there)
 
-    module _ {first last : ℕ} (first-is : first ≡ getD starts target 0) (last-is : last ≡ getD starts (target + 1) 0) where
+    module _ {first last : ℕ} (first-is : first ≡ getD bounds target 0) (last-is : last ≡ getD bounds (target + 1) 0) where
       pub goal-range : Range b target first last
       goal-range = rw (first-is, last-is) (state-range h target goal-there)
 
@@ -302,16 +302,16 @@ module _ {b : Book} {rules kernels starts goes : List ℕ} (h : StatesIn b rules
 -- ---- all go lines
 
 -- the lines before i hold
-pub record LinesCome (rules kernels goes starts closures : List ℕ) (count i : ℕ) : Type 0 where
+pub record LinesCome (rules kernels goes bounds closures : List ℕ) (count i : ℕ) : Type 0 where
   pub within : i ≤ count
-  pub same : (b : Book) (F : Sets) → ItemsIn b F rules kernels starts closures → GoesIn (b .goes) goes → count ≡ length (b .goes)
+  pub same : (b : Book) (F : Sets) → ItemsIn b F rules kernels bounds closures → GoesIn (b .goes) goes → count ≡ length (b .goes)
       → goLines b (coreItems b F) (drop i (b .goes)) ≡ goLines b (coreItems b F) (b .goes)
 
-pub lines-none : (rules kernels goes starts closures : List ℕ) (count : ℕ) → LinesCome rules kernels goes starts closures count 0
-lines-none rules kernels goes starts closures count = record { within = omega arith; same = λ b F h g c. refl }
+pub lines-none : (rules kernels goes bounds closures : List ℕ) (count : ℕ) → LinesCome rules kernels goes bounds closures count 0
+lines-none rules kernels goes bounds closures count = record { within = omega arith; same = λ b F h g c. refl }
 
-module _ {rules kernels goes starts closures : List ℕ} {count i : ℕ} (k : LinesCome rules kernels goes starts closures count i) where
-  pub lines-all : count ≤ i → (b : Book) (F : Sets) → ItemsIn b F rules kernels starts closures → GoesIn (b .goes) goes → count ≡ length (b .goes)
+module _ {rules kernels goes bounds closures : List ℕ} {count i : ℕ} (k : LinesCome rules kernels goes bounds closures count i) where
+  pub lines-all : count ≤ i → (b : Book) (F : Sets) → ItemsIn b F rules kernels bounds closures → GoesIn (b .goes) goes → count ≡ length (b .goes)
       → true ≡ goLines b (coreItems b F) (b .goes)
   unfolding goLines
   lines-all l b F h g c =
@@ -327,16 +327,16 @@ module _ {rules kernels goes starts closures : List ℕ} {count i : ℕ} (k : Li
         ap (goLines b (coreItems b F)) cut
         ∙ ap (λ (x : Bool). elim x [ true ↦ goLines b (coreItems b F) (drop (i + 1) (b .goes)) | false ↦ false ]) e
 
-    pub lines-more : ((b : Book) (F : Sets) → ItemsIn b F rules kernels starts closures → GoesIn (b .goes) goes → i < length (b .goes)
-        → true ≡ goComes b (coreItems b F) (goAt (b .goes) i)) → LinesCome rules kernels goes starts closures count (i + 1)
+    pub lines-more : ((b : Book) (F : Sets) → ItemsIn b F rules kernels bounds closures → GoesIn (b .goes) goes → i < length (b .goes)
+        → true ≡ goComes b (coreItems b F) (goAt (b .goes) i)) → LinesCome rules kernels goes bounds closures count (i + 1)
     lines-more e = record {
       within = omega arith;
       same = λ b F h g c. sym (next-go b F c true (sym (e b F h g (omega arith)))) ∙ k .same b F h g c;
     }
 
-    pub lines-fail : ((b : Book) (F : Sets) → ItemsIn b F rules kernels starts closures → GoesIn (b .goes) goes → i < length (b .goes)
+    pub lines-fail : ((b : Book) (F : Sets) → ItemsIn b F rules kernels bounds closures → GoesIn (b .goes) goes → i < length (b .goes)
         → false ≡ goComes b (coreItems b F) (goAt (b .goes) i))
-        → (b : Book) (F : Sets) → ItemsIn b F rules kernels starts closures → GoesIn (b .goes) goes → count ≡ length (b .goes)
+        → (b : Book) (F : Sets) → ItemsIn b F rules kernels bounds closures → GoesIn (b .goes) goes → count ≡ length (b .goes)
         → false ≡ goLines b (coreItems b F) (b .goes)
     lines-fail e b F h g c = sym (next-go b F c false (sym (e b F h g (omega arith)))) ∙ k .same b F h g c
 

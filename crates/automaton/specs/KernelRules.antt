@@ -21,7 +21,7 @@ use Rattle.grammar.specs.Automaton.KernelRulesLaws.{kernelRules-decides}
 use Rattle.grammar.specs.Automaton.WellNamed.{Distinct, none, next, SameItem, WellNamed}
 use Rattle.book.specs.Layout.{symbolCode}
 use Rattle.book.specs.Held.{kernelAt, noKernel}
-use Rattle.items.specs.Arrays.{StartsIn}
+use Rattle.items.specs.Arrays.{BoundsIn}
 use Rattle.items.specs.SymbolCodes.{code-same}
 use Rattle.automaton.specs.KernelWords.{NamedIn, StartAlone, wordBefore, front-word, behind-word, before-low, word-low, Follows}
 use Rattle.automaton.specs.KernelStarts.{Cut, cut-more, cut-all, cuts-done}
@@ -35,19 +35,19 @@ pub record RuledIn (b : Book) (rules kernels : List ℕ) (count : ℕ) : Type 0 
 
 -- ---- the walk
 
--- the first i lines are right, and the starts of their states and of the next are known
-pub record Walked (b : Book) (starts : List ℕ) (i : ℕ) : Type 0 where
+-- the first i lines are right, and where the lines of their states and of the next begin is known
+pub record Walked (b : Book) (bounds : List ℕ) (i : ℕ) : Type 0 where
   pub some : 0 < i
   pub within : i ≤ length (b .kernels)
   pub first : kernelAt (b .kernels) 0 ≡ startKernel
   pub follow : (j : ℕ) → 0 < j → j < i → Follows (b .rules) (kernelAt (b .kernels) (j - 1)) (kernelAt (b .kernels) j)
-  pub long : b .states + 1 ≤ length starts
-  pub cuts : (S : ℕ) → S ≤ kernelAt (b .kernels) (i - 1) .state + 1 → Cut (b .kernels) i S (getD starts S 0)
+  pub long : b .states + 1 ≤ length bounds
+  pub cuts : (S : ℕ) → S ≤ kernelAt (b .kernels) (i - 1) .state + 1 → Cut (b .kernels) i S (getD bounds S 0)
 
 -- the first line
-walked-first : {b : Book} (starts : List ℕ) → 0 < length (b .kernels) → kernelAt (b .kernels) 0 ≡ startKernel → 0 < b .states
-    → b .states + 1 ≤ length starts → Walked b (set (set starts 0 0) 1 1) 1
-walked-first {b} starts h e s l =
+walked-first : {b : Book} (bounds : List ℕ) → 0 < length (b .kernels) → kernelAt (b .kernels) 0 ≡ startKernel → 0 < b .states
+    → b .states + 1 ≤ length bounds → Walked b (set (set bounds 0 0) 1 1) 1
+walked-first {b} bounds h e s l =
     record {
       some = omega arith;
       within = h;
@@ -60,15 +60,15 @@ walked-first {b} starts h e s l =
     state-zero : kernelAt (b .kernels) 0 .state ≡ 0
     state-zero = ap (λ (k : Kernel). k .state) e
 
-    first-cut : (S : ℕ) → S ≡ 0 → Cut (b .kernels) 1 S (getD (set (set starts 0 0) 1 1) S 0)
+    first-cut : (S : ℕ) → S ≡ 0 → Cut (b .kernels) 1 S (getD (set (set bounds 0 0) 1 1) S 0)
     first-cut S z =
-        let w : getD (set (set starts 0 0) 1 1) 0 0 ≡ 0 =
-        getD-set-other (set starts 0 0) 1 0 1 0 (λ q. omega arith) ∙ getD-set-same starts 0 0 0 (omega arith) in
+        let w : getD (set (set bounds 0 0) 1 1) 0 0 ≡ 0 =
+        getD-set-other (set bounds 0 0) 1 0 1 0 (λ q. omega arith) ∙ getD-set-same bounds 0 0 0 (omega arith) in
         rw (z, w) (record { within = omega arith; lower = λ i p. absurd (omega arith); upper = λ i p q. omega arith })
 
-    second-cut : (S : ℕ) → S ≡ 1 → Cut (b .kernels) 1 S (getD (set (set starts 0 0) 1 1) S 0)
+    second-cut : (S : ℕ) → S ≡ 1 → Cut (b .kernels) 1 S (getD (set (set bounds 0 0) 1 1) S 0)
     second-cut S z =
-        let w : getD (set (set starts 0 0) 1 1) 1 0 ≡ 1 = getD-set-same (set starts 0 0) 1 1 0 (omega (arith, length-set starts 0 0)) in
+        let w : getD (set (set bounds 0 0) 1 1) 1 0 ≡ 1 = getD-set-same (set bounds 0 0) 1 1 0 (omega (arith, length-set bounds 0 0)) in
         rw (z, w) (cut-all (λ i p. let q : i ≡ 0 = omega arith in rw q (omega (arith, state-zero))))
 
 -- the state stays or is the next
@@ -87,16 +87,16 @@ module _ {b : Book} {rules kernels : List ℕ} {count : ℕ} (H : RuledIn b rule
   lineAt i = kernelAt (b .kernels) i
 
   -- by the words of the first line
-  pub walked-start : (starts : List ℕ) {states : ℕ} → (count ≡ 0 → ⊥) → states ≡ b .states → states + 1 ≤ length starts
-      → {t : Bool} → Decides t (lineAt 0 ≡ startKernel) → t ≡ true → Walked b (set (set starts 0 0) 1 1) 1
-  walked-start starts n s l d r =
+  pub walked-start : (bounds : List ℕ) {states : ℕ} → (count ≡ 0 → ⊥) → states ≡ b .states → states + 1 ≤ length bounds
+      → {t : Bool} → Decides t (lineAt 0 ≡ startKernel) → t ≡ true → Walked b (set (set bounds 0 0) 1 1) 1
+  walked-start bounds n s l d r =
       let some : 0 < length (b .kernels) = omega (arith, H .counted) in
-      walked-first starts some (d .sound r) (omega (arith, H .named-in .state-there 0 some)) (omega arith)
+      walked-first bounds some (d .sound r) (omega (arith, H .named-in .state-there 0 some)) (omega arith)
 
   -- a line more
-  walked-on : {starts : List ℕ} {i : ℕ} → Walked b starts i → i < length (b .kernels) → Follows (b .rules) (lineAt (i - 1)) (lineAt i)
-      → Walked b (set starts (lineAt i .state + 1) (i + 1)) (i + 1)
-  walked-on {starts} {i} W h F =
+  walked-on : {bounds : List ℕ} {i : ℕ} → Walked b bounds i → i < length (b .kernels) → Follows (b .rules) (lineAt (i - 1)) (lineAt i)
+      → Walked b (set bounds (lineAt i .state + 1) (i + 1)) (i + 1)
+  walked-on {bounds} {i} W h F =
       record {
         some = omega arith;
         within = omega arith;
@@ -112,30 +112,30 @@ module _ {b : Book} {rules kernels : List ℕ} {count : ℕ} (H : RuledIn b rule
       back : i + 1 - 1 ≡ i
       back = omega arith
 
-      known : (S : ℕ) → S ≤ state → Cut (b .kernels) (i + 1) S (getD (set starts (state + 1) (i + 1)) S 0)
+      known : (S : ℕ) → S ≤ state → Cut (b .kernels) (i + 1) S (getD (set bounds (state + 1) (i + 1)) S 0)
       known S l =
-          rw (getD-set-other starts (state + 1) S (i + 1) 0 (λ e. omega arith))
+          rw (getD-set-other bounds (state + 1) S (i + 1) 0 (λ e. omega arith))
           (cut-more (W .cuts S (omega (arith, follow-state F))) l)
 
-      new : (S : ℕ) → S ≡ state + 1 → Cut (b .kernels) (i + 1) S (getD (set starts (state + 1) (i + 1)) S 0)
+      new : (S : ℕ) → S ≡ state + 1 → Cut (b .kernels) (i + 1) S (getD (set bounds (state + 1) (i + 1)) S 0)
       new S e =
-          let w : getD (set starts (state + 1) (i + 1)) (state + 1) 0 ≡ i + 1 =
-          getD-set-same starts (state + 1) (i + 1) 0 (omega (arith, W .long, H .named-in .state-there i h)) in
+          let w : getD (set bounds (state + 1) (i + 1)) (state + 1) 0 ≡ i + 1 =
+          getD-set-same bounds (state + 1) (i + 1) 0 (omega (arith, W .long, H .named-in .state-there i h)) in
           rw (e, w) (cut-all (λ j q. omega (arith, H .ascend j i (omega arith) h)))
 
   -- by the word of its state
-  module _ {starts : List ℕ} {i w : ℕ} (W : Walked b starts i) (h : i < count) (e : w ≡ getD kernels (5 * i) 0) where
+  module _ {bounds : List ℕ} {i w : ℕ} (W : Walked b bounds i) (h : i < count) (e : w ≡ getD kernels (5 * i) 0) where
     inside : i < length (b .kernels)
     inside = omega (arith, H .counted)
 
     word-is : w ≡ lineAt i .state
     word-is = e ∙ H .named-in .spelled-in .kernels-in .state-is i inside
 
-    pub walked-place : w + 1 < length starts
+    pub walked-place : w + 1 < length bounds
     walked-place = omega (arith, word-is, H .named-in .state-there i inside, W .long)
 
     pub walked-more : {t : Bool} → Decides t (Follows (b .rules) (lineAt (i - 1)) (lineAt i)) → t ≡ true
-        → Walked b (set starts (w + 1) (i + 1)) (i + 1)
+        → Walked b (set bounds (w + 1) (i + 1)) (i + 1)
     walked-more d r = rw word-is (walked-on W inside (d .sound r))
 
   -- ---- the rules hold: each line is right
@@ -208,7 +208,7 @@ module _ {b : Book} {rules kernels : List ℕ} {count : ℕ} (H : RuledIn b rule
 
   -- ---- each line is right: the rules hold
 
-  module _ {starts : List ℕ} (W : Walked b starts (length (b .kernels))) where
+  module _ {bounds : List ℕ} (W : Walked b bounds (length (b .kernels))) where
     state-zero : lineAt 0 .state ≡ 0
     state-zero = ap (λ (k : Kernel). k .state) (W .first)
 
@@ -294,50 +294,50 @@ module _ {b : Book} {rules kernels : List ℕ} {count : ℕ} (H : RuledIn b rule
         }
 
     -- and it is known where the lines of each state begin
-    starts-known : lineAt (length (b .kernels) - 1) .state + 1 ≡ b .states → StartsIn (b .kernels) (b .states) starts
-    starts-known last = cuts-done (b .kernels) (b .states) starts (W .long) (H .named-in .state-there) (λ S l. W .cuts S (omega arith))
+    starts-known : lineAt (length (b .kernels) - 1) .state + 1 ≡ b .states → BoundsIn (b .kernels) (b .states) bounds
+    starts-known last = cuts-done (b .kernels) (b .states) bounds (W .long) (H .named-in .state-there) (λ S l. W .cuts S (omega arith))
 
 -- ---- what the walk over all lines tells
 
-pub record Walks (b : Book) (r : Bool) (starts : List ℕ) : Type 0 where
-  pub right : r ≡ true → Walked b starts (length (b .kernels))
+pub record Walks (b : Book) (r : Bool) (bounds : List ℕ) : Type 0 where
+  pub right : r ≡ true → Walked b bounds (length (b .kernels))
   pub wrong : r ≡ false → KernelRules b → ⊥
 
 -- what the whole test tells
-pub record Ruled (b : Book) (r : Bool) (starts : List ℕ) : Type 0 where
+pub record Ruled (b : Book) (r : Bool) (bounds : List ℕ) : Type 0 where
   pub told : r ≡ kernelRules b
-  pub starts-in : r ≡ true → StartsIn (b .kernels) (b .states) starts
+  pub starts-in : r ≡ true → BoundsIn (b .kernels) (b .states) bounds
 
-module _ {b : Book} {rules kernels : List ℕ} {count : ℕ} (H : RuledIn b rules kernels count) {starts : List ℕ} where
-  pub walks-all : {i : ℕ} → Walked b starts i → count ≤ i → Walks b true starts
+module _ {b : Book} {rules kernels : List ℕ} {count : ℕ} (H : RuledIn b rules kernels count) {bounds : List ℕ} where
+  pub walks-all : {i : ℕ} → Walked b bounds i → count ≤ i → Walks b true bounds
   walks-all {i} W h = record { right = λ _. rw e at W; wrong = λ f. absurd (false≢true (sym f)) }
     where
       e : i ≡ length (b .kernels)
       e = omega (arith, W .within, H .counted)
 
   pub walks-fails : {i : ℕ} → 0 < i → i < count → {t : Bool}
-      → Decides t (Follows (b .rules) (kernelAt (b .kernels) (i - 1)) (kernelAt (b .kernels) i)) → t ≡ false → Walks b false starts
+      → Decides t (Follows (b .rules) (kernelAt (b .kernels) (i - 1)) (kernelAt (b .kernels) i)) → t ≡ false → Walks b false bounds
   walks-fails {i} p h d f = record {
     right = λ z. absurd (false≢true z);
     wrong = λ _ K. refutes (rw f at d) (follow-is H K i p (omega (arith, H .counted)));
   }
 
-  refused : (KernelRules b → ⊥) → Ruled b false starts
+  refused : (KernelRules b → ⊥) → Ruled b false bounds
   refused n = record { told = sym (false-of (kernelRules-decides (H .well-named)) n); starts-in = λ z. absurd (false≢true z) }
 
   -- there is no line
-  pub ruled-none : count ≡ 0 → Ruled b false starts
+  pub ruled-none : count ≡ 0 → Ruled b false bounds
   ruled-none z = refused λ K. omega (arith, some-line H K, H .counted)
 
-  pub ruled-first : {t : Bool} → Decides t (kernelAt (b .kernels) 0 ≡ startKernel) → t ≡ false → Ruled b false starts
+  pub ruled-first : {t : Bool} → Decides t (kernelAt (b .kernels) 0 ≡ startKernel) → t ≡ false → Ruled b false bounds
   ruled-first d f = refused λ K. refutes (rw f at d) (first-is H K)
 
-  pub ruled-lines : {t : Bool} → Walks b t starts → t ≡ false → Ruled b false starts
+  pub ruled-lines : {t : Bool} → Walks b t bounds → t ≡ false → Ruled b false bounds
   ruled-lines w f = refused (w .wrong f)
 
   -- the last line is of the last state
-  pub ruled-last : {t : Bool} → Walks b t starts → t ≡ true → {states last : ℕ} → states ≡ b .states → last ≡ getD kernels (5 * (count - 1)) 0
-      → Ruled b (eqb (last + 1) states) starts
+  pub ruled-last : {t : Bool} → Walks b t bounds → t ≡ true → {states last : ℕ} → states ≡ b .states → last ≡ getD kernels (5 * (count - 1)) 0
+      → Ruled b (eqb (last + 1) states) bounds
   ruled-last w e {states} {last} s l = record {
     told = decides-same
         (equivalent (λ q. rules-hold H W (known q)) (λ K. omega (arith, last-state, last-is H K)) (eq-decides (last + 1) states))
@@ -345,7 +345,7 @@ module _ {b : Book} {rules kernels : List ℕ} {count : ℕ} (H : RuledIn b rule
     starts-in = λ q. starts-known H W (known (eqb-true (last + 1) states q));
   }
     where
-      W : Walked b starts (length (b .kernels))
+      W : Walked b bounds (length (b .kernels))
       W = w .right e
 
       last-state : last ≡ kernelAt (b .kernels) (length (b .kernels) - 1) .state

@@ -11,7 +11,7 @@ use Rattle.text.specs.Positional.{by-less}
 use Rattle.grammar.specs.Data.Book.{Kernel}
 use Rattle.grammar.specs.Automaton.ClosureSets.{kernelsIn}
 use Rattle.book.specs.Held.{kernelAt}
-use Rattle.items.specs.Arrays.{StartsIn}
+use Rattle.items.specs.Arrays.{BoundsIn}
 
 -- the lines from a up to e, if just these are of state S
 span : (ks : List Kernel) (S a e : ℕ) → a ≤ e → e ≤ length ks → ((i : ℕ) → a ≤ i → i < e → kernelAt ks i .state ≡ S)
@@ -56,42 +56,42 @@ pub cut-all : {ks : List Kernel} {count S : ℕ} → ((i : ℕ) → i < count �
 cut-all f = record { within = omega arith; lower = f; upper = λ i p q. absurd (omega arith) }
 
 -- cuts for all states tell where each begins
-pub cuts-done : (ks : List Kernel) (states : ℕ) (starts : List ℕ) → states + 1 ≤ length starts
+pub cuts-done : (ks : List Kernel) (states : ℕ) (bounds : List ℕ) → states + 1 ≤ length bounds
     → ((i : ℕ) → i < length ks → kernelAt ks i .state < states)
-    → ((S : ℕ) → S ≤ states → Cut ks (length ks) S (getD starts S 0)) → StartsIn ks states starts
-cuts-done ks states starts long below cut =
+    → ((S : ℕ) → S ≤ states → Cut ks (length ks) S (getD bounds S 0)) → BoundsIn ks states bounds
+cuts-done ks states bounds long below cut =
     record {
       long = long;
       ascend = ordered;
       last-is = all;
-      lines-are = λ S l. span ks S (getD starts S 0) (getD starts (S + 1) 0) (ordered S l) (cut (S + 1) (omega arith) .within) (own S l)
+      lines-are = λ S l. span ks S (getD bounds S 0) (getD bounds (S + 1) 0) (ordered S l) (cut (S + 1) (omega arith) .within) (own S l)
           (λ i p e. omega (arith, cut S (omega arith) .lower i p)) (λ i p q e. omega (arith, cut (S + 1) (omega arith) .upper i p q));
     }
   where
-    ordered : (S : ℕ) → S < states → getD starts S 0 ≤ getD starts (S + 1) 0
+    ordered : (S : ℕ) → S < states → getD bounds S 0 ≤ getD bounds (S + 1) 0
     ordered S l =
-        by-less next (getD starts S 0)
+        by-less next (getD bounds S 0)
         (λ b. absurd (let z : ⊥ = omega (arith, cut S (omega arith) .lower next b, cut (S + 1) (omega arith) .upper next (omega arith) (there b)) in z))
         (λ b. b)
       where
         next : ℕ
-        next = getD starts (S + 1) 0
+        next = getD bounds (S + 1) 0
 
-        there : next < getD starts S 0 → next < length ks
+        there : next < getD bounds S 0 → next < length ks
         there b = omega (arith, cut S (omega arith) .within)
 
-    own : (S : ℕ) → S < states → (i : ℕ) → getD starts S 0 ≤ i → i < getD starts (S + 1) 0 → kernelAt ks i .state ≡ S
+    own : (S : ℕ) → S < states → (i : ℕ) → getD bounds S 0 ≤ i → i < getD bounds (S + 1) 0 → kernelAt ks i .state ≡ S
     own S l i p q =
         let low : i < length ks = omega (arith, cut (S + 1) (omega arith) .within) in
         omega (arith, cut S (omega arith) .upper i p low, cut (S + 1) (omega arith) .lower i q)
 
-    all : getD starts states 0 ≡ length ks
+    all : getD bounds states 0 ≡ length ks
     all =
         by-less last (length ks) (λ b. absurd (let z : ⊥ = omega (arith, whole .upper last (omega arith) b, below last b) in z))
         (λ b. omega (arith, whole .within))
       where
         last : ℕ
-        last = getD starts states 0
+        last = getD bounds states 0
 
         whole : Cut ks (length ks) states last
         whole = cut states (omega arith)

@@ -16,38 +16,38 @@ use Rattle.grammar.specs.Automaton.FirstSets.{Sets}
 use Rattle.grammar.specs.Automaton.ClosureSets.{kernelsIn}
 use Rattle.grammar.specs.Data.ListLaws.{at-member}
 use Rattle.book.specs.Held.{KernelsIn, kernelAt}
-use Rattle.items.specs.Arrays.{StartsIn, ClosuresIn, GoTableIn}
+use Rattle.items.specs.Arrays.{BoundsIn, ClosuresIn, GoTableIn}
 use Rattle.items.specs.GrammarIn.{GrammarIn}
 
 -- the rules and the kernel lines, with where those of each state begin
-pub record StatesIn (b : Book) (rules kernels starts : List ℕ) : Type 0 where
+pub record StatesIn (b : Book) (rules kernels bounds : List ℕ) : Type 0 where
   pub grammar-in : GrammarIn b rules
   pub kernels-in : KernelsIn (b .kernels) kernels
-  pub starts-in : StartsIn (b .kernels) (b .states) starts
+  pub starts-in : BoundsIn (b .kernels) (b .states) bounds
 
 -- with the go table
-pub record MovesIn (b : Book) (rules kernels starts table : List ℕ) : Type 0 where
-  pub states-in : StatesIn b rules kernels starts
+pub record MovesIn (b : Book) (rules kernels bounds table : List ℕ) : Type 0 where
+  pub states-in : StatesIn b rules kernels bounds
   pub table-in : GoTableIn b table
 
 -- with the closures
-pub record ItemsIn (b : Book) (F : Sets) (rules kernels starts closures : List ℕ) : Type 0 where
-  pub states-in : StatesIn b rules kernels starts
+pub record ItemsIn (b : Book) (F : Sets) (rules kernels bounds closures : List ℕ) : Type 0 where
+  pub states-in : StatesIn b rules kernels bounds
   pub closures-in : ClosuresIn b F closures
 
 -- with both
-pub record AutomatonIn (b : Book) (F : Sets) (rules kernels starts closures table : List ℕ) : Type 0 where
-  pub states-in : StatesIn b rules kernels starts
+pub record AutomatonIn (b : Book) (F : Sets) (rules kernels bounds closures table : List ℕ) : Type 0 where
+  pub states-in : StatesIn b rules kernels bounds
   pub closures-in : ClosuresIn b F closures
   pub table-in : GoTableIn b table
 
 -- parts of it
-pub moves : {b : Book} {F : Sets} {rules kernels starts closures table : List ℕ} → AutomatonIn b F rules kernels starts closures table
-    → MovesIn b rules kernels starts table
+pub moves : {b : Book} {F : Sets} {rules kernels bounds closures table : List ℕ} → AutomatonIn b F rules kernels bounds closures table
+    → MovesIn b rules kernels bounds table
 moves h = record { states-in = h .states-in; table-in = h .table-in }
 
-pub items : {b : Book} {F : Sets} {rules kernels starts closures table : List ℕ} → AutomatonIn b F rules kernels starts closures table
-    → ItemsIn b F rules kernels starts closures
+pub items : {b : Book} {F : Sets} {rules kernels bounds closures table : List ℕ} → AutomatonIn b F rules kernels bounds closures table
+    → ItemsIn b F rules kernels bounds closures
 items h = record { states-in = h .states-in; closures-in = h .closures-in }
 
 -- an item without its lookahead: of a state and a rule of the book, with a dot in the rule
@@ -89,7 +89,7 @@ lines-next ks {i} {last} h f = rw (add-one i) (slice-cons i last ks _ h f)
 pub kernel-there : {b : Book} → Declared b → (i : ℕ) → i < length (b .kernels) → DeclaredKernel b (kernelAt (b .kernels) i)
 kernel-there {b} d i l = d .kernels-declared (kernelAt (b .kernels) i) (at-member (b .kernels) i _ l)
 
-module _ {b : Book} {rules kernels starts : List ℕ} (h : StatesIn b rules kernels starts) where
+module _ {b : Book} {rules kernels bounds : List ℕ} (h : StatesIn b rules kernels bounds) where
   pub kernel-low : (i : ℕ) → i < length (b .kernels) → KernelLow kernels i
   kernel-low i l =
       let k : Kernel = kernelAt (b .kernels) i in
@@ -105,21 +105,21 @@ module _ {b : Book} {rules kernels starts : List ℕ} (h : StatesIn b rules kern
   pub kernel-rule : (i : ℕ) → i < length (b .kernels) → getD kernels (5 * i + 1) 0 < length (b .rules)
   kernel-rule i l = omega (arith, h .kernels-in .rule-is i l, kernel-there (h .grammar-in .declared) i l .rule-there)
 
-  -- the starts ascend to the number of lines
-  start-within : (left S : ℕ) → S + left ≡ b .states → getD starts S 0 ≤ length (b .kernels)
+  -- the bounds ascend to the number of lines
+  start-within : (left S : ℕ) → S + left ≡ b .states → getD bounds S 0 ≤ length (b .kernels)
   start-within zero S e = let z : S ≡ b .states = omega arith in rw z (omega (arith, h .starts-in .last-is))
   start-within (suc left) S e = omega (arith, h .starts-in .ascend S (omega arith), start-within left (S + 1) (omega arith))
 
-  pub state-range : (S : ℕ) → S < b .states → Range b S (getD starts S 0) (getD starts (S + 1) 0)
+  pub state-range : (S : ℕ) → S < b .states → Range b S (getD bounds S 0) (getD bounds (S + 1) 0)
   state-range S s =
-      let within : getD starts (S + 1) 0 ≤ length (b .kernels) = start-within (b .states - (S + 1)) (S + 1) (omega arith) in
+      let within : getD bounds (S + 1) 0 ≤ length (b .kernels) = start-within (b .states - (S + 1)) (S + 1) (omega arith) in
       record {
         ordered = h .starts-in .ascend S s;
         within = within;
         below = omega (arith, h .kernels-in .fits);
-        lines-are = h .starts-in .lines-are S s ∙ take-drop (getD starts S 0) (getD starts (S + 1) 0) (b .kernels);
+        lines-are = h .starts-in .lines-are S s ∙ take-drop (getD bounds S 0) (getD bounds (S + 1) 0) (b .kernels);
       }
 
   -- both ends are words
-  pub state-starts : (S : ℕ) → S < b .states → S + 1 < length starts
+  pub state-starts : (S : ℕ) → S < b .states → S + 1 < length bounds
   state-starts S s = omega (arith, h .starts-in .long, h .grammar-in .limits .states-limit .high)

@@ -172,19 +172,19 @@ fn rules_act(
 fn kernels_act(
     rules: &[u32],
     kernels: &[u32],
-    starts: &[u32],
+    bounds: &[u32],
     actions: &mut [u8],
     terminals: usize,
     state: usize,
 ) -> bool
     requires { ⌜ (32 * state + 32 ≤ length (now actions))
-        × ((b : Book) × StatesIn b (now rules) (now kernels) (now starts) × (state < b .states) × (terminals ≡ b .terminals)) ⌝ }
-    ensures { λ r. ⌜ ((b : Book) (items : List Core) → StatesIn b (now (rules .entry)) (now (kernels .entry)) (now (starts .entry))
+        × ((b : Book) × StatesIn b (now rules) (now kernels) (now bounds) × (state < b .states) × (terminals ≡ b .terminals)) ⌝ }
+    ensures { λ r. ⌜ ((b : Book) (items : List Core) → StatesIn b (now (rules .entry)) (now (kernels .entry)) (now (bounds .entry))
         → state < b .states → terminals ≡ b .terminals → Row terminals state (cellFrom (b .rules) items) (now (actions .entry))
         → Melded terminals state (cellFrom (b .rules) (ofKernels (kernelsIn (b .kernels) state) ++ items)) (now (actions .entry)) (now (actions .exit)) r) ⌝ }
 {
-    let first = word(starts, state);
-    let mut i = word(starts, state + 1);
+    let first = word(bounds, state);
+    let mut i = word(bounds, state + 1);
     while i > first {
         i -= 1;
         let rule = word(kernels, 5 * i + 1);
@@ -208,7 +208,7 @@ fn kernels_act(
 fn state_acts(
     rules: &[u32],
     kernels: &[u32],
-    starts: &[u32],
+    bounds: &[u32],
     closures: &[u32],
     fronts: &[u64],
     actions: &mut [u8],
@@ -216,9 +216,9 @@ fn state_acts(
     state: usize,
 ) -> bool
     requires { ⌜ (32 * state + 32 ≤ length (now actions))
-        × ((b : Book) × (F : Sets) × ItemsIn b F (now rules) (now kernels) (now starts) (now closures)
+        × ((b : Book) × (F : Sets) × ItemsIn b F (now rules) (now kernels) (now bounds) (now closures)
         × (state < b .states) × (terminals ≡ b .terminals) × FrontsIn b (now rules) (now closures) (now fronts)) ⌝ }
-    ensures { λ r. ⌜ ((b : Book) (F : Sets) → ItemsIn b F (now (rules .entry)) (now (kernels .entry)) (now (starts .entry)) (now (closures .entry))
+    ensures { λ r. ⌜ ((b : Book) (F : Sets) → ItemsIn b F (now (rules .entry)) (now (kernels .entry)) (now (bounds .entry)) (now (closures .entry))
         → state < b .states → terminals ≡ b .terminals → FrontsIn b (now (rules .entry)) (now (closures .entry)) (now (fronts .entry))
         → Row terminals state (cellFrom (b .rules) []) (now (actions .entry))
         → Melded terminals state (cellFrom (b .rules) (coreItems b F state)) (now (actions .entry)) (now (actions .exit)) r) ⌝ }
@@ -226,14 +226,14 @@ fn state_acts(
     if !rules_act(rules, closures, fronts, actions, terminals, state) {
         return false;
     }
-    kernels_act(rules, kernels, starts, actions, terminals, state)
+    kernels_act(rules, kernels, bounds, actions, terminals, state)
 }
 
 // The actions of all states, up to the first conflict; whether there is none.
-pub fn actions(
+pub fn fill_actions(
     rules: &[u32],
     kernels: &[u32],
-    starts: &[u32],
+    bounds: &[u32],
     closures: &[u32],
     fronts: &[u64],
     terminals: u32,
@@ -241,9 +241,9 @@ pub fn actions(
     actions: &mut [u8],
 ) -> bool
     requires { ⌜ (32 * states ≤ length (now actions))
-        × ((b : Book) × (F : Sets) × ItemsIn b F (now rules) (now kernels) (now starts) (now closures)
+        × ((b : Book) × (F : Sets) × ItemsIn b F (now rules) (now kernels) (now bounds) (now closures)
         × (terminals ≡ b .terminals) × (states ≡ b .states) × FrontsIn b (now rules) (now closures) (now fronts)) ⌝ }
-    ensures { λ r. ⌜ ((b : Book) (F : Sets) → ItemsIn b F (now (rules .entry)) (now (kernels .entry)) (now (starts .entry)) (now (closures .entry))
+    ensures { λ r. ⌜ ((b : Book) (F : Sets) → ItemsIn b F (now (rules .entry)) (now (kernels .entry)) (now (bounds .entry)) (now (closures .entry))
         → terminals ≡ b .terminals → states ≡ b .states → FrontsIn b (now (rules .entry)) (now (closures .entry)) (now (fronts .entry))
         → Acted b F (now (actions .exit)) r) ⌝ }
 {
@@ -254,7 +254,7 @@ pub fn actions(
         if !state_acts(
             rules,
             kernels,
-            starts,
+            bounds,
             closures,
             fronts,
             actions,

@@ -57,15 +57,15 @@ fn holds_item(kernels: &[u32], first: usize, last: usize, rule: usize, dot: usiz
 fn advances(
     rules: &[u32],
     kernels: &[u32],
-    starts: &[u32],
+    bounds: &[u32],
     table: &[u8],
     state: usize,
     rule: usize,
     dot: usize,
     set: u32,
 ) -> bool
-    requires { ⌜ ((b : Book) × MovesIn b (now rules) (now kernels) (now starts) (now table) × Stands b state rule dot) ⌝ }
-    ensures { λ r. ⌜ ((b : Book) → MovesIn b (now (rules .entry)) (now (kernels .entry)) (now (starts .entry)) (now (table .entry))
+    requires { ⌜ ((b : Book) × MovesIn b (now rules) (now kernels) (now bounds) (now table) × Stands b state rule dot) ⌝ }
+    ensures { λ r. ⌜ ((b : Book) → MovesIn b (now (rules .entry)) (now (kernels .entry)) (now (bounds .entry)) (now (table .entry))
         → Stands b state rule dot → r ≡ advances b state rule dot set (after (b .rules) rule dot)) ⌝ }
 {
     let place = 10 * rule;
@@ -77,8 +77,8 @@ fn advances(
     if target == 255 {
         return false;
     }
-    let first = word(starts, target);
-    let last = word(starts, target + 1);
+    let first = word(bounds, target);
+    let last = word(bounds, target + 1);
     holds_item(kernels, first, last, rule, dot + 1, set)
 }
 
@@ -86,13 +86,13 @@ fn advances(
 fn kernel_advances(
     rules: &[u32],
     kernels: &[u32],
-    starts: &[u32],
+    bounds: &[u32],
     table: &[u8],
     state: usize,
     i: usize,
 ) -> bool
-    requires { ⌜ ((b : Book) × MovesIn b (now rules) (now kernels) (now starts) (now table) × (state < b .states) × (i < length (b .kernels))) ⌝ }
-    ensures { λ r. ⌜ ((b : Book) → MovesIn b (now (rules .entry)) (now (kernels .entry)) (now (starts .entry)) (now (table .entry))
+    requires { ⌜ ((b : Book) × MovesIn b (now rules) (now kernels) (now bounds) (now table) × (state < b .states) × (i < length (b .kernels))) ⌝ }
+    ensures { λ r. ⌜ ((b : Book) → MovesIn b (now (rules .entry)) (now (kernels .entry)) (now (bounds .entry)) (now (table .entry))
         → state < b .states → i < length (b .kernels) → r ≡ kernelAdvances b state (kernelAt (b .kernels) i)) ⌝ }
 {
     let place = 5 * i;
@@ -101,7 +101,7 @@ fn kernel_advances(
     advances(
         rules,
         kernels,
-        starts,
+        bounds,
         table,
         state,
         rule,
@@ -114,18 +114,18 @@ fn kernel_advances(
 fn kernels_advance(
     rules: &[u32],
     kernels: &[u32],
-    starts: &[u32],
+    bounds: &[u32],
     table: &[u8],
     state: usize,
 ) -> bool
-    requires { ⌜ ((b : Book) × MovesIn b (now rules) (now kernels) (now starts) (now table) × (state < b .states)) ⌝ }
-    ensures { λ r. ⌜ ((b : Book) → MovesIn b (now (rules .entry)) (now (kernels .entry)) (now (starts .entry)) (now (table .entry))
+    requires { ⌜ ((b : Book) × MovesIn b (now rules) (now kernels) (now bounds) (now table) × (state < b .states)) ⌝ }
+    ensures { λ r. ⌜ ((b : Book) → MovesIn b (now (rules .entry)) (now (kernels .entry)) (now (bounds .entry)) (now (table .entry))
         → state < b .states → r ≡ allAdvance b state (ofKernels (kernelsIn (b .kernels) state))) ⌝ }
 {
-    let last = word(starts, state + 1);
-    let mut i = word(starts, state);
+    let last = word(bounds, state + 1);
+    let mut i = word(bounds, state);
     while i < last {
-        if !kernel_advances(rules, kernels, starts, table, state, i) {
+        if !kernel_advances(rules, kernels, bounds, table, state, i) {
             return false;
         }
         i += 1;
@@ -137,36 +137,36 @@ fn kernels_advance(
 fn rule_advances(
     rules: &[u32],
     kernels: &[u32],
-    starts: &[u32],
+    bounds: &[u32],
     closures: &[u32],
     table: &[u8],
     state: usize,
     rule: usize,
 ) -> bool
-    requires { ⌜ ((b : Book) × (F : Sets) × AutomatonIn b F (now rules) (now kernels) (now starts) (now closures) (now table) × Stands b state rule 0) ⌝ }
-    ensures { λ r. ⌜ ((b : Book) (F : Sets) → AutomatonIn b F (now (rules .entry)) (now (kernels .entry)) (now (starts .entry)) (now (closures .entry))
+    requires { ⌜ ((b : Book) × (F : Sets) × AutomatonIn b F (now rules) (now kernels) (now bounds) (now closures) (now table) × Stands b state rule 0) ⌝ }
+    ensures { λ r. ⌜ ((b : Book) (F : Sets) → AutomatonIn b F (now (rules .entry)) (now (kernels .entry)) (now (bounds .entry)) (now (closures .entry))
         (now (table .entry)) → Stands b state rule 0 → r ≡ ruleAdvances b F state rule) ⌝ }
 {
     let set = closures[32 * state + word(rules, 10 * rule)];
     if set == 0 {
         return true;
     }
-    advances(rules, kernels, starts, table, state, rule, 0, set)
+    advances(rules, kernels, bounds, table, state, rule, 0, set)
 }
 
 // Whether all rules do. A pass goes from one that the closure has to the next.
 fn rules_advance(
     rules: &[u32],
     kernels: &[u32],
-    starts: &[u32],
+    bounds: &[u32],
     closures: &[u32],
     table: &[u8],
     fronts: &[u64],
     state: usize,
 ) -> bool
-    requires { ⌜ ((b : Book) × (F : Sets) × AutomatonIn b F (now rules) (now kernels) (now starts) (now closures) (now table)
+    requires { ⌜ ((b : Book) × (F : Sets) × AutomatonIn b F (now rules) (now kernels) (now bounds) (now closures) (now table)
         × (state < b .states) × FrontsIn b (now rules) (now closures) (now fronts)) ⌝ }
-    ensures { λ r. ⌜ ((b : Book) (F : Sets) → AutomatonIn b F (now (rules .entry)) (now (kernels .entry)) (now (starts .entry)) (now (closures .entry))
+    ensures { λ r. ⌜ ((b : Book) (F : Sets) → AutomatonIn b F (now (rules .entry)) (now (kernels .entry)) (now (bounds .entry)) (now (closures .entry))
         (now (table .entry)) → state < b .states → FrontsIn b (now (rules .entry)) (now (closures .entry)) (now (fronts .entry))
         → r ≡ allAdvance b state (ofRules (b .rules) (closureSets b F state) (length (b .rules)))) ⌝ }
 {
@@ -175,7 +175,7 @@ fn rules_advance(
     while rest != 0 {
         let gap = least(rest);
         rule += gap as usize;
-        if !rule_advances(rules, kernels, starts, closures, table, state, rule) {
+        if !rule_advances(rules, kernels, bounds, closures, table, state, rule) {
             return false;
         }
         rest = behind(rest, gap);
@@ -188,44 +188,44 @@ fn rules_advance(
 fn state_advances(
     rules: &[u32],
     kernels: &[u32],
-    starts: &[u32],
+    bounds: &[u32],
     closures: &[u32],
     table: &[u8],
     fronts: &[u64],
     state: usize,
 ) -> bool
-    requires { ⌜ ((b : Book) × (F : Sets) × AutomatonIn b F (now rules) (now kernels) (now starts) (now closures) (now table)
+    requires { ⌜ ((b : Book) × (F : Sets) × AutomatonIn b F (now rules) (now kernels) (now bounds) (now closures) (now table)
         × (state < b .states) × FrontsIn b (now rules) (now closures) (now fronts)) ⌝ }
-    ensures { λ r. ⌜ ((b : Book) (F : Sets) → AutomatonIn b F (now (rules .entry)) (now (kernels .entry)) (now (starts .entry)) (now (closures .entry))
+    ensures { λ r. ⌜ ((b : Book) (F : Sets) → AutomatonIn b F (now (rules .entry)) (now (kernels .entry)) (now (bounds .entry)) (now (closures .entry))
         (now (table .entry)) → state < b .states → FrontsIn b (now (rules .entry)) (now (closures .entry)) (now (fronts .entry))
         → r ≡ allAdvance b state (coreItems b F state)) ⌝ }
 {
-    if !kernels_advance(rules, kernels, starts, table, state) {
+    if !kernels_advance(rules, kernels, bounds, table, state) {
         return false;
     }
-    rules_advance(rules, kernels, starts, closures, table, fronts, state)
+    rules_advance(rules, kernels, bounds, closures, table, fronts, state)
 }
 
 // Whether all items of all states do.
 fn states_advance(
     rules: &[u32],
     kernels: &[u32],
-    starts: &[u32],
+    bounds: &[u32],
     closures: &[u32],
     table: &[u8],
     fronts: &[u64],
     states: usize,
 ) -> bool
-    requires { ⌜ ((b : Book) × (F : Sets) × AutomatonIn b F (now rules) (now kernels) (now starts) (now closures) (now table)
+    requires { ⌜ ((b : Book) × (F : Sets) × AutomatonIn b F (now rules) (now kernels) (now bounds) (now closures) (now table)
         × (states ≡ b .states) × FrontsIn b (now rules) (now closures) (now fronts)) ⌝ }
-    ensures { λ r. ⌜ ((b : Book) (F : Sets) → AutomatonIn b F (now (rules .entry)) (now (kernels .entry)) (now (starts .entry)) (now (closures .entry))
+    ensures { λ r. ⌜ ((b : Book) (F : Sets) → AutomatonIn b F (now (rules .entry)) (now (kernels .entry)) (now (bounds .entry)) (now (closures .entry))
         (now (table .entry)) → states ≡ b .states → FrontsIn b (now (rules .entry)) (now (closures .entry)) (now (fronts .entry))
         → r ≡ statesAdvance b (coreItems b F) states) ⌝ }
 {
     let mut state = states;
     while state > 0 {
         state -= 1;
-        if !state_advances(rules, kernels, starts, closures, table, fronts, state) {
+        if !state_advances(rules, kernels, bounds, closures, table, fronts, state) {
             return false;
         }
     }
@@ -236,14 +236,14 @@ fn states_advance(
 fn has_item(
     rules: &[u32],
     kernels: &[u32],
-    starts: &[u32],
+    bounds: &[u32],
     closures: &[u32],
     state: usize,
     rule: usize,
     dot: usize,
 ) -> bool
-    requires { ⌜ ((b : Book) × (F : Sets) × ItemsIn b F (now rules) (now kernels) (now starts) (now closures) × Stands b state rule dot) ⌝ }
-    ensures { λ r. ⌜ ((b : Book) (F : Sets) → ItemsIn b F (now (rules .entry)) (now (kernels .entry)) (now (starts .entry)) (now (closures .entry))
+    requires { ⌜ ((b : Book) × (F : Sets) × ItemsIn b F (now rules) (now kernels) (now bounds) (now closures) × Stands b state rule dot) ⌝ }
+    ensures { λ r. ⌜ ((b : Book) (F : Sets) → ItemsIn b F (now (rules .entry)) (now (kernels .entry)) (now (bounds .entry)) (now (closures .entry))
         → Stands b state rule dot → r ≡ someItem rule dot (coreItems b F state)) ⌝ }
 {
     if dot == 0 {
@@ -251,8 +251,8 @@ fn has_item(
             return true;
         }
     }
-    let first = word(starts, state);
-    let last = word(starts, state + 1);
+    let first = word(bounds, state);
+    let last = word(bounds, state + 1);
     holds_item(kernels, first, last, rule, dot, sets::empty())
 }
 
@@ -260,15 +260,15 @@ fn has_item(
 fn comes(
     rules: &[u32],
     kernels: &[u32],
-    starts: &[u32],
+    bounds: &[u32],
     closures: &[u32],
     state: usize,
     symbol: usize,
     rule: usize,
     dot: usize,
 ) -> bool
-    requires { ⌜ ((b : Book) × (F : Sets) × ItemsIn b F (now rules) (now kernels) (now starts) (now closures) × Stands b state rule dot) ⌝ }
-    ensures { λ r. ⌜ ((b : Book) (F : Sets) (X : Symbol) → ItemsIn b F (now (rules .entry)) (now (kernels .entry)) (now (starts .entry)) (now (closures .entry))
+    requires { ⌜ ((b : Book) × (F : Sets) × ItemsIn b F (now rules) (now kernels) (now bounds) (now closures) × Stands b state rule dot) ⌝ }
+    ensures { λ r. ⌜ ((b : Book) (F : Sets) (X : Symbol) → ItemsIn b F (now (rules .entry)) (now (kernels .entry)) (now (bounds .entry)) (now (closures .entry))
         → Stands b state rule dot → GoSymbol b X → symbol ≡ symbolCode X → r ≡ lineComes (b .rules) X (coreItems b F state) rule dot) ⌝ }
 {
     if dot == 0 {
@@ -277,50 +277,50 @@ fn comes(
     if word(rules, 10 * rule + 1 + dot) != symbol {
         return false;
     }
-    has_item(rules, kernels, starts, closures, state, rule, dot - 1)
+    has_item(rules, kernels, bounds, closures, state, rule, dot - 1)
 }
 
 // Whether kernel line i is.
 fn kernel_comes(
     rules: &[u32],
     kernels: &[u32],
-    starts: &[u32],
+    bounds: &[u32],
     closures: &[u32],
     state: usize,
     symbol: usize,
     i: usize,
 ) -> bool
-    requires { ⌜ ((b : Book) × (F : Sets) × ItemsIn b F (now rules) (now kernels) (now starts) (now closures)
+    requires { ⌜ ((b : Book) × (F : Sets) × ItemsIn b F (now rules) (now kernels) (now bounds) (now closures)
         × (state < b .states) × (i < length (b .kernels))) ⌝ }
-    ensures { λ r. ⌜ ((b : Book) (F : Sets) (X : Symbol) → ItemsIn b F (now (rules .entry)) (now (kernels .entry)) (now (starts .entry)) (now (closures .entry))
+    ensures { λ r. ⌜ ((b : Book) (F : Sets) (X : Symbol) → ItemsIn b F (now (rules .entry)) (now (kernels .entry)) (now (bounds .entry)) (now (closures .entry))
         → state < b .states → i < length (b .kernels) → GoSymbol b X → symbol ≡ symbolCode X
         → r ≡ lineComes (b .rules) X (coreItems b F state) (kernelAt (b .kernels) i .rule) (kernelAt (b .kernels) i .dot)) ⌝ }
 {
     let rule = word(kernels, 5 * i + 1);
     let dot = word(kernels, 5 * i + 2);
-    comes(rules, kernels, starts, closures, state, symbol, rule, dot)
+    comes(rules, kernels, bounds, closures, state, symbol, rule, dot)
 }
 
 // Whether the kernel lines from `first` up to `last` all are.
 fn all_come(
     rules: &[u32],
     kernels: &[u32],
-    starts: &[u32],
+    bounds: &[u32],
     closures: &[u32],
     state: usize,
     symbol: usize,
     first: usize,
     last: usize,
 ) -> bool
-    requires { ⌜ ((b : Book) × (F : Sets) × ItemsIn b F (now rules) (now kernels) (now starts) (now closures)
+    requires { ⌜ ((b : Book) × (F : Sets) × ItemsIn b F (now rules) (now kernels) (now bounds) (now closures)
         × (state < b .states) × (first ≤ last) × (last ≤ length (b .kernels))) ⌝ }
-    ensures { λ r. ⌜ ((b : Book) (F : Sets) (X : Symbol) → ItemsIn b F (now (rules .entry)) (now (kernels .entry)) (now (starts .entry)) (now (closures .entry))
+    ensures { λ r. ⌜ ((b : Book) (F : Sets) (X : Symbol) → ItemsIn b F (now (rules .entry)) (now (kernels .entry)) (now (bounds .entry)) (now (closures .entry))
         → state < b .states → last ≤ length (b .kernels) → GoSymbol b X → symbol ≡ symbolCode X
         → r ≡ allCome (b .rules) X (coreItems b F state) (slice first last (b .kernels))) ⌝ }
 {
     let mut i = first;
     while i < last {
-        if !kernel_comes(rules, kernels, starts, closures, state, symbol, i) {
+        if !kernel_comes(rules, kernels, bounds, closures, state, symbol, i) {
             return false;
         }
         i += 1;
@@ -333,24 +333,24 @@ fn line_comes(
     rules: &[u32],
     kernels: &[u32],
     goes: &[u32],
-    starts: &[u32],
+    bounds: &[u32],
     closures: &[u32],
     i: usize,
 ) -> bool
-    requires { ⌜ ((b : Book) × (F : Sets) × ItemsIn b F (now rules) (now kernels) (now starts) (now closures)
+    requires { ⌜ ((b : Book) × (F : Sets) × ItemsIn b F (now rules) (now kernels) (now bounds) (now closures)
         × GoesIn (b .goes) (now goes) × (i < length (b .goes))) ⌝ }
-    ensures { λ r. ⌜ ((b : Book) (F : Sets) → ItemsIn b F (now (rules .entry)) (now (kernels .entry)) (now (starts .entry)) (now (closures .entry))
+    ensures { λ r. ⌜ ((b : Book) (F : Sets) → ItemsIn b F (now (rules .entry)) (now (kernels .entry)) (now (bounds .entry)) (now (closures .entry))
         → GoesIn (b .goes) (now (goes .entry)) → i < length (b .goes) → r ≡ goComes b (coreItems b F) (goAt (b .goes) i)) ⌝ }
 {
     let state = word(goes, 3 * i);
     let symbol = word(goes, 3 * i + 1);
     let target = word(goes, 3 * i + 2);
-    let first = word(starts, target);
-    let last = word(starts, target + 1);
+    let first = word(bounds, target);
+    let last = word(bounds, target + 1);
     if first == last {
         return false;
     }
-    all_come(rules, kernels, starts, closures, state, symbol, first, last)
+    all_come(rules, kernels, bounds, closures, state, symbol, first, last)
 }
 
 // Whether this holds of all go lines.
@@ -358,18 +358,18 @@ fn lines_come(
     rules: &[u32],
     kernels: &[u32],
     goes: &[u32],
-    starts: &[u32],
+    bounds: &[u32],
     closures: &[u32],
     count: usize,
 ) -> bool
-    requires { ⌜ ((b : Book) × (F : Sets) × ItemsIn b F (now rules) (now kernels) (now starts) (now closures)
+    requires { ⌜ ((b : Book) × (F : Sets) × ItemsIn b F (now rules) (now kernels) (now bounds) (now closures)
         × GoesIn (b .goes) (now goes) × (count ≡ length (b .goes))) ⌝ }
-    ensures { λ r. ⌜ ((b : Book) (F : Sets) → ItemsIn b F (now (rules .entry)) (now (kernels .entry)) (now (starts .entry)) (now (closures .entry))
+    ensures { λ r. ⌜ ((b : Book) (F : Sets) → ItemsIn b F (now (rules .entry)) (now (kernels .entry)) (now (bounds .entry)) (now (closures .entry))
         → GoesIn (b .goes) (now (goes .entry)) → count ≡ length (b .goes) → r ≡ goLines b (coreItems b F) (b .goes)) ⌝ }
 {
     let mut i = 0;
     while i < count {
-        if !line_comes(rules, kernels, goes, starts, closures, i) {
+        if !line_comes(rules, kernels, goes, bounds, closures, i) {
             return false;
         }
         i += 1;
@@ -384,21 +384,21 @@ pub fn go_rules(
     goes: &[u32],
     lines: u32,
     states: u32,
-    starts: &[u32],
+    bounds: &[u32],
     closures: &[u32],
     table: &[u8],
     fronts: &[u64],
 ) -> bool
-    requires { ⌜ ((b : Book) × (F : Sets) × AutomatonIn b F (now rules) (now kernels) (now starts) (now closures) (now table) × GoesIn (b .goes) (now goes)
+    requires { ⌜ ((b : Book) × (F : Sets) × AutomatonIn b F (now rules) (now kernels) (now bounds) (now closures) (now table) × GoesIn (b .goes) (now goes)
         × (lines ≡ length (b .goes)) × (states ≡ b .states) × FrontsIn b (now rules) (now closures) (now fronts)) ⌝ }
-    ensures { λ r. ⌜ ((b : Book) (F : Sets) → AutomatonIn b F (now (rules .entry)) (now (kernels .entry)) (now (starts .entry)) (now (closures .entry))
+    ensures { λ r. ⌜ ((b : Book) (F : Sets) → AutomatonIn b F (now (rules .entry)) (now (kernels .entry)) (now (bounds .entry)) (now (closures .entry))
         (now (table .entry)) → GoesIn (b .goes) (now (goes .entry)) → lines ≡ length (b .goes) → states ≡ b .states
         → FrontsIn b (now (rules .entry)) (now (closures .entry)) (now (fronts .entry)) → r ≡ goRules b (itemsAt b (itemsTable b F))) ⌝ }
 {
     if !states_advance(
         rules,
         kernels,
-        starts,
+        bounds,
         closures,
         table,
         fronts,
@@ -406,5 +406,5 @@ pub fn go_rules(
     ) {
         return false;
     }
-    lines_come(rules, kernels, goes, starts, closures, lines as usize)
+    lines_come(rules, kernels, goes, bounds, closures, lines as usize)
 }

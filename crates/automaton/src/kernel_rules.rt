@@ -78,11 +78,11 @@ fn line_right(rules: &[u32], kernels: &[u32], i: usize) -> bool
     state == last + 1
 }
 
-// Whether every kernel line behind the first may stand there; `starts` is filled as far as the lines go.
-fn lines_right(rules: &[u32], kernels: &[u32], count: usize, starts: &mut [u32]) -> bool
-    requires { ⌜ ((b : Book) × RuledIn b (now rules) (now kernels) count × Walked b (now starts) 1) ⌝ }
-    ensures { λ r. ⌜ ((b : Book) → RuledIn b (now (rules .entry)) (now (kernels .entry)) count → Walked b (now (starts .entry)) 1
-        → Walks b r (now (starts .exit))) ⌝ }
+// Whether every kernel line behind the first may stand there; `bounds` is filled as far as the lines go.
+fn lines_right(rules: &[u32], kernels: &[u32], count: usize, bounds: &mut [u32]) -> bool
+    requires { ⌜ ((b : Book) × RuledIn b (now rules) (now kernels) count × Walked b (now bounds) 1) ⌝ }
+    ensures { λ r. ⌜ ((b : Book) → RuledIn b (now (rules .entry)) (now (kernels .entry)) count → Walked b (now (bounds .entry)) 1
+        → Walks b r (now (bounds .exit))) ⌝ }
 {
     let mut i = 1;
     while i < count {
@@ -90,23 +90,23 @@ fn lines_right(rules: &[u32], kernels: &[u32], count: usize, starts: &mut [u32])
             return false;
         }
         let state = word(kernels, 5 * i);
-        starts[state + 1] = (i + 1) as u32;
+        bounds[state + 1] = (i + 1) as u32;
         i += 1;
     }
     true
 }
 
-// Condition 7. If it holds, `starts` is filled: the lines of state S stand from word S up to word S + 1.
+// Condition 7. If it holds, `bounds` is filled: the lines of state S stand from word S up to word S + 1.
 pub fn kernel_rules(
     rules: &[u32],
     kernels: &[u32],
     count: u32,
     states: u32,
-    starts: &mut [u32],
+    bounds: &mut [u32],
 ) -> bool
-    requires { ⌜ ((b : Book) × RuledIn b (now rules) (now kernels) count × (states ≡ b .states)) × (states + 1 ≤ length (now starts)) ⌝ }
+    requires { ⌜ ((b : Book) × RuledIn b (now rules) (now kernels) count × (states ≡ b .states)) × (states + 1 ≤ length (now bounds)) ⌝ }
     ensures { λ r. ⌜ ((b : Book) → RuledIn b (now (rules .entry)) (now (kernels .entry)) count → states ≡ b .states
-        → Ruled b r (now (starts .exit))) ⌝ }
+        → Ruled b r (now (bounds .exit))) ⌝ }
 {
     if count == 0 {
         return false;
@@ -114,9 +114,9 @@ pub fn kernel_rules(
     if !start_line(kernels) {
         return false;
     }
-    starts[0] = 0;
-    starts[1] = 1;
-    if !lines_right(rules, kernels, count as usize, starts) {
+    bounds[0] = 0;
+    bounds[1] = 1;
+    if !lines_right(rules, kernels, count as usize, bounds) {
         return false;
     }
     word(kernels, 5 * (count as usize - 1)) + 1 == states as usize

@@ -37,18 +37,18 @@ use Rattle.compiler.specs.Prepared.{BookReady, Prepared, orElse, orElse-
 
 -- a book's refusal r is told, and it is ready where there is none
 pub record Checked (r : ℕ) (numbers : Book) (inherited synthesized rules definitions kernels goes : List ℕ)
-    (vanishes reached starts closures table actions : List ℕ) (b : Lines) : Type 0 where
+    (nullables reaches bounds closures table actions : List ℕ) (b : Lines) : Type 0 where
   pub told : r ≡ bookRefusal b
-  pub ready : r ≡ 0 → BookReady numbers inherited synthesized rules definitions kernels goes vanishes reached starts closures table actions b
+  pub ready : r ≡ 0 → BookReady numbers inherited synthesized rules definitions kernels goes nullables reaches bounds closures table actions b
 
 -- the same of a text, where nothing of it was left out for want of room; where there is room for all, nothing is
 pub record Compiles (room : Room) (text : List ℕ) (complete : Bool) (r : ℕ) (numbers : Book) (inherited synthesized rules definitions kernels goes : List ℕ)
-    (vanishes reached starts closures table actions : List ℕ) : Type 0 where
+    (nullables reaches bounds closures table actions : List ℕ) : Type 0 where
   pub left-out : complete ≡ false → Complete room numbers → ⊥
   pub fits : complete ≡ true → r ≡ 0 → Complete room numbers
   pub told : complete ≡ true → r ≡ refusal text
   pub ready : complete ≡ true → r ≡ 0 → (b : Lines) → parseBook text ≡ some b
-      → BookReady numbers inherited synthesized rules definitions kernels goes vanishes reached starts closures table actions b
+      → BookReady numbers inherited synthesized rules definitions kernels goes nullables reaches bounds closures table actions b
 
 -- ---- the refusal of a book
 
@@ -79,11 +79,11 @@ formulas-later {refusal = suc m} right n = refl
 
 -- ---- the answer, by what the steps told
 
-module _ {numbers : Book} {inherited synthesized rules definitions kernels goes : List ℕ} {vanishes reached starts closures table actions : List ℕ}
+module _ {numbers : Book} {inherited synthesized rules definitions kernels goes : List ℕ} {nullables reaches bounds closures table actions : List ℕ}
     {b : Lines} where
   -- what the formulas are made of
-  pub asked-formulas : (h : BookReady numbers inherited synthesized rules definitions kernels goes vanishes reached starts closures table actions b)
-      → FormulasHeld b rules (numbers .rules) definitions (numbers .«inherited_definitions») kernels starts closures vanishes (h .begins) reached
+  pub asked-formulas : (h : BookReady numbers inherited synthesized rules definitions kernels goes nullables reaches bounds closures table actions b)
+      → FormulasHeld b rules (numbers .rules) definitions (numbers .«inherited_definitions») kernels bounds closures nullables (h .begins) reaches
       (numbers .terminals) (numbers .states)
   asked-formulas h = let n = counted b (h .numbers-are) in
       record {
@@ -111,29 +111,29 @@ module _ {numbers : Book} {inherited synthesized rules definitions kernels goes 
 
   -- with the rules of each state's closure
   pub asked-fronts : {fronts : List ℕ}
-      → (h : BookReady numbers inherited synthesized rules definitions kernels goes vanishes reached starts closures table actions b)
+      → (h : BookReady numbers inherited synthesized rules definitions kernels goes nullables reaches bounds closures table actions b)
       → FrontsIn b rules closures fronts
-      → FrontsHeld b rules (numbers .rules) definitions (numbers .«inherited_definitions») kernels starts closures fronts vanishes (h .begins) reached
+      → FrontsHeld b rules (numbers .rules) definitions (numbers .«inherited_definitions») kernels bounds closures fronts nullables (h .begins) reaches
       (numbers .terminals) (numbers .states)
   asked-fronts h W = record { formulas-held = asked-formulas h; fronts-in = W }
 
-  pub attributes-counted : BookReady numbers inherited synthesized rules definitions kernels goes vanishes reached starts closures table actions b
+  pub attributes-counted : BookReady numbers inherited synthesized rules definitions kernels goes nullables reaches bounds closures table actions b
       → numbers .inherited ≡ length (b .inheritedOwners)
   attributes-counted h = counted b (h .numbers-are) .inherited-are
 
-  pub rules-few : BookReady numbers inherited synthesized rules definitions kernels goes vanishes reached starts closures table actions b
+  pub rules-few : BookReady numbers inherited synthesized rules definitions kernels goes nullables reaches bounds closures table actions b
       → numbers .rules ≤ MAX-RULES
   rules-few h = omega (arith, counted b (h .numbers-are) .rules-are, h .conditions-met .limits .rules-limit .high)
 
   module _ {first : ℕ} {fronts : List ℕ}
-      (p : Prepared first numbers inherited synthesized rules definitions kernels goes vanishes reached starts closures fronts table actions b) where
+      (p : Prepared first numbers inherited synthesized rules definitions kernels goes nullables reaches bounds closures fronts table actions b) where
     pub checked-refused : (first ≡ 0 → ⊥)
-        → Checked first numbers inherited synthesized rules definitions kernels goes vanishes reached starts closures table actions b
+        → Checked first numbers inherited synthesized rules definitions kernels goes nullables reaches bounds closures table actions b
     checked-refused n = record { told = p .told ∙ sym (book-refusal b ∙ formulas-later (formulasRight b) (λ e. n (p .told ∙ e))); ready = λ z. absurd (n z) }
 
     module _ (none : first ≡ 0) {right : Bool} (right-is : right ≡ formulasRight b) where
       pub checked-formulas : right ≡ false
-          → Checked 10 numbers inherited synthesized rules definitions kernels goes vanishes reached starts closures table actions b
+          → Checked 10 numbers inherited synthesized rules definitions kernels goes nullables reaches bounds closures table actions b
       unfolding withFormulas
       checked-formulas f = record {
         told = sym (book-refusal b ∙ rw (sym (p .told) ∙ none, sym right-is ∙ f));
@@ -141,7 +141,7 @@ module _ {numbers : Book} {inherited synthesized rules definitions kernels goes 
       }
 
       pub checked-all : right ≡ true
-          → Checked 0 numbers inherited synthesized rules definitions kernels goes vanishes reached starts closures table actions b
+          → Checked 0 numbers inherited synthesized rules definitions kernels goes nullables reaches bounds closures table actions b
       unfolding withFormulas
       checked-all f = record { told = sym (book-refusal b ∙ rw (sym (p .told) ∙ none, sym right-is ∙ f)); ready = λ z. p .ready none }
 
@@ -159,9 +159,9 @@ book-refused text b e = rw (e, refusal)
 
 module _ {text : List ℕ} {before stored : Arrays} {spelled : Bool} {numbers : Book} (room : Room)
     (s : Spelling room text before spelled numbers stored) where
-  compiles-misspelt : {vanishes reached starts closures table actions : List ℕ} → spelled ≡ false
+  compiles-misspelt : {nullables reaches bounds closures table actions : List ℕ} → spelled ≡ false
       → Compiles room text true 2 numbers (stored .inherited) (stored .synthesized) (stored .rules) (stored .definitions) (stored .kernels) (stored .goes)
-      vanishes reached starts closures table actions
+      nullables reaches bounds closures table actions
   compiles-misspelt h = record {
     left-out = λ e. absurd (false≢true (sym e));
     fits = λ _ z. absurd (omega arith);
@@ -170,15 +170,15 @@ module _ {text : List ℕ} {before stored : Arrays} {spelled : Bool} {numbers : 
   }
 
   -- the text is misspelt, or something was left out
-  pub compiles-unread : {whole : Bool} {vanishes reached starts closures table actions : List ℕ} → Decides whole (Complete room numbers)
+  pub compiles-unread : {whole : Bool} {nullables reaches bounds closures table actions : List ℕ} → Decides whole (Complete room numbers)
       → spelled && whole ≡ false
       → Compiles room text (not spelled) 2 numbers (stored .inherited) (stored .synthesized) (stored .rules) (stored .definitions) (stored .kernels)
-      (stored .goes) vanishes reached starts closures table actions
-  compiles-unread {whole} {vanishes} {reached} {starts} {closures} {table} {actions} d e = go spelled refl whole refl
+      (stored .goes) nullables reaches bounds closures table actions
+  compiles-unread {whole} {nullables} {reaches} {bounds} {closures} {table} {actions} d e = go spelled refl whole refl
     where
       go : (t : Bool) → spelled ≡ t → (u : Bool) → whole ≡ u
           → Compiles room text (not spelled) 2 numbers (stored .inherited) (stored .synthesized) (stored .rules) (stored .definitions) (stored .kernels)
-          (stored .goes) vanishes reached starts closures table actions
+          (stored .goes) nullables reaches bounds closures table actions
       go false p u q = rw p (compiles-misspelt p)
       go true p false q = rw p (record {
         left-out = λ _. refutes (rw q at d);
@@ -198,13 +198,13 @@ module _ {text : List ℕ} {before stored : Arrays} {spelled : Bool} {numbers : 
         × BookKept numbers (stored .inherited) (stored .synthesized) (stored .rules) (stored .definitions) (stored .kernels) (stored .goes) b
     read-some h = spelled-got room s h λ b e. (b, read-kept b e)
 
-    pub compiles-checked : {r : ℕ} {vanishes reached starts closures table actions : List ℕ} → spelled ≡ true
+    pub compiles-checked : {r : ℕ} {nullables reaches bounds closures table actions : List ℕ} → spelled ≡ true
         → ((b : Lines)
         → BookKept numbers (stored .inherited) (stored .synthesized) (stored .rules) (stored .definitions) (stored .kernels) (stored .goes) b
         → Checked r numbers (stored .inherited) (stored .synthesized) (stored .rules) (stored .definitions) (stored .kernels) (stored .goes)
-        vanishes reached starts closures table actions b)
+        nullables reaches bounds closures table actions b)
         → Compiles room text true r numbers (stored .inherited) (stored .synthesized) (stored .rules) (stored .definitions) (stored .kernels) (stored .goes)
-        vanishes reached starts closures table actions
+        nullables reaches bounds closures table actions
     compiles-checked h c = spelled-got room s h λ b e.
         record {
           left-out = λ f. absurd (false≢true (sym f));

@@ -41,27 +41,27 @@ preparedRefusal b = orElse (conditionsRefusal b) (tablesRefusal b)
 -- the book is within its limits, so that all of its lines are in the arrays, and its tables are filled; that of what begins the rests of rules is not said
 -- to be in an array still
 pub record BookReady (numbers : Book) (inherited synthesized rules definitions kernels goes : List ℕ)
-    (vanishes reached starts closures table actions : List ℕ) (b : Lines) : Type 0 where
+    (nullables reaches bounds closures table actions : List ℕ) (b : Lines) : Type 0 where
   pub begins : List ℕ
   pub numbers-are : numbers ≡ countsOf b
   pub ordered : Ordered b
   pub conditions-met : Met b
   pub kernel-rules : KernelRules b
   pub arrays-in : Held b inherited synthesized rules definitions kernels goes
-  pub tables-in : TablesIn b vanishes begins reached starts closures table actions
+  pub tables-in : TablesIn b nullables begins reaches bounds closures table actions
 
 -- the refusal r is told, and the book is ready where there is none, with the rules of each state's closure
 pub record Prepared (r : ℕ) (numbers : Book) (inherited synthesized rules definitions kernels goes : List ℕ)
-    (vanishes reached starts closures fronts table actions : List ℕ) (b : Lines) : Type 0 where
+    (nullables reaches bounds closures fronts table actions : List ℕ) (b : Lines) : Type 0 where
   pub told : r ≡ preparedRefusal b
-  pub ready : r ≡ 0 → BookReady numbers inherited synthesized rules definitions kernels goes vanishes reached starts closures table actions b
+  pub ready : r ≡ 0 → BookReady numbers inherited synthesized rules definitions kernels goes nullables reaches bounds closures table actions b
   pub fronts-in : r ≡ 0 → FrontsIn b rules closures fronts
 
 module _ {numbers : Book} {inherited synthesized rules definitions kernels goes : List ℕ} {b : Lines}
     (h : BookKept numbers inherited synthesized rules definitions kernels goes b) {first : ℕ} (told : first ≡ conditionsRefusal b) where
   -- one of 3 to 6 applies
-  pub prepared-refused : {vanishes reached starts closures fronts table actions : List ℕ} → (first ≡ 0 → ⊥)
-      → Prepared first numbers inherited synthesized rules definitions kernels goes vanishes reached starts closures fronts table actions b
+  pub prepared-refused : {nullables reaches bounds closures fronts table actions : List ℕ} → (first ≡ 0 → ⊥)
+      → Prepared first numbers inherited synthesized rules definitions kernels goes nullables reaches bounds closures fronts table actions b
   prepared-refused n = record {
     told = sym (orElse-some (tablesRefusal b) (λ e. n (told ∙ e)) ∙ sym told);
     ready = λ z. absurd (n z);
@@ -101,9 +101,9 @@ module _ {numbers : Book} {inherited synthesized rules definitions kernels goes 
         go true e = kernelRules-decides (well-named (h .ordered) (all-met .limits) (all-met .names)) .sound e
         go false e = absurd (omega (arith, sym (kernels-refused b e) ∙ z))
 
-    pub prepared-tables : {r : ℕ} {vanishes begins reached starts closures fronts table actions : List ℕ}
-        → Tabled b r rules vanishes begins reached starts closures fronts table actions
-        → Prepared r numbers inherited synthesized rules definitions kernels goes vanishes reached starts closures fronts table actions b
+    pub prepared-tables : {r : ℕ} {nullables begins reaches bounds closures fronts table actions : List ℕ}
+        → Tabled b r rules nullables begins reaches bounds closures fronts table actions
+        → Prepared r numbers inherited synthesized rules definitions kernels goes nullables reaches bounds closures fronts table actions b
     prepared-tables {begins = begins} t = record {
       told = t .told ∙ sym (orElse-none (tablesRefusal b) (sym told ∙ none));
       ready = λ z. record {

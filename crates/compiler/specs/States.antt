@@ -19,7 +19,7 @@ use Rattle.book.specs.declared.Book.{Book as Counts}
 use Rattle.book.specs.declared.Room.{Room}
 use Rattle.book.specs.Held.{RulesIn, KernelsIn, GoesIn}
 use Rattle.book.specs.Spelling.{Complete}
-use Rattle.items.specs.Arrays.{SuffixesIn, StartsIn, ClosuresIn, GoTableIn, ActionsIn}
+use Rattle.items.specs.Arrays.{SuffixesIn, BoundsIn, ClosuresIn, GoTableIn, ActionsIn}
 use Rattle.items.specs.Closures.{StateItemsIn, Blank}
 use Rattle.automaton.specs.KernelRules.{RuledIn}
 use Rattle.items.specs.GrammarIn.{GrammarIn}
@@ -66,47 +66,47 @@ tablesRefusal b =
     ]
 
 -- the sets of the rules' rests, and the closures
-pub record ItemsFilled (b : Book) (vanishes begins reached closures : List ℕ) : Type 0 where
-  pub rests-in : RestSetsIn (b .rules) vanishes begins reached
+pub record ItemsFilled (b : Book) (nullables begins reaches closures : List ℕ) : Type 0 where
+  pub rests-in : RestSetsIn (b .rules) nullables begins reaches
   pub closures-in : ClosuresIn b (setsOf (b .rules)) closures
 
 -- with where the kernel lines of each state begin, the go table and the actions
-pub record TablesIn (b : Book) (vanishes begins reached starts closures table actions : List ℕ) : Type 0 where
-  pub items-filled : ItemsFilled b vanishes begins reached closures
-  pub starts-in : StartsIn (b .kernels) (b .states) starts
+pub record TablesIn (b : Book) (nullables begins reaches bounds closures table actions : List ℕ) : Type 0 where
+  pub items-filled : ItemsFilled b nullables begins reaches closures
+  pub starts-in : BoundsIn (b .kernels) (b .states) bounds
   pub table-in : GoTableIn b table
   pub actions-in : ActionsIn b (setsOf (b .rules)) actions
 
 -- the arrays as they are lent, with room for the rules and the states of a book within the limits
-pub record TablesRoom (rules states : ℕ) (vanishes begins reached starts closures fronts table actions : List ℕ) : Type 0 where
-  pub vanishes-long : rules ≤ MAX-RULES → 9 * rules ≤ length vanishes
+pub record TablesRoom (rules states : ℕ) (nullables begins reaches bounds closures fronts table actions : List ℕ) : Type 0 where
+  pub nullables-long : rules ≤ MAX-RULES → 9 * rules ≤ length nullables
   pub begins-long : rules ≤ MAX-RULES → 9 * rules ≤ length begins
-  pub reached-long : rules ≤ MAX-RULES → 9 * rules ≤ length reached
-  pub starts-long : states ≤ MAX-STATES → states + 1 ≤ length starts
+  pub reaches-long : rules ≤ MAX-RULES → 9 * rules ≤ length reaches
+  pub starts-long : states ≤ MAX-STATES → states + 1 ≤ length bounds
   pub closures-blank : states ≤ MAX-STATES → Blank states closures
   pub fronts-long : states ≤ MAX-STATES → states ≤ length fronts
   pub table-unset : states ≤ MAX-STATES → Unset states table
   pub actions-long : states ≤ MAX-STATES → 32 * states ≤ length actions
 
 -- the same, with as much room as is said
-pub record TablesLent (room : Room) (vanishes begins reached starts closures fronts table actions : List ℕ) : Type 0 where
-  pub vanishes-long : 9 * room .rules ≤ length vanishes
+pub record TablesLent (room : Room) (nullables begins reaches bounds closures fronts table actions : List ℕ) : Type 0 where
+  pub nullables-long : 9 * room .rules ≤ length nullables
   pub begins-long : 9 * room .rules ≤ length begins
-  pub reached-long : 9 * room .rules ≤ length reached
-  pub starts-long : room .states + 1 ≤ length starts
+  pub reaches-long : 9 * room .rules ≤ length reaches
+  pub starts-long : room .states + 1 ≤ length bounds
   pub closures-none : closures ≡ replicate (32 * room .states) 0
   pub fronts-long : room .states ≤ length fronts
   pub table-unset : Unset (room .states) table
   pub actions-long : 32 * room .states ≤ length actions
 
 -- actions may be written over before they are filled
-pub actions-kept : {room : Room} {vanishes begins reached starts closures fronts table actions new : List ℕ} → length new ≡ length actions
-    → TablesLent room vanishes begins reached starts closures fronts table actions
-    → TablesLent room vanishes begins reached starts closures fronts table new
+pub actions-kept : {room : Room} {nullables begins reaches bounds closures fronts table actions new : List ℕ} → length new ≡ length actions
+    → TablesLent room nullables begins reaches bounds closures fronts table actions
+    → TablesLent room nullables begins reaches bounds closures fronts table new
 actions-kept e t = record {
-  vanishes-long = t .vanishes-long;
+  nullables-long = t .nullables-long;
   begins-long = t .begins-long;
-  reached-long = t .reached-long;
+  reaches-long = t .reaches-long;
   starts-long = t .starts-long;
   closures-none = t .closures-none;
   fronts-long = t .fronts-long;
@@ -124,14 +124,14 @@ pub rules-enough : {room : Room} {numbers : Counts} → Complete room numbers �
     → numbers .rules ≤ room .rules
 rules-enough {room} fit low = by-less (room .rules) MAX-RULES (λ less. fit .rules-fit less) (λ all. omega arith)
 
-pub tables-room : {room : Room} {numbers : Counts} {vanishes begins reached starts closures fronts table actions : List ℕ} → Complete room numbers
-    → TablesLent room vanishes begins reached starts closures fronts table actions
-    → TablesRoom (numbers .rules) (numbers .states) vanishes begins reached starts closures fronts table actions
+pub tables-room : {room : Room} {numbers : Counts} {nullables begins reaches bounds closures fronts table actions : List ℕ} → Complete room numbers
+    → TablesLent room nullables begins reaches bounds closures fronts table actions
+    → TablesRoom (numbers .rules) (numbers .states) nullables begins reaches bounds closures fronts table actions
 tables-room {room} {numbers} {closures = closures} fit t =
     record {
-      vanishes-long = λ few. omega (arith, t .vanishes-long, rules-enough fit few);
+      nullables-long = λ few. omega (arith, t .nullables-long, rules-enough fit few);
       begins-long = λ few. omega (arith, t .begins-long, rules-enough fit few);
-      reached-long = λ few. omega (arith, t .reached-long, rules-enough fit few);
+      reaches-long = λ few. omega (arith, t .reaches-long, rules-enough fit few);
       starts-long = λ few. omega (arith, t .starts-long, enough few);
       closures-blank = λ few. record {
         long = omega (arith, closures-long, enough few);
@@ -149,9 +149,9 @@ tables-room {room} {numbers} {closures = closures} fit t =
     enough = states-enough fit
 
 -- the refusal r is told, and the arrays are filled where there is none, with the rules of each state's closure
-pub record Tabled (b : Book) (r : ℕ) (rules vanishes begins reached starts closures fronts table actions : List ℕ) : Type 0 where
+pub record Tabled (b : Book) (r : ℕ) (rules nullables begins reaches bounds closures fronts table actions : List ℕ) : Type 0 where
   pub told : r ≡ tablesRefusal b
-  pub filled : r ≡ 0 → TablesIn b vanishes begins reached starts closures table actions
+  pub filled : r ≡ 0 → TablesIn b nullables begins reaches bounds closures table actions
   pub fronts-in : r ≡ 0 → FrontsIn b rules closures fronts
 
 -- ---- what the functions over these arrays ask
@@ -179,19 +179,19 @@ module _ {b : Book} {rules kernels : List ℕ} {states : ℕ} (h : KernelsHeld b
     pub held-fronts : {fronts : List ℕ} → Fronts rules count closures states fronts → FrontsIn b rules closures fronts
     held-fronts W = rw (e, h .states-are) at W
 
-  module _ {starts : List ℕ} (T : StartsIn (b .kernels) (b .states) starts) where
-    pub held-items : {count : ℕ} {vanishes begins : List ℕ} → count ≡ length (b .rules) → SuffixesIn (b .rules) (setsOf (b .rules)) vanishes begins
-        → StateItemsIn b (setsOf (b .rules)) rules count kernels starts states vanishes begins
+  module _ {bounds : List ℕ} (T : BoundsIn (b .kernels) (b .states) bounds) where
+    pub held-items : {count : ℕ} {nullables begins : List ℕ} → count ≡ length (b .rules) → SuffixesIn (b .rules) (setsOf (b .rules)) nullables begins
+        → StateItemsIn b (setsOf (b .rules)) rules count kernels bounds states nullables begins
     held-items e S = rw (e, h .states-are) (state-items-in (h .ordered) (h .limits) (h .declared) (h .rules-in) S (h .kernels-in) T)
 
-    pub held-states : StatesIn b rules kernels starts
+    pub held-states : StatesIn b rules kernels bounds
     held-states = record { grammar-in = rules-held; kernels-in = h .kernels-in; starts-in = T }
 
     module _ {closures : List ℕ} (C : ClosuresIn b (setsOf (b .rules)) closures) where
-      pub held-closures : ItemsIn b (setsOf (b .rules)) rules kernels starts closures
+      pub held-closures : ItemsIn b (setsOf (b .rules)) rules kernels bounds closures
       held-closures = record { states-in = held-states; closures-in = C }
 
-      pub held-automaton : {table : List ℕ} → GoTableIn b table → AutomatonIn b (setsOf (b .rules)) rules kernels starts closures table
+      pub held-automaton : {table : List ℕ} → GoTableIn b table → AutomatonIn b (setsOf (b .rules)) rules kernels bounds closures table
       held-automaton G = record { states-in = held-states; closures-in = C; table-in = G }
 
 -- ---- the refusal, by what was asked first
@@ -217,12 +217,12 @@ module _ (b : Book) where
 
 -- ---- the answer, by what the steps told
 
-module _ {b : Book} {rules vanishes begins reached starts closures fronts table actions : List ℕ} {k : Bool} (k-is : k ≡ kernelRules b) where
-  pub tabled-kernels : k ≡ false → Tabled b 7 rules vanishes begins reached starts closures fronts table actions
+module _ {b : Book} {rules nullables begins reaches bounds closures fronts table actions : List ℕ} {k : Bool} (k-is : k ≡ kernelRules b) where
+  pub tabled-kernels : k ≡ false → Tabled b 7 rules nullables begins reaches bounds closures fronts table actions
   tabled-kernels f = record { told = sym (kernels-refused b (sym k-is ∙ f)); filled = λ z. absurd (omega arith); fronts-in = λ z. absurd (omega arith) }
 
   module _ (k-right : k ≡ true) {g : Bool} (g-is : g ≡ goesRight b) where
-    pub tabled-goes : g ≡ false → Tabled b 8 rules vanishes begins reached starts closures fronts table actions
+    pub tabled-goes : g ≡ false → Tabled b 8 rules nullables begins reaches bounds closures fronts table actions
     tabled-goes f = record {
       told = sym (goes-refused b (sym k-is ∙ k-right) (sym g-is ∙ f));
       filled = λ z. absurd (omega arith);
@@ -230,15 +230,15 @@ module _ {b : Book} {rules vanishes begins reached starts closures fronts table 
     }
 
     module _ (g-right : g ≡ true) {a : Bool} (acted : Acted b (setsOf (b .rules)) actions a) where
-      pub tabled-acts : a ≡ false → Tabled b 9 rules vanishes begins reached starts closures fronts table actions
+      pub tabled-acts : a ≡ false → Tabled b 9 rules nullables begins reaches bounds closures fronts table actions
       tabled-acts f = record {
         told = sym (acts-refused b (sym k-is ∙ k-right) (sym g-is ∙ g-right) (sym (acted .told) ∙ f));
         filled = λ z. absurd (omega arith);
         fronts-in = λ z. absurd (omega arith);
       }
 
-      pub tabled-all : a ≡ true → ItemsFilled b vanishes begins reached closures → StartsIn (b .kernels) (b .states) starts → GoTableIn b table
-          → FrontsIn b rules closures fronts → Tabled b 0 rules vanishes begins reached starts closures fronts table actions
+      pub tabled-all : a ≡ true → ItemsFilled b nullables begins reaches closures → BoundsIn (b .kernels) (b .states) bounds → GoTableIn b table
+          → FrontsIn b rules closures fronts → Tabled b 0 rules nullables begins reaches bounds closures fronts table actions
       tabled-all t I T G W = record {
         told = sym (none-refused b (sym k-is ∙ k-right) (sym g-is ∙ g-right) (sym (acted .told) ∙ t));
         filled = λ z. record { items-filled = I; starts-in = T; table-in = G; actions-in = acted .table t };

@@ -96,23 +96,23 @@ fn prepare(
     definitions: &[u32],
     kernels: &[u32],
     goes: &[u32],
-    vanishes: &mut [u32],
+    nullables: &mut [u32],
     begins: &mut [u32],
-    reached: &mut [u32],
-    starts: &mut [u32],
-    lookaheads: &mut [u32],
+    reaches: &mut [u32],
+    bounds: &mut [u32],
+    closures: &mut [u32],
     fronts: &mut [u64],
     table: &mut [u8],
-    cells: &mut [u8],
+    actions: &mut [u8],
 ) -> u32
     requires { ⌜ Some (BookKept book (now inherited) (now synthesized) (now rules) (now definitions) (now kernels) (now goes)) ⌝ }
-    requires { ⌜ TablesRoom (book .rules) (book .states) (now vanishes) (now begins) (now reached) (now starts) (now lookaheads) (now fronts) (now table)
-        (now cells) ⌝ }
+    requires { ⌜ TablesRoom (book .rules) (book .states) (now nullables) (now begins) (now reaches) (now bounds) (now closures) (now fronts) (now table)
+        (now actions) ⌝ }
     ensures { λ r. ⌜ ((b : Lines) → BookKept book (now (inherited .entry)) (now (synthesized .entry)) (now (rules .entry)) (now (definitions .entry))
         (now (kernels .entry)) (now (goes .entry)) b
         → Prepared r book (now (inherited .entry)) (now (synthesized .entry)) (now (rules .entry)) (now (definitions .entry)) (now (kernels .entry))
-        (now (goes .entry)) (now (vanishes .exit)) (now (reached .exit)) (now (starts .exit)) (now (lookaheads .exit))
-        (now (fronts .exit)) (now (table .exit)) (now (cells .exit)) b) ⌝ }
+        (now (goes .entry)) (now (nullables .exit)) (now (reaches .exit)) (now (bounds .exit)) (now (closures .exit))
+        (now (fronts .exit)) (now (table .exit)) (now (actions .exit)) b) ⌝ }
 {
     let first = conditions(
         book,
@@ -135,14 +135,14 @@ fn prepare(
         book.goes,
         book.terminals,
         book.states,
-        vanishes,
+        nullables,
         begins,
-        reached,
-        starts,
-        lookaheads,
+        reaches,
+        bounds,
+        closures,
         fronts,
         table,
-        cells,
+        actions,
     )
 }
 
@@ -154,24 +154,24 @@ fn formulas_right(
     rules: &[u32],
     definitions: &[u32],
     kernels: &[u32],
-    starts: &[u32],
-    lookaheads: &[u32],
+    bounds: &[u32],
+    closures: &[u32],
     fronts: &[u64],
-    vanishes: &[u32],
-    reached: &[u32],
+    nullables: &[u32],
+    reaches: &[u32],
     given: &mut [u32],
 ) -> bool
     requires { ⌜ ((b : Lines) × (begins : List ℕ) × FrontsHeld b (now rules) (book .rules) (now definitions) (book .«inherited_definitions») (now kernels)
-        (now starts) (now lookaheads) (now fronts) (now vanishes) begins (now reached) (book .terminals) (book .states)
+        (now bounds) (now closures) (now fronts) (now nullables) begins (now reaches) (book .terminals) (book .states)
         × OwnersIn MAX-INHERITED (b .inheritedOwners) (now inherited) × (book .inherited ≡ length (b .inheritedOwners)))
         × (9 * book .rules ≤ length (now given)) ⌝ }
     ensures { λ r. ⌜ ((b : Lines) (begins : List ℕ) → FrontsHeld b (now (rules .entry)) (book .rules) (now (definitions .entry))
-        (book .«inherited_definitions») (now (kernels .entry)) (now (starts .entry)) (now (lookaheads .entry)) (now (fronts .entry))
-        (now (vanishes .entry)) begins (now (reached .entry)) (book .terminals) (book .states)
+        (book .«inherited_definitions») (now (kernels .entry)) (now (bounds .entry)) (now (closures .entry)) (now (fronts .entry))
+        (now (nullables .entry)) begins (now (reaches .entry)) (book .terminals) (book .states)
         → OwnersIn MAX-INHERITED (b .inheritedOwners) (now (inherited .entry)) → book .inherited ≡ length (b .inheritedOwners) → r ≡ formulasRight b) ⌝ }
 {
     let leaders = fill_givers(book.rules, definitions, book.inherited_definitions, given);
-    if all_single(kernels, starts, fronts, book.states, given, leaders) {
+    if all_single(kernels, bounds, fronts, book.states, given, leaders) {
         return true;
     }
     if book.inherited_definitions <= FEW {
@@ -185,11 +185,11 @@ fn formulas_right(
             definitions,
             book.inherited_definitions,
             kernels,
-            starts,
-            lookaheads,
+            bounds,
+            closures,
             fronts,
-            vanishes,
-            reached,
+            nullables,
+            reaches,
             book.terminals,
             book.states,
             given,
@@ -208,11 +208,11 @@ fn formulas_right(
         definitions,
         book.inherited_definitions,
         kernels,
-        starts,
-        lookaheads,
+        bounds,
+        closures,
         fronts,
-        vanishes,
-        reached,
+        nullables,
+        reaches,
         book.terminals,
         book.states,
         given,
@@ -232,23 +232,23 @@ fn check(
     definitions: &[u32],
     kernels: &[u32],
     goes: &[u32],
-    vanishes: &mut [u32],
+    nullables: &mut [u32],
     begins: &mut [u32],
-    reached: &mut [u32],
-    starts: &mut [u32],
-    lookaheads: &mut [u32],
+    reaches: &mut [u32],
+    bounds: &mut [u32],
+    closures: &mut [u32],
     fronts: &mut [u64],
     table: &mut [u8],
-    cells: &mut [u8],
+    actions: &mut [u8],
 ) -> u32
     requires { ⌜ Some (BookKept book (now inherited) (now synthesized) (now rules) (now definitions) (now kernels) (now goes)) ⌝ }
-    requires { ⌜ TablesRoom (book .rules) (book .states) (now vanishes) (now begins) (now reached) (now starts) (now lookaheads) (now fronts) (now table)
-        (now cells) ⌝ }
+    requires { ⌜ TablesRoom (book .rules) (book .states) (now nullables) (now begins) (now reaches) (now bounds) (now closures) (now fronts) (now table)
+        (now actions) ⌝ }
     ensures { λ r. ⌜ ((b : Lines) → BookKept book (now (inherited .entry)) (now (synthesized .entry)) (now (rules .entry)) (now (definitions .entry))
         (now (kernels .entry)) (now (goes .entry)) b
         → Checked r book (now (inherited .entry)) (now (synthesized .entry)) (now (rules .entry)) (now (definitions .entry)) (now (kernels .entry))
-        (now (goes .entry)) (now (vanishes .exit)) (now (reached .exit)) (now (starts .exit)) (now (lookaheads .exit))
-        (now (table .exit)) (now (cells .exit)) b) ⌝ }
+        (now (goes .entry)) (now (nullables .exit)) (now (reaches .exit)) (now (bounds .exit)) (now (closures .exit))
+        (now (table .exit)) (now (actions .exit)) b) ⌝ }
 {
     let first = prepare(
         book,
@@ -258,14 +258,14 @@ fn check(
         definitions,
         kernels,
         goes,
-        vanishes,
+        nullables,
         begins,
-        reached,
-        starts,
-        lookaheads,
+        reaches,
+        bounds,
+        closures,
         fronts,
         table,
-        cells,
+        actions,
     );
     if first != 0 {
         return first;
@@ -276,11 +276,11 @@ fn check(
         rules,
         definitions,
         kernels,
-        starts,
-        lookaheads,
+        bounds,
+        closures,
         fronts,
-        vanishes,
-        reached,
+        nullables,
+        reaches,
         begins,
     ) {
         return 0;
@@ -296,7 +296,7 @@ pub struct Compiled {
 }
 
 // Reads a text into the arrays of its lines and fills the tables, up to the first of 2 to 10 that applies.
-// Until they are filled, `cells` are room for what waits in an expression. What `begins` and `fronts` hold in the end is not said.
+// Until they are filled, `actions` are room for what waits in an expression. What `begins` and `fronts` hold in the end is not said.
 pub fn compile(
     t: &[u8; 256],
     text: &[u8],
@@ -307,26 +307,26 @@ pub fn compile(
     definitions: &mut [u32],
     kernels: &mut [u32],
     goes: &mut [u32],
-    vanishes: &mut [u32],
+    nullables: &mut [u32],
     begins: &mut [u32],
-    reached: &mut [u32],
-    starts: &mut [u32],
-    lookaheads: &mut [u32],
+    reaches: &mut [u32],
+    bounds: &mut [u32],
+    closures: &mut [u32],
     fronts: &mut [u64],
     table: &mut [u8],
-    cells: &mut [u8],
+    actions: &mut [u8],
 ) -> Compiled
-    requires { ⌜ Lent (now t) (now text) × WaitsRoom (now text) (now cells)
+    requires { ⌜ Lent (now t) (now text) × WaitsRoom (now text) (now actions)
         × Roomy room (arrays (now inherited) (now synthesized) (now rules) (now definitions) (now kernels) (now goes)) ⌝ }
-    requires { ⌜ TablesLent room (now vanishes) (now begins) (now reached) (now starts) (now lookaheads) (now fronts) (now table) (now cells) ⌝ }
+    requires { ⌜ TablesLent room (now nullables) (now begins) (now reaches) (now bounds) (now closures) (now fronts) (now table) (now actions) ⌝ }
     ensures { λ r. ⌜ Compiles room (now (text .entry)) (r .complete) (r .refusal) (r .book) (now (inherited .exit)) (now (synthesized .exit))
-        (now (rules .exit)) (now (definitions .exit)) (now (kernels .exit)) (now (goes .exit)) (now (vanishes .exit)) (now (reached .exit))
-        (now (starts .exit)) (now (lookaheads .exit)) (now (table .exit)) (now (cells .exit)) ⌝ }
+        (now (rules .exit)) (now (definitions .exit)) (now (kernels .exit)) (now (goes .exit)) (now (nullables .exit)) (now (reaches .exit))
+        (now (bounds .exit)) (now (closures .exit)) (now (table .exit)) (now (actions .exit)) ⌝ }
 {
     let read = spelling(
         t,
         text,
-        cells,
+        actions,
         room,
         inherited,
         synthesized,
@@ -352,14 +352,14 @@ pub fn compile(
         definitions,
         kernels,
         goes,
-        vanishes,
+        nullables,
         begins,
-        reached,
-        starts,
-        lookaheads,
+        reaches,
+        bounds,
+        closures,
         fronts,
         table,
-        cells,
+        actions,
     );
     Compiled {
         complete: true,

@@ -6,17 +6,17 @@ ghost use lib.ListN.{length};
 ghost use Rattle.grammar.specs.Data.Book.{Book};
 ghost use Rattle.grammar.specs.Automaton.FirstSets.{setsOf};
 ghost use Rattle.book.specs.Held.{GoesIn};
-ghost use Rattle.items.specs.Arrays.{StartsIn, ClosuresIn, GoTableIn};
+ghost use Rattle.items.specs.Arrays.{BoundsIn, ClosuresIn, GoTableIn};
 ghost use Rattle.items.specs.Closures.{Blank};
 ghost use Rattle.automaton.specs.Fronts.{FrontsIn};
 ghost use Rattle.automaton.specs.GoTable.{Unset};
 ghost use Rattle.compiler.specs.States.{KernelsHeld, BookHeld, ItemsFilled, TablesRoom, Tabled, goesRight};
-use automaton::actions::actions;
+use automaton::actions::fill_actions;
 use automaton::go_rules::go_rules;
 use automaton::go_table::go_table;
 use automaton::kernel_rules::kernel_rules;
 use automaton::lefts::fill_fronts;
-use items::closures::closures;
+use items::closures::fill_closures;
 use items::rests::rests;
 
 // The sets of the rules' rests, and the closures.
@@ -25,30 +25,30 @@ fn fill_items(
     count: u32,
     kernels: &[u32],
     states: u32,
-    starts: &[u32],
-    vanishes: &mut [u32],
+    bounds: &[u32],
+    nullables: &mut [u32],
     begins: &mut [u32],
-    reached: &mut [u32],
-    lookaheads: &mut [u32],
+    reaches: &mut [u32],
+    closures: &mut [u32],
 )
     requires { ⌜ ((b : Book) × KernelsHeld b (now rules) (now kernels) states × (count ≡ length (b .rules))
-        × StartsIn (b .kernels) (b .states) (now starts)) ⌝ }
-    requires { ⌜ (9 * count ≤ length (now vanishes)) × (9 * count ≤ length (now begins)) × (9 * count ≤ length (now reached))
-        × Blank states (now lookaheads) ⌝ }
+        × BoundsIn (b .kernels) (b .states) (now bounds)) ⌝ }
+    requires { ⌜ (9 * count ≤ length (now nullables)) × (9 * count ≤ length (now begins)) × (9 * count ≤ length (now reaches))
+        × Blank states (now closures) ⌝ }
     ensures { λ _. ⌜ ((b : Book) → KernelsHeld b (now (rules .entry)) (now (kernels .entry)) states → count ≡ length (b .rules)
-        → StartsIn (b .kernels) (b .states) (now (starts .entry))
-        → ItemsFilled b (now (vanishes .exit)) (now (begins .exit)) (now (reached .exit)) (now (lookaheads .exit))) ⌝ }
+        → BoundsIn (b .kernels) (b .states) (now (bounds .entry))
+        → ItemsFilled b (now (nullables .exit)) (now (begins .exit)) (now (reaches .exit)) (now (closures .exit))) ⌝ }
 {
-    rests(rules, count, vanishes, begins, reached);
-    closures(
+    rests(rules, count, nullables, begins, reaches);
+    fill_closures(
         rules,
         count,
         kernels,
-        starts,
+        bounds,
         states,
-        vanishes,
+        nullables,
         begins,
-        lookaheads,
+        closures,
     );
 }
 
@@ -59,17 +59,17 @@ fn moves(
     goes: &[u32],
     lines: u32,
     states: u32,
-    starts: &[u32],
-    lookaheads: &[u32],
+    bounds: &[u32],
+    closures: &[u32],
     fronts: &[u64],
     table: &mut [u8],
 ) -> bool
     requires { ⌜ ((b : Book) × KernelsHeld b (now rules) (now kernels) states × GoesIn (b .goes) (now goes) × (lines ≡ length (b .goes))
-        × StartsIn (b .kernels) (b .states) (now starts) × ClosuresIn b (setsOf (b .rules)) (now lookaheads)
-        × FrontsIn b (now rules) (now lookaheads) (now fronts)) × Unset states (now table) ⌝ }
+        × BoundsIn (b .kernels) (b .states) (now bounds) × ClosuresIn b (setsOf (b .rules)) (now closures)
+        × FrontsIn b (now rules) (now closures) (now fronts)) × Unset states (now table) ⌝ }
     ensures { λ r. ⌜ ((b : Book) → KernelsHeld b (now (rules .entry)) (now (kernels .entry)) states → GoesIn (b .goes) (now (goes .entry))
-        → lines ≡ length (b .goes) → StartsIn (b .kernels) (b .states) (now (starts .entry)) → ClosuresIn b (setsOf (b .rules)) (now (lookaheads .entry))
-        → FrontsIn b (now (rules .entry)) (now (lookaheads .entry)) (now (fronts .entry)) → (r ≡ goesRight b) × GoTableIn b (now (table .exit))) ⌝ }
+        → lines ≡ length (b .goes) → BoundsIn (b .kernels) (b .states) (now (bounds .entry)) → ClosuresIn b (setsOf (b .rules)) (now (closures .entry))
+        → FrontsIn b (now (rules .entry)) (now (closures .entry)) (now (fronts .entry)) → (r ≡ goesRight b) × GoTableIn b (now (table .exit))) ⌝ }
 {
     go_table(goes, lines, states, table);
     go_rules(
@@ -78,8 +78,8 @@ fn moves(
         goes,
         lines,
         states,
-        starts,
-        lookaheads,
+        bounds,
+        closures,
         table,
         fronts,
     )
@@ -95,23 +95,23 @@ pub fn tables(
     lines: u32,
     terminals: u32,
     states: u32,
-    vanishes: &mut [u32],
+    nullables: &mut [u32],
     begins: &mut [u32],
-    reached: &mut [u32],
-    starts: &mut [u32],
-    lookaheads: &mut [u32],
+    reaches: &mut [u32],
+    bounds: &mut [u32],
+    closures: &mut [u32],
     fronts: &mut [u64],
     table: &mut [u8],
-    cells: &mut [u8],
+    actions: &mut [u8],
 ) -> u32
     requires { ⌜ ((b : Book) × BookHeld b (now rules) count (now kernels) items (now goes) lines terminals states) ⌝ }
-    requires { ⌜ TablesRoom count states (now vanishes) (now begins) (now reached) (now starts) (now lookaheads) (now fronts) (now table)
-        (now cells) ⌝ }
+    requires { ⌜ TablesRoom count states (now nullables) (now begins) (now reaches) (now bounds) (now closures) (now fronts) (now table)
+        (now actions) ⌝ }
     ensures { λ r. ⌜ ((b : Book) → BookHeld b (now (rules .entry)) count (now (kernels .entry)) items (now (goes .entry)) lines terminals states
-        → Tabled b r (now (rules .entry)) (now (vanishes .exit)) (now (begins .exit)) (now (reached .exit)) (now (starts .exit))
-        (now (lookaheads .exit)) (now (fronts .exit)) (now (table .exit)) (now (cells .exit))) ⌝ }
+        → Tabled b r (now (rules .entry)) (now (nullables .exit)) (now (begins .exit)) (now (reaches .exit)) (now (bounds .exit))
+        (now (closures .exit)) (now (fronts .exit)) (now (table .exit)) (now (actions .exit))) ⌝ }
 {
-    if !kernel_rules(rules, kernels, items, states, starts) {
+    if !kernel_rules(rules, kernels, items, states, bounds) {
         return 7;
     }
     fill_items(
@@ -119,35 +119,35 @@ pub fn tables(
         count,
         kernels,
         states,
-        starts,
-        vanishes,
+        bounds,
+        nullables,
         begins,
-        reached,
-        lookaheads,
+        reaches,
+        closures,
     );
-    fill_fronts(rules, count as usize, lookaheads, states as usize, fronts);
+    fill_fronts(rules, count as usize, closures, states as usize, fronts);
     if !moves(
         rules,
         kernels,
         goes,
         lines,
         states,
-        starts,
-        lookaheads,
+        bounds,
+        closures,
         fronts,
         table,
     ) {
         return 8;
     }
-    if !actions(
+    if !fill_actions(
         rules,
         kernels,
-        starts,
-        lookaheads,
+        bounds,
+        closures,
         fronts,
         terminals,
         states,
-        cells,
+        actions,
     ) {
         return 9;
     }

@@ -22,12 +22,12 @@ unfoldable pub flag : Bool → ℕ
 flag true = 1
 flag false = 0
 
--- of rule P after D symbols, at 9 * P + D: whether the rest vanishes, and what can begin it
-pub record SuffixesIn (G : List Rule) (F : Sets) (nulls firsts : List ℕ) : Type 0 where
-  pub nulls-long : 9 * length G ≤ length nulls
-  pub firsts-long : 9 * length G ≤ length firsts
-  pub null-is : (P D : ℕ) → P < length G → D ≤ length (rightOf G P) → getD nulls (9 * P + D) 0 ≡ flag (null F (after G P D))
-  pub first-is : (P D : ℕ) → P < length G → D ≤ length (rightOf G P) → getD firsts (9 * P + D) 0 ≡ first F (after G P D)
+-- of rule P after D symbols, at 9 * P + D: whether the rest is nullable, and what can begin it
+pub record SuffixesIn (G : List Rule) (F : Sets) (nullables begins : List ℕ) : Type 0 where
+  pub nullables-long : 9 * length G ≤ length nullables
+  pub begins-long : 9 * length G ≤ length begins
+  pub null-is : (P D : ℕ) → P < length G → D ≤ length (rightOf G P) → getD nullables (9 * P + D) 0 ≡ flag (null F (after G P D))
+  pub first-is : (P D : ℕ) → P < length G → D ≤ length (rightOf G P) → getD begins (9 * P + D) 0 ≡ first F (after G P D)
 
 -- and what is reached before it ends
 pub record ReachesIn (G : List Rule) (F : Sets) (R : List ℕ) (reaches : List ℕ) : Type 0 where
@@ -35,11 +35,11 @@ pub record ReachesIn (G : List Rule) (F : Sets) (R : List ℕ) (reaches : List �
   pub reach-is : (P D : ℕ) → P < length G → D ≤ length (rightOf G P) → getD reaches (9 * P + D) 0 ≡ reachIn F R (after G P D)
 
 -- where the kernel lines of each state begin: those of state S stand from word S up to word S + 1
-pub record StartsIn (ks : List Kernel) (states : ℕ) (starts : List ℕ) : Type 0 where
-  pub long : states + 1 ≤ length starts
-  pub ascend : (S : ℕ) → S < states → getD starts S 0 ≤ getD starts (S + 1) 0
-  pub last-is : getD starts states 0 ≡ length ks
-  pub lines-are : (S : ℕ) → S < states → kernelsIn ks S ≡ take (getD starts (S + 1) 0 - getD starts S 0) (drop (getD starts S 0) ks)
+pub record BoundsIn (ks : List Kernel) (states : ℕ) (bounds : List ℕ) : Type 0 where
+  pub long : states + 1 ≤ length bounds
+  pub ascend : (S : ℕ) → S < states → getD bounds S 0 ≤ getD bounds (S + 1) 0
+  pub last-is : getD bounds states 0 ≡ length ks
+  pub lines-are : (S : ℕ) → S < states → kernelsIn ks S ≡ take (getD bounds (S + 1) 0 - getD bounds S 0) (drop (getD bounds S 0) ks)
 
 -- the lookaheads of nonterminal B's rules in the closure of state S, at 32 * S + B
 pub record ClosuresIn (b : Book) (F : Sets) (closures : List ℕ) : Type 0 where

@@ -18,7 +18,7 @@ use Rattle.items.specs.Passes.{Told, Passing, Closing}
 
 -- ---- the constraints fit
 
-module _ {b : Book} {F : Sets} {rules nulls firsts : List ℕ} (H : GrammarIn b F rules nulls firsts) where
+module _ {b : Book} {F : Sets} {rules nullables begins : List ℕ} (H : GrammarIn b F rules nullables begins) where
   fits : {sets : List ℕ} → Family 32 sets → Fits (closureRule b F) (length (b .rules)) sets
   unfolding closureRule
   fits S = record {
@@ -54,13 +54,13 @@ module _ (b : Book) (F : Sets) where
   none-visits (suc P) = ap (visit (closureRule b F P)) (none-visits P) ∙ still P
 
 -- without lookaheads of kernel lines there are none
-pub none-least : {b : Book} {F : Sets} {rules nulls firsts : List ℕ} {count : ℕ} → GrammarIn b F rules nulls firsts → length (b .rules) ≡ count
+pub none-least : {b : Book} {F : Sets} {rules nullables begins : List ℕ} {count : ℕ} → GrammarIn b F rules nullables begins → length (b .rules) ≡ count
     → least (closureRule b F) count (replicate 32 0) ≡ replicate 32 0
 none-least {b} {F} {count = count} H e = least-stays (closure-fits H e (none-family 32)) (replicate 32 0) (none-family 32) (none-visits b F count)
 
 -- ---- a rule by its words
 
-module _ {b : Book} {F : Sets} {rules nulls firsts : List ℕ} (H : GrammarIn b F rules nulls firsts) (P : ℕ) (p : P < length (b .rules)) where
+module _ {b : Book} {F : Sets} {rules nullables begins : List ℕ} (H : GrammarIn b F rules nullables begins) (P : ℕ) (p : P < length (b .rules)) where
   pub left-low : getD rules (10 * P) 0 < 32
   left-low = omega (arith, H .rules-in .left-is P p, H .small .left-low P p)
 
@@ -70,10 +70,10 @@ module _ {b : Book} {F : Sets} {rules nulls firsts : List ℕ} (H : GrammarIn b 
 
 -- ---- the loops, for every book that the arrays hold
 
-abbrev pub Sweeping : (rules nulls firsts : List ℕ) (count : ℕ) (first now : List ℕ) (changed : Bool) (P : ℕ) → Type 0
-Sweeping rules nulls firsts count first now changed P =
-    (b : Book) (F : Sets) → GrammarIn b F rules nulls firsts → length (b .rules) ≡ count → Passing (closureRule b F) count first now changed P
+abbrev pub Sweeping : (rules nullables begins : List ℕ) (count : ℕ) (first now : List ℕ) (changed : Bool) (P : ℕ) → Type 0
+Sweeping rules nullables begins count first now changed P =
+    (b : Book) (F : Sets) → GrammarIn b F rules nullables begins → length (b .rules) ≡ count → Passing (closureRule b F) count first now changed P
 
-abbrev pub Settling : (rules nulls firsts : List ℕ) (count : ℕ) (first now : List ℕ) → Type 0
-Settling rules nulls firsts count first now =
-    (b : Book) (F : Sets) → GrammarIn b F rules nulls firsts → length (b .rules) ≡ count → Closing (closureRule b F) count first now
+abbrev pub Settling : (rules nullables begins : List ℕ) (count : ℕ) (first now : List ℕ) → Type 0
+Settling rules nullables begins count first now =
+    (b : Book) (F : Sets) → GrammarIn b F rules nullables begins → length (b .rules) ≡ count → Closing (closureRule b F) count first now

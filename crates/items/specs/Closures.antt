@@ -13,7 +13,7 @@ use Rattle.grammar.specs.Data.Book.{Book}
 use Rattle.grammar.specs.Automaton.Fixpoint.{setAt, least}
 use Rattle.grammar.specs.Automaton.FirstSets.{Sets}
 use Rattle.grammar.specs.Automaton.ClosureSets.{fromKernels, closureRule, closureSets}
-use Rattle.items.specs.Arrays.{StartsIn, ClosuresIn}
+use Rattle.items.specs.Arrays.{BoundsIn, ClosuresIn}
 use Rattle.items.specs.Part.{putBack, back-long, back-before, back-within, back-behind}
 use Rattle.items.specs.ClosurePasses.{none-at, none-least}
 use Rattle.items.specs.KernelLines.{lines, KernelItemsIn, StateIn, Begun}
@@ -21,7 +21,7 @@ use Rattle.items.specs.KernelLines.{lines, KernelItemsIn, StateIn, Begun
 pub none-long : {sets : List ℕ} → sets ≡ replicate 32 0 → length sets ≡ 32
 none-long e = ap length e ∙ length-replicate {A = ℕ} 32 0
 
-module _ {b : Book} {F : Sets} {rules kernels nulls firsts : List ℕ} (H : KernelItemsIn b F rules kernels nulls firsts)
+module _ {b : Book} {F : Sets} {rules kernels nullables begins : List ℕ} (H : KernelItemsIn b F rules kernels nullables begins)
     {count S from to : ℕ} (e : length (b .rules) ≡ count) (L : StateIn (b .kernels) S from to)
     {first mid : List ℕ} {changed : Bool} (z : first ≡ replicate 32 0) (B : Begun (fromKernels b F (lines (b .kernels) from to) first) first mid changed) where
   -- the closure from the sets that the lines give
@@ -40,19 +40,19 @@ module _ {b : Book} {F : Sets} {rules kernels nulls firsts : List ℕ} (H : Kern
       none ∙ sym (none-least (H .grammar-in) e) ∙ ap (least (closureRule b F) count) (sym none) ∙ after-lines
 
 -- a book's items in arrays, and where the kernel lines of each state begin
-pub record StateItemsIn (b : Book) (F : Sets) (rules : List ℕ) (count : ℕ) (kernels starts : List ℕ) (states : ℕ) (nulls firsts : List ℕ) : Type 0 where
-  pub items-in : KernelItemsIn b F rules kernels nulls firsts
-  pub starts-in : StartsIn (b .kernels) states starts
+pub record StateItemsIn (b : Book) (F : Sets) (rules : List ℕ) (count : ℕ) (kernels bounds : List ℕ) (states : ℕ) (nullables begins : List ℕ) : Type 0 where
+  pub items-in : KernelItemsIn b F rules kernels nullables begins
+  pub starts-in : BoundsIn (b .kernels) states bounds
   pub counted : length (b .rules) ≡ count
   pub states-are : b .states ≡ states
   pub few : states ≤ MAX-STATES
 
 -- the states below s are done
-pub record Closed (rules : List ℕ) (count : ℕ) (kernels starts : List ℕ) (states : ℕ) (nulls firsts : List ℕ) (closures : List ℕ) (s : ℕ) : Type 0 where
+pub record Closed (rules : List ℕ) (count : ℕ) (kernels bounds : List ℕ) (states : ℕ) (nullables begins : List ℕ) (closures : List ℕ) (s : ℕ) : Type 0 where
   pub within : s ≤ states
   pub long : 32 * states ≤ length closures
   pub rest : (i : ℕ) → 32 * s ≤ i → getD closures i 0 ≡ 0
-  pub done : (b : Book) (F : Sets) → StateItemsIn b F rules count kernels starts states nulls firsts
+  pub done : (b : Book) (F : Sets) → StateItemsIn b F rules count kernels bounds states nullables begins
       → (S B : ℕ) → S < s → B < 32 → getD closures (32 * S + B) 0 ≡ setAt (closureSets b F S) B
 
 -- room for the closures of a number of states, with nothing in it
@@ -62,8 +62,8 @@ pub record Blank (states : ℕ) (closures : List ℕ) : Type 0 where
 
 -- ---- the array of all closures, state by state
 
-module _ {rules : List ℕ} {count : ℕ} {kernels starts : List ℕ} {states : ℕ} {nulls firsts : List ℕ} where
-  pub closed-none : {closures : List ℕ} → Blank states closures → Closed rules count kernels starts states nulls firsts closures 0
+module _ {rules : List ℕ} {count : ℕ} {kernels bounds : List ℕ} {states : ℕ} {nullables begins : List ℕ} where
+  pub closed-none : {closures : List ℕ} → Blank states closures → Closed rules count kernels bounds states nullables begins closures 0
   closed-none {closures} e = record {
     within = omega arith;
     long = e .long;
@@ -71,7 +71,7 @@ module _ {rules : List ℕ} {count : ℕ} {kernels starts : List ℕ} {states : 
     done = λ b F H S B h l. absurd (omega arith);
   }
 
-  module _ {closures : List ℕ} {s : ℕ} (C : Closed rules count kernels starts states nulls firsts closures s) where
+  module _ {closures : List ℕ} {s : ℕ} (C : Closed rules count kernels bounds states nullables begins closures s) where
     -- the words of state s are empty
     pub part-none : s < states → states ≤ MAX-STATES → take (32 * s + 32 - 32 * s) (drop (32 * s) closures) ≡ replicate 32 0
     part-none h few =
@@ -88,9 +88,9 @@ module _ {rules : List ℕ} {count : ℕ} {kernels starts : List ℕ} {states : 
 
     -- and then they are its closure
     pub closed-more : (looks : List ℕ)
-        → ((b : Book) (F : Sets) → StateItemsIn b F rules count kernels starts states nulls firsts → looks ≡ closureSets b F s)
+        → ((b : Book) (F : Sets) → StateItemsIn b F rules count kernels bounds states nullables begins → looks ≡ closureSets b F s)
         → s < states → states ≤ MAX-STATES → length looks ≡ 32
-        → Closed rules count kernels starts states nulls firsts (putBack (32 * s) (32 * s + 32 - 32 * s) closures looks) (s + 1)
+        → Closed rules count kernels bounds states nullables begins (putBack (32 * s) (32 * s + 32 - 32 * s) closures looks) (s + 1)
     closed-more looks is h few long = record {
       within = omega arith;
       long = omega (arith, back-long (32 * s) size closures looks fits exact, C .long);
@@ -110,5 +110,5 @@ module _ {rules : List ℕ} {count : ℕ} {kernels starts : List ℕ} {states : 
         exact : length looks ≡ size
         exact = omega arith
 
-    pub closed-all : states ≤ s → (b : Book) (F : Sets) → StateItemsIn b F rules count kernels starts states nulls firsts → ClosuresIn b F closures
+    pub closed-all : states ≤ s → (b : Book) (F : Sets) → StateItemsIn b F rules count kernels bounds states nullables begins → ClosuresIn b F closures
     closed-all h b F H = record { long = omega (arith, C .long, H .states-are); set-is = λ S B m n. C .done b F H S B (omega (arith, H .states-are)) n }

@@ -25,9 +25,9 @@ use Rattle.items.specs.SymbolCodes.{terminal-code, nonterminal-code, cod
 use Rattle.items.specs.Unions.{union-none}
 
 -- a grammar in arrays: its rules, and the sets of every rest of a rule
-pub record GrammarIn (b : Book) (F : Sets) (rules nulls firsts : List ℕ) : Type 0 where
+pub record GrammarIn (b : Book) (F : Sets) (rules nullables begins : List ℕ) : Type 0 where
   pub rules-in : RulesIn (b .rules) rules
-  pub rests-in : SuffixesIn (b .rules) F nulls firsts
+  pub rests-in : SuffixesIn (b .rules) F nullables begins
   pub small : Small (b .rules)
   pub short : (P : ℕ) → P < length (b .rules) → length (rightOf (b .rules) P) ≤ MAX-RIGHT
   pub first-low : (β : List Symbol) → Low β → first F β < 2 ^ 32
@@ -84,7 +84,7 @@ word-nonterminal : (X : Symbol) → numberOf X < 32 → 32 ≤ symbolCode X → 
 word-nonterminal (terminal K) h l = absurd (omega (arith, terminal-code K h))
 word-nonterminal (nonterminal K) h l = let e : symbolCode (nonterminal K) - 32 ≡ K = omega (arith, nonterminal-code K h) in rw e
 
-module _ {b : Book} {F : Sets} {rules nulls firsts : List ℕ} (H : GrammarIn b F rules nulls firsts) (P D : ℕ) (p : P < length (b .rules)) where
+module _ {b : Book} {F : Sets} {rules nullables begins : List ℕ} (H : GrammarIn b F rules nullables begins) (P D : ℕ) (p : P < length (b .rules)) where
   -- the symbol, if there is one
   abbrev next : Symbol
   next = getD (rightOf (b .rules) P) D (terminal 0)
@@ -128,27 +128,27 @@ module _ {b : Book} {F : Sets} {rules nulls firsts : List ℕ} (H : GrammarIn b 
         rest-next ∙ ap (λ (X : Symbol). X ∷ after (b .rules) P (D + 1)) (word-nonterminal next next-low (omega (arith, next-word)) ∙ rw next-word)
 
 -- what items with the lookaheads M give, by the words of a rest
-module _ {G : List Rule} {F : Sets} {nulls firsts : List ℕ} (R : SuffixesIn G F nulls firsts) (P D M : ℕ) (p : P < length G)
+module _ {G : List Rule} {F : Sets} {nullables begins : List ℕ} (R : SuffixesIn G F nullables begins) (P D M : ℕ) (p : P < length G)
     (d : D ≤ length (rightOf G P)) where
-  pub first-null : (getD nulls (9 * P + D) 0 ≡ 0 → ⊥) → firstWith F (after G P D) M ≡ union (getD firsts (9 * P + D) 0) M
+  pub first-null : (getD nullables (9 * P + D) 0 ≡ 0 → ⊥) → firstWith F (after G P D) M ≡ union (getD begins (9 * P + D) 0) M
   unfolding firstWith flag
   first-null h = go (null F (after G P D)) refl
     where
-      go : (t : Bool) → null F (after G P D) ≡ t → firstWith F (after G P D) M ≡ union (getD firsts (9 * P + D) 0) M
+      go : (t : Bool) → null F (after G P D) ≡ t → firstWith F (after G P D) M ≡ union (getD begins (9 * P + D) 0) M
       go true e = rw (e, firstWith, R .first-is P D p d)
       go false e = absurd (h (rw (R .null-is P D p d, e)))
 
-  pub first-full : getD nulls (9 * P + D) 0 ≡ 0 → firstWith F (after G P D) M ≡ getD firsts (9 * P + D) 0
+  pub first-full : getD nullables (9 * P + D) 0 ≡ 0 → firstWith F (after G P D) M ≡ getD begins (9 * P + D) 0
   unfolding firstWith flag
   first-full h = go (null F (after G P D)) refl
     where
-      go : (t : Bool) → null F (after G P D) ≡ t → firstWith F (after G P D) M ≡ getD firsts (9 * P + D) 0
+      go : (t : Bool) → null F (after G P D) ≡ t → firstWith F (after G P D) M ≡ getD begins (9 * P + D) 0
       go true e = let z : _≡_ {A = ℕ} 1 0 = rw (R .null-is P D p d, e) at h in absurd (omega arith)
       go false e = rw (e, firstWith, R .first-is P D p d)
 
 -- ---- an item gives what it directly derives, by the words of its rule
 
-module _ {b : Book} {F : Sets} {rules nulls firsts sets : List ℕ} (H : GrammarIn b F rules nulls firsts) (S : Family 32 sets)
+module _ {b : Book} {F : Sets} {rules nullables begins sets : List ℕ} (H : GrammarIn b F rules nullables begins) (S : Family 32 sets)
     (P D M : ℕ) (p : P < length (b .rules)) where
   -- the sets afterwards
   abbrev derived : List ℕ

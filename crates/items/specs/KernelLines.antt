@@ -15,7 +15,7 @@ use Rattle.grammar.specs.Automaton.Fixpoint.{Constraint, visit}
 use Rattle.grammar.specs.Automaton.FirstSets.{Sets}
 use Rattle.grammar.specs.Automaton.ClosureSets.{setOf, derivesInto, kernelsIn, fromKernels}
 use Rattle.book.specs.Held.{KernelsIn, kernelAt}
-use Rattle.items.specs.Arrays.{StartsIn}
+use Rattle.items.specs.Arrays.{BoundsIn}
 use Rattle.items.specs.Passes.{Told}
 use Rattle.items.specs.Derives.{GrammarIn}
 
@@ -33,8 +33,8 @@ lines-more ks i e h l =
     rw (add-one i, n, drop-cons ks i (record { state = 0; rule = 0; dot = 0; lookaheads = [] }))
 
 -- a book's rules and kernel lines in arrays, with the sets of every rest of a rule; each line names a rule
-pub record KernelItemsIn (b : Book) (F : Sets) (rules kernels nulls firsts : List ℕ) : Type 0 where
-  pub grammar-in : GrammarIn b F rules nulls firsts
+pub record KernelItemsIn (b : Book) (F : Sets) (rules kernels nullables begins : List ℕ) : Type 0 where
+  pub grammar-in : GrammarIn b F rules nullables begins
   pub kernels-in : KernelsIn (b .kernels) kernels
   pub rule-there : (i : ℕ) → i < length (b .kernels) → kernelAt (b .kernels) i .rule < length (b .rules)
 
@@ -44,19 +44,19 @@ pub record StateIn (ks : List Kernel) (S from to : ℕ) : Type 0 where
   pub lines-are : kernelsIn ks S ≡ lines ks from to
 
 -- no start is past the last line
-within-lines : {ks : List Kernel} {states : ℕ} {starts : List ℕ} → StartsIn ks states starts → (n S : ℕ) → S + n ≡ states → getD starts S 0 ≤ length ks
-within-lines {states = states} {starts = starts} H zero S e =
+within-lines : {ks : List Kernel} {states : ℕ} {bounds : List ℕ} → BoundsIn ks states bounds → (n S : ℕ) → S + n ≡ states → getD bounds S 0 ≤ length ks
+within-lines {states = states} {bounds = bounds} H zero S e =
     let s : S ≡ states = omega arith in
-    omega (arith, ap (λ (k : ℕ). getD starts k 0) s, H .last-is)
+    omega (arith, ap (λ (k : ℕ). getD bounds k 0) s, H .last-is)
 within-lines H (suc n) S e = omega (arith, H .ascend S (omega arith), within-lines H n (S + 1) (omega arith))
 
-pub state-in : {ks : List Kernel} {states : ℕ} {starts : List ℕ} → StartsIn ks states starts → (S : ℕ) → S < states
-    → StateIn ks S (getD starts S 0) (getD starts (S + 1) 0)
+pub state-in : {ks : List Kernel} {states : ℕ} {bounds : List ℕ} → BoundsIn ks states bounds → (S : ℕ) → S < states
+    → StateIn ks S (getD bounds S 0) (getD bounds (S + 1) 0)
 state-in {states = states} H S h = record { within = within-lines H (states - (S + 1)) (S + 1) (omega arith); lines-are = H .lines-are S h }
 
--- by words read from the starts
-pub state-words : {ks : List Kernel} {states : ℕ} {starts : List ℕ} → StartsIn ks states starts → (S : ℕ) {from to : ℕ} → S < states
-    → from ≡ getD starts S 0 → to ≡ getD starts (S + 1) 0 → StateIn ks S from to
+-- by words read from the bounds
+pub state-words : {ks : List Kernel} {states : ℕ} {bounds : List ℕ} → BoundsIn ks states bounds → (S : ℕ) {from to : ℕ} → S < states
+    → from ≡ getD bounds S 0 → to ≡ getD bounds (S + 1) 0 → StateIn ks S from to
 state-words H S h p q = rw (p, q) (state-in H S h)
 
 -- what line i gives
@@ -64,7 +64,7 @@ unfoldable pub lineInto : Book → Sets → ℕ → Constraint
 lineInto b F i = let k : Kernel = kernelAt (b .kernels) i in derivesInto F (after (b .rules) (k .rule) (k .dot)) (λ _. setOf (k .lookaheads))
 
 -- by the words of the line
-module _ {b : Book} {F : Sets} {rules kernels nulls firsts : List ℕ} (H : KernelItemsIn b F rules kernels nulls firsts) (i : ℕ)
+module _ {b : Book} {F : Sets} {rules kernels nullables begins : List ℕ} (H : KernelItemsIn b F rules kernels nullables begins) (i : ℕ)
     (h : i < length (b .kernels)) where
   pub line-rule : getD kernels (5 * i + 1) 0 < length (b .rules)
   line-rule = rw (H .kernels-in .rule-is i h) (H .rule-there i h)
@@ -83,10 +83,10 @@ pub record Begun (new old now : List ℕ) (changed : Bool) : Type 0 where
   pub same-is : changed ≡ false → now ≡ old
 
 -- before line i
-pub record Beginning (rules kernels nulls firsts : List ℕ) (from to : ℕ) (first now : List ℕ) (changed : Bool) (i : ℕ) : Type 0 where
+pub record Beginning (rules kernels nullables begins : List ℕ) (from to : ℕ) (first now : List ℕ) (changed : Bool) (i : ℕ) : Type 0 where
   pub long : length now ≡ length first
   pub same : changed ≡ false → now ≡ first
-  pub goes : (b : Book) (F : Sets) → KernelItemsIn b F rules kernels nulls firsts → to ≤ length (b .kernels)
+  pub goes : (b : Book) (F : Sets) → KernelItemsIn b F rules kernels nullables begins → to ≤ length (b .kernels)
       → fromKernels b F (lines (b .kernels) i to) now ≡ fromKernels b F (lines (b .kernels) from to) first
 
 -- one line more
@@ -95,29 +95,29 @@ pub lines-visit : (b : Book) (F : Sets) (i to : ℕ) (sets : List ℕ) → i < t
 unfolding fromKernels lineInto
 lines-visit b F i to sets h l = rw (lines-more (b .kernels) i to h l)
 
-module _ {rules kernels nulls firsts : List ℕ} {from to : ℕ} {first : List ℕ} where
-  pub begin-first : Beginning rules kernels nulls firsts from to first first false from
+module _ {rules kernels nullables begins : List ℕ} {from to : ℕ} {first : List ℕ} where
+  pub begin-first : Beginning rules kernels nullables begins from to first first false from
   begin-first = record { long = refl; same = λ _. refl; goes = λ b F H l. refl }
 
-  pub begin-ends : {now : List ℕ} {changed : Bool} {i : ℕ} → Beginning rules kernels nulls firsts from to first now changed i → to ≤ i
-      → (b : Book) (F : Sets) → KernelItemsIn b F rules kernels nulls firsts → to ≤ length (b .kernels)
+  pub begin-ends : {now : List ℕ} {changed : Bool} {i : ℕ} → Beginning rules kernels nullables begins from to first now changed i → to ≤ i
+      → (b : Book) (F : Sets) → KernelItemsIn b F rules kernels nullables begins → to ≤ length (b .kernels)
       → Begun (fromKernels b F (lines (b .kernels) from to) first) first now changed
   unfolding fromKernels
   begin-ends {i = i} B h b F H l =
       record { now-is = rw (lines-none (b .kernels) i to h) at (B .goes b F H l); same-is = B .same }
 
-  module _ {now next : List ℕ} {changed r : Bool} {i : ℕ} (B : Beginning rules kernels nulls firsts from to first now changed i) (h : i < to)
-      (T : (b : Book) (F : Sets) → KernelItemsIn b F rules kernels nulls firsts → i < length (b .kernels) → Told (visit (lineInto b F i) now) now next r)
+  module _ {now next : List ℕ} {changed r : Bool} {i : ℕ} (B : Beginning rules kernels nullables begins from to first now changed i) (h : i < to)
+      (T : (b : Book) (F : Sets) → KernelItemsIn b F rules kernels nullables begins → i < length (b .kernels) → Told (visit (lineInto b F i) now) now next r)
       (l : length next ≡ length now) where
-    next-goes : (b : Book) (F : Sets) → KernelItemsIn b F rules kernels nulls firsts → to ≤ length (b .kernels)
+    next-goes : (b : Book) (F : Sets) → KernelItemsIn b F rules kernels nullables begins → to ≤ length (b .kernels)
         → fromKernels b F (lines (b .kernels) (i + 1) to) next ≡ fromKernels b F (lines (b .kernels) from to) first
     next-goes b F H m =
         ap (fromKernels b F (lines (b .kernels) (i + 1) to)) (T b F H (omega arith) .now-is) ∙ sym (lines-visit b F i to now h m) ∙ B .goes b F H m
 
-    pub begin-more : Beginning rules kernels nulls firsts from to first next true (i + 1)
+    pub begin-more : Beginning rules kernels nullables begins from to first next true (i + 1)
     begin-more = record { long = l ∙ B .long; same = λ q. true-false refl q; goes = next-goes }
 
-    pub begin-same : next ≡ now → Beginning rules kernels nulls firsts from to first next changed (i + 1)
+    pub begin-same : next ≡ now → Beginning rules kernels nullables begins from to first next changed (i + 1)
     begin-same e = record { long = l ∙ B .long; same = λ q. e ∙ B .same q; goes = next-goes }
 
 -- opens every definition of this module

@@ -81,7 +81,7 @@ module _ {rules : List ℕ} {count : ℕ} {leads : List ℕ} {rule : ℕ} (few :
 
 -- ---- a pass
 
-module _ {b : Book} {F : Sets} {rules nulls firsts : List ℕ} (H : GrammarIn b F rules nulls firsts) where
+module _ {b : Book} {F : Sets} {rules nullables begins : List ℕ} (H : GrammarIn b F rules nullables begins) where
   -- a rule that derives nothing changes nothing
   idle-told : {sets : List ℕ} → Family 32 sets → (P : ℕ) → P < length (b .rules) → derivesCode rules P ≡ false
       → Told (visit (closureRule b F P) sets) sets sets false

@@ -44,33 +44,33 @@ module _ (F : Sets) (reached words : List ℕ) (P : ℕ) {d last : ℕ} (l : las
     pub inside : d < sizeWord words P
     inside = omega arith
 
-    pub reach-more : {vanishes begins : List ℕ} {word r : ℕ} → word ≡ symbolWord words P d → RestsIn F (rightIn words P) (9 * P) vanishes begins
-        → ((β : List Symbol) → RestIs F β (getD vanishes (9 * P + d + 1) 0) (getD begins (9 * P + d + 1) 0) → r ≡ reachIn F reached (symbolOf word ∷ β))
+    pub reach-more : {nullables begins : List ℕ} {word r : ℕ} → word ≡ symbolWord words P d → RestsIn F (rightIn words P) (9 * P) nullables begins
+        → ((β : List Symbol) → RestIs F β (getD nullables (9 * P + d + 1) 0) (getD begins (9 * P + d + 1) 0) → r ≡ reachIn F reached (symbolOf word ∷ β))
         → r ≡ reachIn F reached (drop d (rightIn words P))
-    reach-more {vanishes} {begins} {word} e R told =
+    reach-more {nullables} {begins} {word} e R told =
         told (drop (d + 1) (rightIn words P)) behind ∙ ap (reachIn F reached) (rw e (sym (rest-more words P d inside)))
       where
-        behind : RestIs F (drop (d + 1) (rightIn words P)) (getD vanishes (9 * P + d + 1) 0) (getD begins (9 * P + d + 1) 0)
+        behind : RestIs F (drop (d + 1) (rightIn words P)) (getD nullables (9 * P + d + 1) 0) (getD begins (9 * P + d + 1) 0)
         behind =
             let q : 9 * P + (d + 1) ≡ 9 * P + d + 1 = omega arith in
-            subst (λ (k : ℕ). RestIs F (drop (d + 1) (rightIn words P)) (getD vanishes k 0) (getD begins k 0)) q
+            subst (λ (k : ℕ). RestIs F (drop (d + 1) (rightIn words P)) (getD nullables k 0) (getD begins k 0)) q
             (R .rest-is (d + 1) (omega (arith, right-size words P)))
 
 -- ---- the arrays of a grammar
 
 -- what the searches over a grammar's rests ask: the grammar in an array, its nullable nonterminals, and the arrays of null and FIRST of every rest
-pub record SetsIn (words : List ℕ) (count nulls : ℕ) (vanishes begins : List ℕ) : Type 0 where
+pub record SetsIn (words : List ℕ) (count nulls : ℕ) (nullables begins : List ℕ) : Type 0 where
   pub fits : GrammarFits words count
   pub nulls-are : nulls ≡ nullable (grammarOf words count)
-  pub suffixes-are : SuffixesIn (grammarOf words count) (setsOf (grammarOf words count)) vanishes begins
+  pub suffixes-are : SuffixesIn (grammarOf words count) (setsOf (grammarOf words count)) nullables begins
 
-module _ {words : List ℕ} {count nulls : ℕ} {vanishes begins : List ℕ} (S : SetsIn words count nulls vanishes begins) where
+module _ {words : List ℕ} {count nulls : ℕ} {nullables begins : List ℕ} (S : SetsIn words count nulls nullables begins) where
   pub nulls-of : nulls ≡ nullsOf (setsOf (grammarOf words count))
   unfolding nullsOf setsOf
   nulls-of = S .nulls-are
 
   -- the words of one rule
-  pub rests-in : (P : ℕ) → P < count → RestsIn (setsOf (grammarOf words count)) (rightIn words P) (9 * P) vanishes begins
+  pub rests-in : (P : ℕ) → P < count → RestsIn (setsOf (grammarOf words count)) (rightIn words P) (9 * P) nullables begins
   rests-in P h = record {
     rest-is = λ D l. record {
       null-is = S .suffixes-are .null-is P D inside (rw e l) ∙ ap (λ (β : List Symbol). flag (null (setsOf (grammarOf words count)) (drop D β))) e;
@@ -85,9 +85,9 @@ module _ {words : List ℕ} {count nulls : ℕ} {vanishes begins : List ℕ} (S 
       inside = rw (grammar-size words count) h
 
   -- which are there
-  pub rests-there : (P : ℕ) → P < count → (9 * P + 9 ≤ length vanishes) × (9 * P + 9 ≤ length begins)
+  pub rests-there : (P : ℕ) → P < count → (9 * P + 9 ≤ length nullables) × (9 * P + 9 ≤ length begins)
   rests-there P h =
-      (omega (arith, S .suffixes-are .nulls-long, grammar-size words count), omega (arith, S .suffixes-are .firsts-long, grammar-size words count))
+      (omega (arith, S .suffixes-are .nullables-long, grammar-size words count), omega (arith, S .suffixes-are .begins-long, grammar-size words count))
 
   -- what a rule gives
   pub reach-told : {now next : List ℕ} {p target more : ℕ} {r : Bool} → p < count → target ≡ leftWord words p
@@ -107,27 +107,27 @@ reach-all words count F e = rw (e, grammar-size words count)
 -- ---- one rule's words, from the first dot on
 
 -- whatever sets the arrays are of
-pub record Reaching (words : List ℕ) (P nulls : ℕ) (vanishes begins reached old now : List ℕ) (d : ℕ) : Type 0 where
+pub record Reaching (words : List ℕ) (P nulls : ℕ) (nullables begins reached old now : List ℕ) (d : ℕ) : Type 0 where
   pub within : d ≤ sizeWord words P + 1
   pub long : length now ≡ length old
-  pub filled : (F : Sets) → nulls ≡ nullsOf F → RestsIn F (rightIn words P) (9 * P) vanishes begins
+  pub filled : (F : Sets) → nulls ≡ nullsOf F → RestsIn F (rightIn words P) (9 * P) nullables begins
       → Filled (ofRest (reachIn F reached) words P) (9 * P) 0 d old now
 
-module _ {words : List ℕ} {P nulls : ℕ} {vanishes begins reached old : List ℕ} where
-  pub reaching-begins : Reaching words P nulls vanishes begins reached old old 0
+module _ {words : List ℕ} {P nulls : ℕ} {nullables begins reached old : List ℕ} where
+  pub reaching-begins : Reaching words P nulls nullables begins reached old old 0
   reaching-begins = record { within = omega arith; long = refl; filled = λ F e R. fill-none (omega arith) }
 
-  module _ {now : List ℕ} {d : ℕ} (R : Reaching words P nulls vanishes begins reached old now d) where
+  module _ {now : List ℕ} {d : ℕ} (R : Reaching words P nulls nullables begins reached old now d) where
     pub reaching-turn : RuleFits words P → 9 * P + 9 ≤ length old → d ≤ sizeWord words P → {w : ℕ}
-        → ((F : Sets) → nulls ≡ nullsOf F → RestsIn F (rightIn words P) (9 * P) vanishes begins → w ≡ reachIn F reached (drop d (rightIn words P)))
-        → Reaching words P nulls vanishes begins reached old (set now (9 * P + d) w) (d + 1)
+        → ((F : Sets) → nulls ≡ nullsOf F → RestsIn F (rightIn words P) (9 * P) nullables begins → w ≡ reachIn F reached (drop d (rightIn words P)))
+        → Reaching words P nulls nullables begins reached old (set now (9 * P + d) w) (d + 1)
     reaching-turn fits l h told = record {
       within = omega arith;
       long = length-set now _ _ ∙ R .long;
       filled = λ F e S. fill-up (R .filled F e S) d (omega (arith, fits .below, fits .size-low)) (told F e S) refl;
     }
 
-    pub reaching-ends : sizeWord words P < d → (F : Sets) → nulls ≡ nullsOf F → RestsIn F (rightIn words P) (9 * P) vanishes begins
+    pub reaching-ends : sizeWord words P < d → (F : Sets) → nulls ≡ nullsOf F → RestsIn F (rightIn words P) (9 * P) nullables begins
         → RestsAre (reachIn F reached) words P old now
     reaching-ends h F e S =
         let q : d ≡ sizeWord words P + 1 = omega (arith, R .within) in

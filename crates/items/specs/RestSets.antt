@@ -13,9 +13,9 @@ use Rattle.items.specs.GrammarOf.{sizeWord, grammarOf, right-size, gramm
 use Rattle.items.specs.Living.{Living, living-reaches}
 use Rattle.items.specs.ReachLoops.{SetsIn}
 
-pub record RestSetsIn (G : List Rule) (vanishes begins reached : List ℕ) : Type 0 where
-  pub suffixes-in : SuffixesIn G (setsOf G) vanishes begins
-  pub reaches-in : ReachesIn G (setsOf G) (reachSets G (setsOf G)) reached
+pub record RestSetsIn (G : List Rule) (nullables begins reaches : List ℕ) : Type 0 where
+  pub suffixes-in : SuffixesIn G (setsOf G) nullables begins
+  pub reaches-in : ReachesIn G (setsOf G) (reachSets G (setsOf G)) reaches
 
 -- nullable and FIRST are the grammar's sets
 sets-are : (words : List ℕ) (count : ℕ) {nulls : ℕ} {firsts : List ℕ} → nulls ≡ nullable (grammarOf words count)
@@ -23,29 +23,29 @@ sets-are : (words : List ℕ) (count : ℕ) {nulls : ℕ} {firsts : List ℕ} �
 unfolding setsOf
 sets-are words count n f = rw (f, n)
 
-module _ {words : List ℕ} {count nulls : ℕ} {vanishes begins : List ℕ} where
+module _ {words : List ℕ} {count nulls : ℕ} {nullables begins : List ℕ} where
   -- nullable, FIRST, then the arrays of null and FIRST
   pub sets-in : {firsts : List ℕ} → GrammarFits words count → nulls ≡ nullable (grammarOf words count)
-      → firsts ≡ firstSets (grammarOf words count) nulls → SuffixesIn (grammarOf words count) (sets nulls firsts) vanishes begins
-      → SetsIn words count nulls vanishes begins
+      → firsts ≡ firstSets (grammarOf words count) nulls → SuffixesIn (grammarOf words count) (sets nulls firsts) nullables begins
+      → SetsIn words count nulls nullables begins
   sets-in F n f S = record {
     fits = F;
     nulls-are = n;
-    suffixes-are = subst (λ (E : Sets). SuffixesIn (grammarOf words count) E vanishes begins) (sets-are words count n f) S;
+    suffixes-are = subst (λ (E : Sets). SuffixesIn (grammarOf words count) E nullables begins) (sets-are words count n f) S;
   }
 
   -- then the array of what is reached
-  module _ {reached : List ℕ} (S : SetsIn words count nulls vanishes begins) where
+  module _ {reaches : List ℕ} (S : SetsIn words count nulls nullables begins) where
     pub rest-sets-in : ReachesIn (grammarOf words count) (setsOf (grammarOf words count))
-        (reachSets (grammarOf words count) (setsOf (grammarOf words count))) reached
-        → (G : List Rule) → GrammarHeld G words count → RestSetsIn G vanishes begins reached
+        (reachSets (grammarOf words count) (setsOf (grammarOf words count))) reaches
+        → (G : List Rule) → GrammarHeld G words count → RestSetsIn G nullables begins reaches
     rest-sets-in R G H =
-        subst (λ (E : List Rule). RestSetsIn E vanishes begins reached) (grammar-back H) (record { suffixes-in = S .suffixes-are; reaches-in = R })
+        subst (λ (E : List Rule). RestSetsIn E nullables begins reaches) (grammar-back H) (record { suffixes-in = S .suffixes-are; reaches-in = R })
 
     -- which is that of FIRST where no rest is a dead end
     pub living-reaches-in : {firsts : List ℕ} → firsts ≡ firstSets (grammarOf words count) nulls → Living (grammarOf words count) (sets nulls firsts)
-        → 9 * count ≤ length reached → ((i : ℕ) → i < 9 * count → getD reached i 0 ≡ getD begins i 0)
-        → ReachesIn (grammarOf words count) (setsOf (grammarOf words count)) (reachSets (grammarOf words count) (setsOf (grammarOf words count))) reached
+        → 9 * count ≤ length reaches → ((i : ℕ) → i < 9 * count → getD reaches i 0 ≡ getD begins i 0)
+        → ReachesIn (grammarOf words count) (setsOf (grammarOf words count)) (reachSets (grammarOf words count) (setsOf (grammarOf words count))) reaches
     living-reaches-in f L long same = record {
       long = omega (arith, long, grammar-size words count);
       reach-is = λ P D p d.

@@ -28,7 +28,7 @@ unfoldable pub beginsWith : List ℕ → Symbol → ℕ
 beginsWith firsts (terminal a) = single a
 beginsWith firsts (nonterminal B) = setAt firsts B
 
--- ---- in front of a rest: one that vanishes, one that does not
+-- ---- in front of a rest: one that is nullable, one that does not
 
 pub null-past : (nulls : ℕ) (X : Symbol) (β : List Symbol) → nullSymbol nulls X ≡ true → nullIn nulls (X ∷ β) ≡ nullIn nulls β
 unfolding nullSymbol nullIn
@@ -57,15 +57,15 @@ first-stops nulls firsts (nonterminal B) β e = rw (e, firstIn)
 unfoldable pub nullsOf : Sets → ℕ
 nullsOf (sets nulls firsts) = nulls
 
--- two words that tell of the rest β whether it vanishes and what can begin it
-pub record RestIs (F : Sets) (β : List Symbol) (vanishes begins : ℕ) : Type 0 where
-  pub null-is : vanishes ≡ flag (null F β)
+-- two words that tell of the rest β whether it is nullable and what can begin it
+pub record RestIs (F : Sets) (β : List Symbol) (nullable begins : ℕ) : Type 0 where
+  pub null-is : nullable ≡ flag (null F β)
   pub first-is : begins ≡ first F β
 
 -- of a symbol with a rest behind it, by the tests that were made
-module _ {nulls : ℕ} {firsts : List ℕ} {β : List Symbol} {X : Symbol} {vanishes begins own : ℕ} {r : Bool} (R : RestIs (sets nulls firsts) β vanishes begins)
+module _ {nulls : ℕ} {firsts : List ℕ} {β : List Symbol} {X : Symbol} {nullable begins own : ℕ} {r : Bool} (R : RestIs (sets nulls firsts) β nullable begins)
     (o : own ≡ beginsWith firsts X) (t : r ≡ nullSymbol nulls X) where
-  pub rest-past : r ≡ true → {u : ℕ} → u ≡ union own begins → RestIs (sets nulls firsts) (X ∷ β) vanishes u
+  pub rest-past : r ≡ true → {u : ℕ} → u ≡ union own begins → RestIs (sets nulls firsts) (X ∷ β) nullable u
   unfolding null first
   rest-past q e = record {
     null-is = R .null-is ∙ sym (ap flag (null-past nulls X β (sym t ∙ q)));
@@ -80,15 +80,15 @@ module _ {nulls : ℕ} {firsts : List ℕ} {β : List Symbol} {X : Symbol} {vani
   }
 
 -- of every rest of β, the words from a place on
-pub record RestsIn (F : Sets) (β : List Symbol) (place : ℕ) (vanishes begins : List ℕ) : Type 0 where
-  pub rest-is : (D : ℕ) → D ≤ length β → RestIs F (drop D β) (getD vanishes (place + D) 0) (getD begins (place + D) 0)
+pub record RestsIn (F : Sets) (β : List Symbol) (place : ℕ) (nullables begins : List ℕ) : Type 0 where
+  pub rest-is : (D : ℕ) → D ≤ length β → RestIs F (drop D β) (getD nullables (place + D) 0) (getD begins (place + D) 0)
 
-module _ {F : Sets} {β : List Symbol} {vanishes begins : ℕ} (R : RestIs F β vanishes begins) where
-  told-null : (t : Bool) → null F β ≡ t → vanishes ≡ flag t
+module _ {F : Sets} {β : List Symbol} {nullable begins : ℕ} (R : RestIs F β nullable begins) where
+  told-null : (t : Bool) → null F β ≡ t → nullable ≡ flag t
   told-null t e = R .null-is ∙ ap flag e
 
   -- the test for a dead end, by the words
-  pub dead-end : vanishes ≡ 0 → begins ≡ 0 → dead F β ≡ true
+  pub dead-end : nullable ≡ 0 → begins ≡ 0 → dead F β ≡ true
   unfolding dead flag
   dead-end v b = go (null F β) refl
     where
@@ -96,7 +96,7 @@ module _ {F : Sets} {β : List Symbol} {vanishes begins : ℕ} (R : RestIs F β 
       go true e = absurd (let z : ⊥ = omega (arith, told-null true e) in z)
       go false e = rw (e, dead) (eq-eqb (first F β) 0 (sym (R .first-is) ∙ b))
 
-  pub vanishing-end : (vanishes ≡ 0 → ⊥) → dead F β ≡ false
+  pub vanishing-end : (nullable ≡ 0 → ⊥) → dead F β ≡ false
   unfolding dead flag
   vanishing-end v = go (null F β) refl
     where

@@ -47,42 +47,42 @@ LivesFrom words nulls firsts P d = (D : ℕ) → d ≤ D → D ≤ sizeWord word
 
 -- ---- one rule's words, from the last dot to the first
 
-pub record RuleSuffixes (words : List ℕ) (P nulls : ℕ) (firsts oldNulls nowNulls oldFirsts nowFirsts : List ℕ) (alive : Bool) : Type 0 where
-  pub nulls-are : RestsAre (λ β. flag (nullIn nulls β)) words P oldNulls nowNulls
-  pub firsts-are : RestsAre (firstIn nulls firsts) words P oldFirsts nowFirsts
+pub record RuleSuffixes (words : List ℕ) (P nulls : ℕ) (firsts oldNullables nowNullables oldBegins nowBegins : List ℕ) (alive : Bool) : Type 0 where
+  pub nulls-are : RestsAre (λ β. flag (nullIn nulls β)) words P oldNullables nowNullables
+  pub firsts-are : RestsAre (firstIn nulls firsts) words P oldBegins nowBegins
   pub living : alive ≡ true → LivesFrom words nulls firsts P 0
 
-pub record Suffixing (words : List ℕ) (P nulls : ℕ) (firsts oldNulls nowNulls oldFirsts nowFirsts : List ℕ) (d vanishes begins : ℕ) (alive : Bool)
+pub record Suffixing (words : List ℕ) (P nulls : ℕ) (firsts oldNullables nowNullables oldBegins nowBegins : List ℕ) (d nullable begins : ℕ) (alive : Bool)
     : Type 0 where
-  pub nulls-back : Backward (λ β. flag (nullIn nulls β)) words P oldNulls nowNulls d vanishes
-  pub firsts-back : Backward (firstIn nulls firsts) words P oldFirsts nowFirsts d begins
+  pub nullables-back : Backward (λ β. flag (nullIn nulls β)) words P oldNullables nowNullables d nullable
+  pub begins-back : Backward (firstIn nulls firsts) words P oldBegins nowBegins d begins
   pub living : alive ≡ true → LivesFrom words nulls firsts P d
 
 end-lives : (nulls : ℕ) (firsts : List ℕ) → dead (sets nulls firsts) [] ≡ false
 unfolding dead null nullIn
 end-lives nulls firsts = refl
 
-module _ {words : List ℕ} {P nulls : ℕ} {firsts oldNulls oldFirsts : List ℕ} where
-  pub suffixing-begins : {last : ℕ} → last ≡ sizeWord words P → Suffixing words P nulls firsts oldNulls oldNulls oldFirsts oldFirsts last 1 0 true
+module _ {words : List ℕ} {P nulls : ℕ} {firsts oldNullables oldBegins : List ℕ} where
+  pub suffixing-begins : {last : ℕ} → last ≡ sizeWord words P → Suffixing words P nulls firsts oldNullables oldNullables oldBegins oldBegins last 1 0 true
   unfolding flag nullIn firstIn
   suffixing-begins {last} e = record {
-    nulls-back = backward-begins (λ β. flag (nullIn nulls β)) e refl;
-    firsts-back = backward-begins (firstIn nulls firsts) e refl;
+    nullables-back = backward-begins (λ β. flag (nullIn nulls β)) e refl;
+    begins-back = backward-begins (firstIn nulls firsts) e refl;
     living = λ _ D l h. rw (rest-none words P D (omega arith)) (end-lives nulls firsts);
   }
 
-  module _ (R : RuleFits words P) (m : 9 * P + 9 ≤ length oldNulls) (n : 9 * P + 9 ≤ length oldFirsts)
-      {nowNulls nowFirsts : List ℕ} {d vanishes begins : ℕ} {alive : Bool}
-      (S : Suffixing words P nulls firsts oldNulls nowNulls oldFirsts nowFirsts d vanishes begins alive) where
-    module _ (h : 0 < d) {word vanishes₁ begins₁ : ℕ} {dies : Bool} (w : word ≡ symbolWord words P (d - 1))
-        (step : (β : List Symbol) → RestIs (sets nulls firsts) β vanishes begins → RestIs (sets nulls firsts) (symbolOf word ∷ β) vanishes₁ begins₁)
-        (told : (F : Sets) (β : List Symbol) → RestIs F β vanishes₁ begins₁ → dies ≡ dead F β) where
-      next : RestIs (sets nulls firsts) (symbolOf word ∷ drop d (rightIn words P)) vanishes₁ begins₁
+  module _ (R : RuleFits words P) (m : 9 * P + 9 ≤ length oldNullables) (n : 9 * P + 9 ≤ length oldBegins)
+      {nowNullables nowBegins : List ℕ} {d nullable begins : ℕ} {alive : Bool}
+      (S : Suffixing words P nulls firsts oldNullables nowNullables oldBegins nowBegins d nullable begins alive) where
+    module _ (h : 0 < d) {word nullable₁ begins₁ : ℕ} {dies : Bool} (w : word ≡ symbolWord words P (d - 1))
+        (step : (β : List Symbol) → RestIs (sets nulls firsts) β nullable begins → RestIs (sets nulls firsts) (symbolOf word ∷ β) nullable₁ begins₁)
+        (told : (F : Sets) (β : List Symbol) → RestIs F β nullable₁ begins₁ → dies ≡ dead F β) where
+      next : RestIs (sets nulls firsts) (symbolOf word ∷ drop d (rightIn words P)) nullable₁ begins₁
       unfolding null first
-      next = step (drop d (rightIn words P)) (record { null-is = S .nulls-back .behind-is; first-is = S .firsts-back .behind-is })
+      next = step (drop d (rightIn words P)) (record { null-is = S .nullables-back .behind-is; first-is = S .begins-back .behind-is })
 
       longer : symbolOf word ∷ drop d (rightIn words P) ≡ drop (d - 1) (rightIn words P)
-      longer = rw w (sym (rest-before words P d h (S .nulls-back .within)))
+      longer = rw w (sym (rest-before words P d h (S .nullables-back .within)))
 
       lives : {alive₁ : Bool} → alive₁ ≡ (alive && not dies) → alive₁ ≡ true → LivesFrom words nulls firsts P (d - 1)
       lives e q D l k =
@@ -95,43 +95,43 @@ module _ {words : List ℕ} {P nulls : ℕ} {firsts oldNulls oldFirsts : List �
           go before now (no z) = S .living before D (omega arith) k
 
       pub suffixing-turn : {alive₁ : Bool} → alive₁ ≡ (alive && not dies)
-          → Suffixing words P nulls firsts oldNulls (set nowNulls (9 * P + d) vanishes) oldFirsts (set nowFirsts (9 * P + d) begins) (d - 1)
-          vanishes₁ begins₁ alive₁
+          → Suffixing words P nulls firsts oldNullables (set nowNullables (9 * P + d) nullable) oldBegins (set nowBegins (9 * P + d) begins) (d - 1)
+          nullable₁ begins₁ alive₁
       unfolding null first
       suffixing-turn e = record {
-        nulls-back = backward-turn _ R m (S .nulls-back) h w (next .null-is);
-        firsts-back = backward-turn _ R n (S .firsts-back) h w (next .first-is);
+        nullables-back = backward-turn _ R m (S .nullables-back) h w (next .null-is);
+        begins-back = backward-turn _ R n (S .begins-back) h w (next .first-is);
         living = lives e;
       }
 
     pub suffixing-ends : d ≤ 0
-        → RuleSuffixes words P nulls firsts oldNulls (set nowNulls (9 * P) vanishes) oldFirsts (set nowFirsts (9 * P) begins) alive
+        → RuleSuffixes words P nulls firsts oldNullables (set nowNullables (9 * P) nullable) oldBegins (set nowBegins (9 * P) begins) alive
     suffixing-ends h = record {
-      nulls-are = backward-ends _ R m (S .nulls-back) h;
-      firsts-are = backward-ends _ R n (S .firsts-back) h;
+      nulls-are = backward-ends _ R m (S .nullables-back) h;
+      firsts-are = backward-ends _ R n (S .begins-back) h;
       living = λ q D l k. S .living q D (omega arith) k;
     }
 
 -- ---- rule after rule
 
-pub record SuffixesFilled (words : List ℕ) (count nulls : ℕ) (firsts oldNulls nowNulls oldFirsts nowFirsts : List ℕ) (alive : Bool) (p : ℕ)
+pub record SuffixesFilled (words : List ℕ) (count nulls : ℕ) (firsts oldNullables nowNullables oldBegins nowBegins : List ℕ) (alive : Bool) (p : ℕ)
     : Type 0 where
-  pub nulls-filled : RestsFilled (λ β. flag (nullIn nulls β)) words count oldNulls nowNulls p
-  pub firsts-filled : RestsFilled (firstIn nulls firsts) words count oldFirsts nowFirsts p
+  pub nullables-filled : RestsFilled (λ β. flag (nullIn nulls β)) words count oldNullables nowNullables p
+  pub begins-filled : RestsFilled (firstIn nulls firsts) words count oldBegins nowBegins p
   pub living : alive ≡ true → (P : ℕ) → P < p → LivesFrom words nulls firsts P 0
 
-module _ {words : List ℕ} {count nulls : ℕ} {firsts oldNulls oldFirsts : List ℕ} where
-  pub suffixes-begin : SuffixesFilled words count nulls firsts oldNulls oldNulls oldFirsts oldFirsts true 0
-  suffixes-begin = record { nulls-filled = rests-begin _; firsts-filled = rests-begin _; living = λ _ P h. absurd (omega arith) }
+module _ {words : List ℕ} {count nulls : ℕ} {firsts oldNullables oldBegins : List ℕ} where
+  pub suffixes-begin : SuffixesFilled words count nulls firsts oldNullables oldNullables oldBegins oldBegins true 0
+  suffixes-begin = record { nullables-filled = rests-begin _; begins-filled = rests-begin _; living = λ _ P h. absurd (omega arith) }
 
-  module _ {nowNulls nowFirsts : List ℕ} {alive : Bool} {p : ℕ} (S : SuffixesFilled words count nulls firsts oldNulls nowNulls oldFirsts nowFirsts alive p)
+  module _ {nowNullables nowBegins : List ℕ} {alive : Bool} {p : ℕ} (S : SuffixesFilled words count nulls firsts oldNullables nowNullables oldBegins nowBegins alive p)
     where
-      pub suffixes-turn : GrammarFits words count → p < count → {nextNulls nextFirsts : List ℕ} {lives alive₁ : Bool}
-          → RuleSuffixes words p nulls firsts nowNulls nextNulls nowFirsts nextFirsts lives → alive₁ ≡ (alive && lives)
-          → SuffixesFilled words count nulls firsts oldNulls nextNulls oldFirsts nextFirsts alive₁ (p + 1)
+      pub suffixes-turn : GrammarFits words count → p < count → {nextNullables nextBegins : List ℕ} {lives alive₁ : Bool}
+          → RuleSuffixes words p nulls firsts nowNullables nextNullables nowBegins nextBegins lives → alive₁ ≡ (alive && lives)
+          → SuffixesFilled words count nulls firsts oldNullables nextNullables oldBegins nextBegins alive₁ (p + 1)
       suffixes-turn G h {lives = lives} {alive₁} R e = record {
-        nulls-filled = rests-turn _ (S .nulls-filled) G h (R .nulls-are);
-        firsts-filled = rests-turn _ (S .firsts-filled) G h (R .firsts-are);
+        nullables-filled = rests-turn _ (S .nullables-filled) G h (R .nulls-are);
+        begins-filled = rests-turn _ (S .begins-filled) G h (R .firsts-are);
         living = λ q P l. let (before, now) = both-true alive lives (sym e ∙ q) in go before now P l (ℕ-discrete P p);
       }
         where
@@ -140,14 +140,14 @@ module _ {words : List ℕ} {count nulls : ℕ} {firsts oldNulls oldFirsts : Lis
           go before now P l (no z) = S .living before P (omega arith)
 
       module _ (h : count ≤ p) where
-        pub suffixes-end : 9 * count ≤ length oldNulls → 9 * count ≤ length oldFirsts
-            → SuffixesIn (grammarOf words count) (sets nulls firsts) nowNulls nowFirsts
+        pub suffixes-end : 9 * count ≤ length oldNullables → 9 * count ≤ length oldBegins
+            → SuffixesIn (grammarOf words count) (sets nulls firsts) nowNullables nowBegins
         unfolding null first
         suffixes-end m n = record {
-          nulls-long = omega (arith, m, S .nulls-filled .rules .long, grammar-size words count);
-          firsts-long = omega (arith, n, S .firsts-filled .rules .long, grammar-size words count);
-          null-is = rests-end (λ β. flag (nullIn nulls β)) (S .nulls-filled) h;
-          first-is = rests-end (firstIn nulls firsts) (S .firsts-filled) h;
+          nullables-long = omega (arith, m, S .nullables-filled .rules .long, grammar-size words count);
+          begins-long = omega (arith, n, S .begins-filled .rules .long, grammar-size words count);
+          null-is = rests-end (λ β. flag (nullIn nulls β)) (S .nullables-filled) h;
+          first-is = rests-end (firstIn nulls firsts) (S .begins-filled) h;
         }
 
         pub living-end : alive ≡ true → Living (grammarOf words count) (sets nulls firsts)

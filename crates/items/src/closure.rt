@@ -19,14 +19,14 @@ use super::passes::give;
 use super::words::word;
 
 // What can begin the rest of a rule after `dot` symbols, with the lookaheads `own` behind it.
-fn first_with(nulls: &[u32], firsts: &[u32], rule: usize, dot: usize, own: u32) -> u32
-    requires { ⌜ (9 * rule + dot < length (now nulls)) × (9 * rule + dot < length (now firsts)) ⌝ }
-    ensures { λ r. ⌜ ((G : List Rule) (F : Sets) → SuffixesIn G F (now (nulls .entry)) (now (firsts .entry))
+fn first_with(nullables: &[u32], begins: &[u32], rule: usize, dot: usize, own: u32) -> u32
+    requires { ⌜ (9 * rule + dot < length (now nullables)) × (9 * rule + dot < length (now begins)) ⌝ }
+    ensures { λ r. ⌜ ((G : List Rule) (F : Sets) → SuffixesIn G F (now (nullables .entry)) (now (begins .entry))
         → rule < length G → dot ≤ length (rightOf G rule) → r ≡ firstWith F (after G rule dot) own) ⌝ }
 {
     let place = 9 * rule + dot;
-    let first = firsts[place];
-    if nulls[place] == 0 {
+    let first = begins[place];
+    if nullables[place] == 0 {
         return first;
     }
     sets::union(first, own)
@@ -36,16 +36,16 @@ fn first_with(nulls: &[u32], firsts: &[u32], rule: usize, dot: usize, own: u32) 
 // that it directly derives; whether that changed any.
 fn derive(
     rules: &[u32],
-    nulls: &[u32],
-    firsts: &[u32],
+    nullables: &[u32],
+    begins: &[u32],
     rule: usize,
     dot: usize,
     own: u32,
     looks: &mut [u32],
 ) -> bool
-    requires { ⌜ ((b : Book) × (F : Sets) × GrammarIn b F (now rules) (now nulls) (now firsts) × (rule < length (b .rules)))
+    requires { ⌜ ((b : Book) × (F : Sets) × GrammarIn b F (now rules) (now nullables) (now begins) × (rule < length (b .rules)))
         × (length (now looks) ≡ 32) ⌝ }
-    ensures { λ r. ⌜ ((b : Book) (F : Sets) → GrammarIn b F (now (rules .entry)) (now (nulls .entry)) (now (firsts .entry))
+    ensures { λ r. ⌜ ((b : Book) (F : Sets) → GrammarIn b F (now (rules .entry)) (now (nullables .entry)) (now (begins .entry))
         → rule < length (b .rules)
         → Told (visit (derivesInto F (after (b .rules) rule dot) (λ _. own)) (now (looks .entry))) (now (looks .entry)) (now (looks .exit)) r) ⌝ }
 {
@@ -62,20 +62,20 @@ fn derive(
     give(
         looks,
         next - 32,
-        first_with(nulls, firsts, rule, dot + 1, own),
+        first_with(nullables, begins, rule, dot + 1, own),
     )
 }
 
 // A rule gives what its item with the dot in front, with the lookaheads of its left side, directly derives; whether that changed any.
-fn visit(rules: &[u32], nulls: &[u32], firsts: &[u32], rule: usize, looks: &mut [u32]) -> bool
-    requires { ⌜ ((b : Book) × (F : Sets) × GrammarIn b F (now rules) (now nulls) (now firsts) × (rule < length (b .rules)))
+fn visit(rules: &[u32], nullables: &[u32], begins: &[u32], rule: usize, looks: &mut [u32]) -> bool
+    requires { ⌜ ((b : Book) × (F : Sets) × GrammarIn b F (now rules) (now nullables) (now begins) × (rule < length (b .rules)))
         × (length (now looks) ≡ 32) ⌝ }
-    ensures { λ r. ⌜ ((b : Book) (F : Sets) → GrammarIn b F (now (rules .entry)) (now (nulls .entry)) (now (firsts .entry))
+    ensures { λ r. ⌜ ((b : Book) (F : Sets) → GrammarIn b F (now (rules .entry)) (now (nullables .entry)) (now (begins .entry))
         → rule < length (b .rules) → Told (visit (closureRule b F rule) (now (looks .entry))) (now (looks .entry)) (now (looks .exit)) r) ⌝ }
 {
     let left = word(rules, 10 * rule);
     let own = looks[left];
-    derive(rules, nulls, firsts, rule, 0, own, looks)
+    derive(rules, nullables, begins, rule, 0, own, looks)
 }
 
 // One pass over the rules; whether it changed any lookaheads. From each rule it goes to the next one that derives anything.
@@ -83,20 +83,20 @@ fn pass(
     rules: &[u32],
     count: usize,
     leads: &[u8],
-    nulls: &[u32],
-    firsts: &[u32],
+    nullables: &[u32],
+    begins: &[u32],
     looks: &mut [u32],
 ) -> bool
-    requires { ⌜ ((b : Book) × (F : Sets) × GrammarIn b F (now rules) (now nulls) (now firsts) × (length (b .rules) ≡ count))
+    requires { ⌜ ((b : Book) × (F : Sets) × GrammarIn b F (now rules) (now nullables) (now begins) × (length (b .rules) ≡ count))
         × Leads (now rules) count (now leads) × (length (now looks) ≡ 32) ⌝ }
-    ensures { λ r. ⌜ ((b : Book) (F : Sets) → GrammarIn b F (now (rules .entry)) (now (nulls .entry)) (now (firsts .entry))
+    ensures { λ r. ⌜ ((b : Book) (F : Sets) → GrammarIn b F (now (rules .entry)) (now (nullables .entry)) (now (begins .entry))
         → length (b .rules) ≡ count
         → Told (visits (closureRule b F) count (now (looks .entry))) (now (looks .entry)) (now (looks .exit)) r) ⌝ }
 {
     let mut changed = false;
     let mut rule = leads[0] as usize;
     while rule < count {
-        if visit(rules, nulls, firsts, rule, looks) {
+        if visit(rules, nullables, begins, rule, looks) {
             changed = true;
         }
         rule = leads[rule + 1] as usize;
@@ -109,37 +109,37 @@ fn passes(
     rules: &[u32],
     count: usize,
     leads: &[u8],
-    nulls: &[u32],
-    firsts: &[u32],
+    nullables: &[u32],
+    begins: &[u32],
     looks: &mut [u32],
 )
-    requires { ⌜ ((b : Book) × (F : Sets) × GrammarIn b F (now rules) (now nulls) (now firsts) × (length (b .rules) ≡ count))
+    requires { ⌜ ((b : Book) × (F : Sets) × GrammarIn b F (now rules) (now nullables) (now begins) × (length (b .rules) ≡ count))
         × Leads (now rules) count (now leads) × (length (now looks) ≡ 32) ⌝ }
-    ensures { λ _. ⌜ ((b : Book) (F : Sets) → GrammarIn b F (now (rules .entry)) (now (nulls .entry)) (now (firsts .entry))
+    ensures { λ _. ⌜ ((b : Book) (F : Sets) → GrammarIn b F (now (rules .entry)) (now (nullables .entry)) (now (begins .entry))
         → length (b .rules) ≡ count → now (looks .exit) ≡ least (closureRule b F) count (now (looks .entry))) ⌝ }
 {
-    while pass(rules, count, leads, nulls, firsts, looks) {}
+    while pass(rules, count, leads, nullables, begins, looks) {}
 }
 
 // Kernel line i gives the nonterminal behind its dot what it directly derives; whether that changed any lookaheads.
 fn line(
     rules: &[u32],
     kernels: &[u32],
-    nulls: &[u32],
-    firsts: &[u32],
+    nullables: &[u32],
+    begins: &[u32],
     i: usize,
     looks: &mut [u32],
 ) -> bool
-    requires { ⌜ ((b : Book) × (F : Sets) × KernelItemsIn b F (now rules) (now kernels) (now nulls) (now firsts) × (i < length (b .kernels)))
+    requires { ⌜ ((b : Book) × (F : Sets) × KernelItemsIn b F (now rules) (now kernels) (now nullables) (now begins) × (i < length (b .kernels)))
         × (length (now looks) ≡ 32) ⌝ }
     ensures { λ r. ⌜ ((b : Book) (F : Sets)
-        → KernelItemsIn b F (now (rules .entry)) (now (kernels .entry)) (now (nulls .entry)) (now (firsts .entry)) → i < length (b .kernels)
+        → KernelItemsIn b F (now (rules .entry)) (now (kernels .entry)) (now (nullables .entry)) (now (begins .entry)) → i < length (b .kernels)
         → Told (visit (lineInto b F i) (now (looks .entry))) (now (looks .entry)) (now (looks .exit)) r) ⌝ }
 {
     let rule = word(kernels, 5 * i + 1);
     let dot = word(kernels, 5 * i + 2);
     let own = kernels[5 * i + 4];
-    derive(rules, nulls, firsts, rule, dot, own, looks)
+    derive(rules, nullables, begins, rule, dot, own, looks)
 }
 
 // The kernel lines from one up to another, one after the other; whether they gave any lookaheads.
@@ -148,20 +148,20 @@ fn begin(
     kernels: &[u32],
     from: usize,
     to: usize,
-    nulls: &[u32],
-    firsts: &[u32],
+    nullables: &[u32],
+    begins: &[u32],
     looks: &mut [u32],
 ) -> bool
-    requires { ⌜ ((b : Book) × (F : Sets) × KernelItemsIn b F (now rules) (now kernels) (now nulls) (now firsts) × (to ≤ length (b .kernels)))
+    requires { ⌜ ((b : Book) × (F : Sets) × KernelItemsIn b F (now rules) (now kernels) (now nullables) (now begins) × (to ≤ length (b .kernels)))
         × (length (now looks) ≡ 32) ⌝ }
     ensures { λ r. ⌜ ((b : Book) (F : Sets)
-        → KernelItemsIn b F (now (rules .entry)) (now (kernels .entry)) (now (nulls .entry)) (now (firsts .entry)) → to ≤ length (b .kernels)
+        → KernelItemsIn b F (now (rules .entry)) (now (kernels .entry)) (now (nullables .entry)) (now (begins .entry)) → to ≤ length (b .kernels)
         → Begun (fromKernels b F (lines (b .kernels) from to) (now (looks .entry))) (now (looks .entry)) (now (looks .exit)) r) ⌝ }
 {
     let mut given = false;
     let mut i = from;
     while i < to {
-        if line(rules, kernels, nulls, firsts, i, looks) {
+        if line(rules, kernels, nullables, begins, i, looks) {
             given = true;
         }
         i += 1;
@@ -177,17 +177,17 @@ pub fn closure(
     kernels: &[u32],
     from: usize,
     to: usize,
-    nulls: &[u32],
-    firsts: &[u32],
+    nullables: &[u32],
+    begins: &[u32],
     looks: &mut [u32],
 )
-    requires { ⌜ ((b : Book) × (F : Sets) × KernelItemsIn b F (now rules) (now kernels) (now nulls) (now firsts) × (length (b .rules) ≡ count)
+    requires { ⌜ ((b : Book) × (F : Sets) × KernelItemsIn b F (now rules) (now kernels) (now nullables) (now begins) × (length (b .rules) ≡ count)
         × (to ≤ length (b .kernels))) × Leads (now rules) count (now leads) × (now looks ≡ replicate 32 0) ⌝ }
     ensures { λ _. ⌜ ((b : Book) (F : Sets) (S : ℕ)
-        → KernelItemsIn b F (now (rules .entry)) (now (kernels .entry)) (now (nulls .entry)) (now (firsts .entry)) → length (b .rules) ≡ count
+        → KernelItemsIn b F (now (rules .entry)) (now (kernels .entry)) (now (nullables .entry)) (now (begins .entry)) → length (b .rules) ≡ count
         → StateIn (b .kernels) S from to → now (looks .exit) ≡ closureSets b F S) ⌝ }
 {
-    if begin(rules, kernels, from, to, nulls, firsts, looks) {
-        passes(rules, count, leads, nulls, firsts, looks);
+    if begin(rules, kernels, from, to, nullables, begins, looks) {
+        passes(rules, count, leads, nullables, begins, looks);
     }
 }

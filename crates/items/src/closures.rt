@@ -15,23 +15,23 @@ fn state_closures(
     count: u32,
     leads: &[u8],
     kernels: &[u32],
-    starts: &[u32],
+    bounds: &[u32],
     states: u32,
-    nulls: &[u32],
-    firsts: &[u32],
+    nullables: &[u32],
+    begins: &[u32],
     closures: &mut [u32],
 )
     requires { ⌜ ((b : Lines) × (F : Sets)
-        × StateItemsIn b F (now rules) count (now kernels) (now starts) states (now nulls) (now firsts))
+        × StateItemsIn b F (now rules) count (now kernels) (now bounds) states (now nullables) (now begins))
         × Leads (now rules) count (now leads) × Blank states (now closures) ⌝ }
     ensures { λ _. ⌜ ((b : Lines) (F : Sets)
-        → StateItemsIn b F (now (rules .entry)) count (now (kernels .entry)) (now (starts .entry)) states (now (nulls .entry)) (now (firsts .entry))
+        → StateItemsIn b F (now (rules .entry)) count (now (kernels .entry)) (now (bounds .entry)) states (now (nullables .entry)) (now (begins .entry))
         → ClosuresIn b F (now (closures .exit))) ⌝ }
 {
     let mut s = 0;
     while s < states as usize {
-        let from = word(starts, s);
-        let to = word(starts, s + 1);
+        let from = word(bounds, s);
+        let to = word(bounds, s + 1);
         let at = 32 * s;
         let end = at + 32;
         closure(
@@ -41,29 +41,29 @@ fn state_closures(
             kernels,
             from,
             to,
-            nulls,
-            firsts,
+            nullables,
+            begins,
             &mut closures[at..end],
         );
         s += 1;
     }
 }
 
-pub fn closures(
+pub fn fill_closures(
     rules: &[u32],
     count: u32,
     kernels: &[u32],
-    starts: &[u32],
+    bounds: &[u32],
     states: u32,
-    nulls: &[u32],
-    firsts: &[u32],
+    nullables: &[u32],
+    begins: &[u32],
     closures: &mut [u32],
 )
     requires { ⌜ ((b : Lines) × (F : Sets)
-        × StateItemsIn b F (now rules) count (now kernels) (now starts) states (now nulls) (now firsts))
+        × StateItemsIn b F (now rules) count (now kernels) (now bounds) states (now nullables) (now begins))
         × Blank states (now closures) ⌝ }
     ensures { λ _. ⌜ ((b : Lines) (F : Sets)
-        → StateItemsIn b F (now (rules .entry)) count (now (kernels .entry)) (now (starts .entry)) states (now (nulls .entry)) (now (firsts .entry))
+        → StateItemsIn b F (now (rules .entry)) count (now (kernels .entry)) (now (bounds .entry)) states (now (nullables .entry)) (now (begins .entry))
         → ClosuresIn b F (now (closures .exit))) ⌝ }
 {
     let mut leads = [0u8; Book::MAX_RULES as usize + 1];
@@ -73,10 +73,10 @@ pub fn closures(
         count,
         &leads,
         kernels,
-        starts,
+        bounds,
         states,
-        nulls,
-        firsts,
+        nullables,
+        begins,
         closures,
     );
 }

@@ -25,7 +25,7 @@ pub fn begins_with(word: u32, firsts: &[u32]) -> u32
     firsts[(word - 32) as usize]
 }
 
-// What can begin the right side of rule p: symbol by symbol, to the first that does not vanish.
+// What can begin the right side of rule p: symbol by symbol, to the first that is not nullable.
 fn first_right(rules: &[u32], p: usize, nulls: u32, firsts: &[u32]) -> u32
     requires { ⌜ RuleFits (now rules) p × (length (now firsts) ≡ 32) ⌝ }
     ensures { λ r. ⌜ r ≡ firstIn nulls (now (firsts .entry)) (rightIn (now (rules .entry)) p) ⌝ }

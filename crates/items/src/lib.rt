@@ -1,4 +1,4 @@
-// The items of the states: what a rest of a rule can begin with, vanish into and reach, and the closures.
+// The items of the states: what the rests of rules begin with and reach, whether they are nullable, and the closures.
 pub mod closure;
 pub mod closures;
 pub mod first;

@@ -18,11 +18,11 @@ use super::rules::left;
 use super::rules::size;
 use super::rules::symbol;
 
-// Whether nothing can follow where a rest stands: it does not vanish, and nothing can begin it.
-pub fn dead_end(vanishes: u32, begins: u32) -> bool
-    ensures { λ r. ⌜ ((F : Sets) (β : List Symbol) → RestIs F β vanishes begins → r ≡ dead F β) ⌝ }
+// Whether nothing can follow where a rest stands: it is not nullable, and nothing can begin it.
+pub fn dead_end(nullable: u32, begins: u32) -> bool
+    ensures { λ r. ⌜ ((F : Sets) (β : List Symbol) → RestIs F β nullable begins → r ≡ dead F β) ⌝ }
 {
-    if vanishes != 0 {
+    if nullable != 0 {
         return false;
     }
     if begins != 0 {
@@ -32,15 +32,15 @@ pub fn dead_end(vanishes: u32, begins: u32) -> bool
 }
 
 // What is reached of a symbol with a rest behind it.
-fn reach_step(word: u32, nulls: u32, vanishes: u32, begins: u32, reached: &[u32]) -> u32
+fn reach_step(word: u32, nulls: u32, nullable: u32, begins: u32, reached: &[u32]) -> u32
     requires { ⌜ (word < 64) × (length (now reached) ≡ 32) ⌝ }
-    ensures { λ r. ⌜ ((F : Sets) (β : List Symbol) → nulls ≡ nullsOf F → RestIs F β vanishes begins
+    ensures { λ r. ⌜ ((F : Sets) (β : List Symbol) → nulls ≡ nullsOf F → RestIs F β nullable begins
         → r ≡ reachIn F (now (reached .entry)) (symbolOf word ∷ β)) ⌝ }
 {
     if word < 32 {
         return sets::single(word);
     }
-    if dead_end(vanishes, begins) {
+    if dead_end(nullable, begins) {
         return 0;
     }
     let inside = reached[(word - 32) as usize];
@@ -56,20 +56,20 @@ fn reach_rest(
     p: usize,
     d: usize,
     nulls: u32,
-    vanishes: &[u32],
+    nullables: &[u32],
     begins: &[u32],
     reached: &[u32],
 ) -> u32
     requires { ⌜ RuleFits (now rules) p × (d ≤ sizeWord (now rules) p) × (length (now reached) ≡ 32) ⌝ }
-    requires { ⌜ (9 * p + 9 ≤ length (now vanishes)) × (9 * p + 9 ≤ length (now begins)) ⌝ }
-    ensures { λ r. ⌜ ((F : Sets) → nulls ≡ nullsOf F → RestsIn F (rightIn (now (rules .entry)) p) (9 * p) (now (vanishes .entry)) (now (begins .entry))
+    requires { ⌜ (9 * p + 9 ≤ length (now nullables)) × (9 * p + 9 ≤ length (now begins)) ⌝ }
+    ensures { λ r. ⌜ ((F : Sets) → nulls ≡ nullsOf F → RestsIn F (rightIn (now (rules .entry)) p) (9 * p) (now (nullables .entry)) (now (begins .entry))
         → r ≡ reachIn F (now (reached .entry)) (drop d (rightIn (now (rules .entry)) p))) ⌝ }
 {
     if d == size(rules, p) {
         return 0;
     }
     let k = 9 * p + d + 1;
-    reach_step(symbol(rules, p, d), nulls, vanishes[k], begins[k], reached)
+    reach_step(symbol(rules, p, d), nulls, nullables[k], begins[k], reached)
 }
 
 // Gives each rule's left side what is reached of its right side; whether anything changed.
@@ -77,11 +77,11 @@ fn reach_pass(
     rules: &[u32],
     count: u32,
     nulls: u32,
-    vanishes: &[u32],
+    nullables: &[u32],
     begins: &[u32],
     reached: &mut [u32],
 ) -> bool
-    requires { ⌜ SetsIn (now rules) count nulls (now vanishes) (now begins) × (length (now reached) ≡ 32) ⌝ }
+    requires { ⌜ SetsIn (now rules) count nulls (now nullables) (now begins) × (length (now reached) ≡ 32) ⌝ }
     ensures { λ r. ⌜ Told
         (visits (reachRule (grammarOf (now (rules .entry)) count) (setsOf (grammarOf (now (rules .entry)) count))) count (now (reached .entry)))
         (now (reached .entry)) (now (reached .exit)) r ⌝ }
@@ -90,7 +90,7 @@ fn reach_pass(
     let mut changed = false;
     let mut p = 0;
     while p < rules_count {
-        let more = reach_rest(rules, p, 0, nulls, vanishes, begins, reached);
+        let more = reach_rest(rules, p, 0, nulls, nullables, begins, reached);
         if give(reached, left(rules, p), more) {
             changed = true;
         }
@@ -104,14 +104,14 @@ fn reach_sets(
     rules: &[u32],
     count: u32,
     nulls: u32,
-    vanishes: &[u32],
+    nullables: &[u32],
     begins: &[u32],
     reached: &mut [u32],
 )
-    requires { ⌜ SetsIn (now rules) count nulls (now vanishes) (now begins) × (now reached ≡ replicate 32 0) ⌝ }
+    requires { ⌜ SetsIn (now rules) count nulls (now nullables) (now begins) × (now reached ≡ replicate 32 0) ⌝ }
     ensures { λ _. ⌜ now (reached .exit) ≡ reachSets (grammarOf (now (rules .entry)) count) (setsOf (grammarOf (now (rules .entry)) count)) ⌝ }
 {
-    while reach_pass(rules, count, nulls, vanishes, begins, reached) {}
+    while reach_pass(rules, count, nulls, nullables, begins, reached) {}
 }
 
 // Rule p's words: what is reached of the rest after each dot.
@@ -119,20 +119,20 @@ fn reach_rests(
     rules: &[u32],
     p: usize,
     nulls: u32,
-    vanishes: &[u32],
+    nullables: &[u32],
     begins: &[u32],
     reached: &[u32],
     reaches: &mut [u32],
 )
     requires { ⌜ RuleFits (now rules) p × (length (now reached) ≡ 32) × (9 * p + 9 ≤ length (now reaches)) ⌝ }
-    requires { ⌜ (9 * p + 9 ≤ length (now vanishes)) × (9 * p + 9 ≤ length (now begins)) ⌝ }
-    ensures { λ _. ⌜ ((F : Sets) → nulls ≡ nullsOf F → RestsIn F (rightIn (now (rules .entry)) p) (9 * p) (now (vanishes .entry)) (now (begins .entry))
+    requires { ⌜ (9 * p + 9 ≤ length (now nullables)) × (9 * p + 9 ≤ length (now begins)) ⌝ }
+    ensures { λ _. ⌜ ((F : Sets) → nulls ≡ nullsOf F → RestsIn F (rightIn (now (rules .entry)) p) (9 * p) (now (nullables .entry)) (now (begins .entry))
         → RestsAre (reachIn F (now (reached .entry))) (now (rules .entry)) p (now (reaches .entry)) (now (reaches .exit))) ⌝ }
 {
     let last = size(rules, p);
     let mut d = 0;
     while d <= last {
-        reaches[9 * p + d] = reach_rest(rules, p, d, nulls, vanishes, begins, reached);
+        reaches[9 * p + d] = reach_rest(rules, p, d, nulls, nullables, begins, reached);
         d += 1;
     }
 }
@@ -142,37 +142,37 @@ fn fill_reaches(
     rules: &[u32],
     count: u32,
     nulls: u32,
-    vanishes: &[u32],
+    nullables: &[u32],
     begins: &[u32],
     reached: &[u32],
     reaches: &mut [u32],
 )
-    requires { ⌜ SetsIn (now rules) count nulls (now vanishes) (now begins) × (length (now reached) ≡ 32) × (9 * count ≤ length (now reaches)) ⌝ }
+    requires { ⌜ SetsIn (now rules) count nulls (now nullables) (now begins) × (length (now reached) ≡ 32) × (9 * count ≤ length (now reaches)) ⌝ }
     ensures { λ _. ⌜ ReachesIn (grammarOf (now (rules .entry)) count) (setsOf (grammarOf (now (rules .entry)) count))
         (now (reached .entry)) (now (reaches .exit)) ⌝ }
 {
     let rules_count = count as usize;
     let mut p = 0;
     while p < rules_count {
-        reach_rests(rules, p, nulls, vanishes, begins, reached, reaches);
+        reach_rests(rules, p, nulls, nullables, begins, reached, reaches);
         p += 1;
     }
 }
 
 // The array of a grammar, by the reached sets.
-pub fn reaches(
+pub fn reach(
     rules: &[u32],
     count: u32,
     nulls: u32,
-    vanishes: &[u32],
+    nullables: &[u32],
     begins: &[u32],
     reaches: &mut [u32],
 )
-    requires { ⌜ SetsIn (now rules) count nulls (now vanishes) (now begins) × (9 * count ≤ length (now reaches)) ⌝ }
+    requires { ⌜ SetsIn (now rules) count nulls (now nullables) (now begins) × (9 * count ≤ length (now reaches)) ⌝ }
     ensures { λ _. ⌜ ReachesIn (grammarOf (now (rules .entry)) count) (setsOf (grammarOf (now (rules .entry)) count))
         (reachSets (grammarOf (now (rules .entry)) count) (setsOf (grammarOf (now (rules .entry)) count))) (now (reaches .exit)) ⌝ }
 {
     let mut reached = [0u32; 32];
-    reach_sets(rules, count, nulls, vanishes, begins, &mut reached);
-    fill_reaches(rules, count, nulls, vanishes, begins, &reached, reaches);
+    reach_sets(rules, count, nulls, nullables, begins, &mut reached);
+    fill_reaches(rules, count, nulls, nullables, begins, &reached, reaches);
 }

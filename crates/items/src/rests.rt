@@ -1,4 +1,4 @@
-// The sets of every rest of every rule, of a grammar in an array: whether it vanishes, what can begin it, what is reached before it ends.
+// The sets of every rest of every rule, of a grammar in an array: whether it is nullable, what can begin it, what is reached before it ends.
 ghost use mathlib.Core.List.{List};
 ghost use Prim.Native.Nat.{_*_, _≤_};
 ghost use lib.ListN.{length};
@@ -7,7 +7,7 @@ ghost use Rattle.items.specs.GrammarOf.{GrammarHeld};
 ghost use Rattle.items.specs.RestSets.{RestSetsIn};
 use super::first::first_sets;
 use super::nullable::nullable;
-use super::reach::reaches;
+use super::reach::reach;
 use super::suffixes::suffixes;
 use super::words::copy;
 
@@ -15,21 +15,21 @@ use super::words::copy;
 pub fn rests(
     rules: &[u32],
     count: u32,
-    vanishes: &mut [u32],
+    nullables: &mut [u32],
     begins: &mut [u32],
-    reached: &mut [u32],
+    reaches: &mut [u32],
 )
     requires { ⌜ ((G : List Rule) × GrammarHeld G (now rules) count) ⌝ }
-    requires { ⌜ (9 * count ≤ length (now vanishes)) × (9 * count ≤ length (now begins)) × (9 * count ≤ length (now reached)) ⌝ }
+    requires { ⌜ (9 * count ≤ length (now nullables)) × (9 * count ≤ length (now begins)) × (9 * count ≤ length (now reaches)) ⌝ }
     ensures { λ _. ⌜ ((G : List Rule) → GrammarHeld G (now (rules .entry)) count
-        → RestSetsIn G (now (vanishes .exit)) (now (begins .exit)) (now (reached .exit))) ⌝ }
+        → RestSetsIn G (now (nullables .exit)) (now (begins .exit)) (now (reaches .exit))) ⌝ }
 {
     let nulls = nullable(rules, count);
     let mut firsts = [0u32; 32];
     first_sets(rules, count, nulls, &mut firsts);
-    if suffixes(rules, count, nulls, &firsts, vanishes, begins) {
-        copy(begins, 9 * (count as usize), reached);
+    if suffixes(rules, count, nulls, &firsts, nullables, begins) {
+        copy(begins, 9 * (count as usize), reaches);
     } else {
-        reaches(rules, count, nulls, vanishes, begins, reached);
+        reach(rules, count, nulls, nullables, begins, reaches);
     }
 }

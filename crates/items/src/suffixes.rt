@@ -1,4 +1,4 @@
-// Of every rule's rest after every dot, whether it vanishes and what can begin it: nine words a rule.
+// Of every rule's rest after every dot, whether it is nullable and what can begin it: nine words a rule.
 ghost use mathlib.Core.Path.{_≡_};
 ghost use mathlib.Core.Bool.{true};
 ghost use mathlib.Core.List.{List, _∷_};
@@ -19,25 +19,25 @@ use super::rules::symbol;
 
 // What is told of a rest.
 pub struct Rest {
-    pub vanishes: u32,
+    pub nullable: u32,
     pub begins: u32,
 }
 
 // Of a symbol with a rest behind it.
 fn longer(word: u32, nulls: u32, firsts: &[u32], rest: Rest) -> Rest
     requires { ⌜ (word < 64) × (length (now firsts) ≡ 32) ⌝ }
-    ensures { λ r. ⌜ ((β : List Symbol) → RestIs (sets nulls (now (firsts .entry))) β (rest .vanishes) (rest .begins)
-        → RestIs (sets nulls (now (firsts .entry))) (symbolOf word ∷ β) (r .vanishes) (r .begins)) ⌝ }
+    ensures { λ r. ⌜ ((β : List Symbol) → RestIs (sets nulls (now (firsts .entry))) β (rest .nullable) (rest .begins)
+        → RestIs (sets nulls (now (firsts .entry))) (symbolOf word ∷ β) (r .nullable) (r .begins)) ⌝ }
 {
     let own = begins_with(word, firsts);
     if null_symbol(word, nulls) {
         return Rest {
-            vanishes: rest.vanishes,
+            nullable: rest.nullable,
             begins: sets::union(own, rest.begins),
         };
     }
     Rest {
-        vanishes: 0,
+        nullable: 0,
         begins: own,
     }
 }
@@ -48,28 +48,28 @@ fn rule_suffixes(
     p: usize,
     nulls: u32,
     firsts: &[u32],
-    vanishes: &mut [u32],
+    nullables: &mut [u32],
     begins: &mut [u32],
 ) -> bool
     requires { ⌜ RuleFits (now rules) p × (length (now firsts) ≡ 32) ⌝ }
-    requires { ⌜ (9 * p + 9 ≤ length (now vanishes)) × (9 * p + 9 ≤ length (now begins)) ⌝ }
+    requires { ⌜ (9 * p + 9 ≤ length (now nullables)) × (9 * p + 9 ≤ length (now begins)) ⌝ }
     ensures { λ r. ⌜ RuleSuffixes (now (rules .entry)) p nulls (now (firsts .entry))
-        (now (vanishes .entry)) (now (vanishes .exit)) (now (begins .entry)) (now (begins .exit)) r ⌝ }
+        (now (nullables .entry)) (now (nullables .exit)) (now (begins .entry)) (now (begins .exit)) r ⌝ }
 {
     let mut d = size(rules, p);
     let mut rest = Rest {
-        vanishes: 1,
+        nullable: 1,
         begins: 0,
     };
     let mut alive = true;
     while 0 < d {
-        vanishes[9 * p + d] = rest.vanishes;
+        nullables[9 * p + d] = rest.nullable;
         begins[9 * p + d] = rest.begins;
         d -= 1;
         rest = longer(symbol(rules, p, d), nulls, firsts, rest);
-        alive = alive & !dead_end(rest.vanishes, rest.begins);
+        alive = alive & !dead_end(rest.nullable, rest.begins);
     }
-    vanishes[9 * p] = rest.vanishes;
+    nullables[9 * p] = rest.nullable;
     begins[9 * p] = rest.begins;
     alive
 }
@@ -80,19 +80,19 @@ pub fn suffixes(
     count: u32,
     nulls: u32,
     firsts: &[u32],
-    vanishes: &mut [u32],
+    nullables: &mut [u32],
     begins: &mut [u32],
 ) -> bool
     requires { ⌜ GrammarFits (now rules) count × (length (now firsts) ≡ 32) ⌝ }
-    requires { ⌜ (9 * count ≤ length (now vanishes)) × (9 * count ≤ length (now begins)) ⌝ }
-    ensures { λ r. ⌜ SuffixesIn (grammarOf (now (rules .entry)) count) (sets nulls (now (firsts .entry))) (now (vanishes .exit)) (now (begins .exit))
+    requires { ⌜ (9 * count ≤ length (now nullables)) × (9 * count ≤ length (now begins)) ⌝ }
+    ensures { λ r. ⌜ SuffixesIn (grammarOf (now (rules .entry)) count) (sets nulls (now (firsts .entry))) (now (nullables .exit)) (now (begins .exit))
         × (r ≡ true → Living (grammarOf (now (rules .entry)) count) (sets nulls (now (firsts .entry)))) ⌝ }
 {
     let rules_count = count as usize;
     let mut alive = true;
     let mut p = 0;
     while p < rules_count {
-        let lives = rule_suffixes(rules, p, nulls, firsts, vanishes, begins);
+        let lives = rule_suffixes(rules, p, nulls, firsts, nullables, begins);
         alive = alive & lives;
         p += 1;
     }

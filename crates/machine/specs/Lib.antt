@@ -1,4 +1,3 @@
-pub mod CellReads
 pub mod Moving
 pub mod MovingLaws
 pub mod ReduceMove

@@ -3,7 +3,6 @@ use Prim.Native.Nat.{ℕ, _+_, _*_}
 use mathlib.Core.Path.{_≡_}
 use mathlib.Core.List.{List}
 use lib.ListN.{length}
-use Rattle.grammar.specs.Limits.{MAX-STACK}
 use Rattle.grammar.specs.Data.Book.{Book}
 use Rattle.grammar.specs.Evaluator.Tree.{Token}
 use Rattle.grammar.specs.Evaluator.Machine.{Config, refused, accepted, stop, step}
@@ -12,11 +11,10 @@ use Rattle.plans.specs.Plans.{PlansHeld}
 use Rattle.machine.specs.declared.moves.Moved.{Moved}
 use Rattle.machine.specs.declared.moves.Moved.the-variants.{On, Stopped}
 use Rattle.machine.specs.declared.run.Outcome.{Outcome}
-use Rattle.machine.specs.CellReads.{ReadsCell}
 use Rattle.stack.specs.declared.top.Top.{Top}
 use Rattle.stack.specs.Page.{RowsIn}
 use Rattle.stack.specs.Pushes.{Stacks}
-use Rattle.stack.specs.Standing.{BookIn, Message, ConfigIn, CellIn, rowsOf, actionOf, GoesOn}
+use Rattle.stack.specs.Standing.{BookIn, Message, ConfigIn, CellIn, rowsOf, GoesOn}
 
 -- the arrays that moves change, as they are lent
 pub record Rooms (states inherited synthesized starts rows : List ℕ) : Type 0 where
@@ -25,14 +23,14 @@ pub record Rooms (states inherited synthesized starts rows : List ℕ) : Type 0 
 
 -- a book that is taken, in the arrays that moves read
 pub record Driven (b : Book) (rules definitions : List ℕ) (lines : ℕ)
-    (owned kernels heads closures nulls reaches places table : List ℕ) : Type 0 where
+    (owned kernels bounds closures nullables reaches places table : List ℕ) : Type 0 where
   pub book-in : BookIn b rules definitions table
-  pub plans-held : PlansHeld b rules definitions lines owned kernels heads closures nulls reaches places
+  pub plans-held : PlansHeld b rules definitions lines owned kernels bounds closures nullables reaches places
 
--- a configuration over a message, in the arrays that moves change, with its top cell set if its move reads it
+-- a configuration over a message, in the arrays that moves change, with its top cell set
 pub record Poised (b : Book) (ks : List Token) (c : Config) (states inherited synthesized starts rows : List ℕ) (top : Top) : Type 0 where
   pub config-in : ConfigIn b ks states inherited synthesized starts rows top c
-  pub cell-in : ReadsCell b (actionOf b c) → CellIn b inherited c
+  pub cell-in : CellIn b inherited c
   pub message : Message b ks
 
 -- the machine accepts, and its rows stand in the lent words from their start on
@@ -40,14 +38,9 @@ pub record Accepts (b : Book) (c : Config) (rows : List ℕ) : Type 0 where
   pub stops : step b (tablesOf b) c ≡ stop (accepted (rowsOf c))
   pub rows-in : RowsIn (rowsOf c) rows
 
--- a number is the machine's answer: a want of room (17) is, where the room is for as many symbols as may stand
-abbrev pub Final : ℕ → ℕ → Type 0
-Final room number = number ≡ 17 → room ≡ MAX-STACK
-
 -- what a move tells
 module _ (b : Book) (ks : List Token) (c : Config) (states inherited synthesized starts rows : List ℕ) where
   pub data Told : Moved → Type 0 where
     told-on : {top : Top} → GoesOn b ks c states inherited synthesized starts rows top → Told (On top)
     told-accepted : {r : Outcome} → Accepts b c rows → r .number ≡ 0 → r .count ≡ length (rowsOf c) → Told (Stopped r)
-    told-refused : {r : Outcome} → (Final (length starts) (r .number) → step b (tablesOf b) c ≡ stop (refused (r .number))) → r .count ≡ 0
-        → Told (Stopped r)
+    told-refused : {r : Outcome} → step b (tablesOf b) c ≡ stop (refused (r .number)) → r .count ≡ 0 → Told (Stopped r)

@@ -59,18 +59,18 @@ module _ {b : Book} {ks : List Token} {c : Config} {rules definitions table stat
     reduce-deep = omega (arith, same-size, reduce-low .deep)
 
     -- no symbol is left
-    pub reduce-full : top .rows ≢ 512 → top .depth - n ≡ length starts → length starts ≡ MAX-STACK → step b (tablesOf b) c ≡ stop (refused 17)
-    reduce-full m e full =
+    pub reduce-full : length starts ≡ MAX-STACK → top .rows ≢ 512 → top .depth - n ≡ MAX-STACK → step b (tablesOf b) c ≡ stop (refused 17)
+    reduce-full full m e =
         reduce-symbols B P (H .config-in) (X .action-is) m (omega (arith, same-size, reduce-deep, reduce-low .depth-low))
         (omega (arith, reduce-low .depth-low))
 
-    pub reduce-left : {firsts down up : List ℕ} → LeftIn b definitions firsts down up → top .rows ≢ 512 → top .depth - n ≢ length starts
-        → LeftAsked b ks c rules definitions table firsts down up states inherited synthesized starts rows top P
-    reduce-left F m e = record {
+    pub reduce-left : {spans down up : List ℕ} → LeftIn b definitions spans down up → length starts ≡ MAX-STACK → top .rows ≢ 512 → top .depth - n ≢ MAX-STACK
+        → LeftAsked b ks c rules definitions table spans down up states inherited synthesized starts rows top P
+    reduce-left F full m e = record {
       book-in = B;
       left-in = F;
       config-in = H .config-in;
-      cell-in = λ e. H .cell-in (rw (X .action-is) e);
+      cell-in = λ e. H .cell-in;
       action-is = X .action-is;
       few = H .message .few;
       rows-low = room-left B (H .config-in) m;

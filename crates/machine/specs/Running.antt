@@ -12,11 +12,12 @@ use Rattle.grammar.specs.Evaluator.Tree.{Token, next, TokensOf, no-tokens, and-
 use Rattle.grammar.specs.Evaluator.Machine.{Config, refused, stop, step}
 use Rattle.grammar.specs.Engine.{tokensOf, tablesOf}
 use Rattle.items.specs.Arrays.{ActionsIn}
+use Rattle.stack.specs.declared.action.Move.{Move}
 use Rattle.stack.specs.declared.action.Move.the-variants.{Shift, Reduce, Accept}
 use Rattle.stack.specs.declared.action.Action.{Action}
 use Rattle.stack.specs.declared.action.Action.the-variants.{Due, None}
 use Rattle.stack.specs.declared.top.Top.{Top}
-use Rattle.stack.specs.Action.{actionAt, meant, reduced, action-means}
+use Rattle.stack.specs.Action.{actionAt, meant, action-means}
 use Rattle.machine.specs.Moving.{Driven, Poised, Accepts}
 use Rattle.machine.specs.MovingLaws.{none-refused, accept-stops}
 use Rattle.machine.specs.ReduceMove.{Reduces}
@@ -26,16 +27,16 @@ use Rattle.stack.specs.Standing.{BookIn, state-low, LeftIn, Message, ConfigIn, 
 
 -- a book that is taken and a list of tokens, in the arrays that a run reads
 pub record RunIn (b : Book) (ks : List Token) (rules definitions : List ℕ) (lines : ℕ)
-    (owned kernels heads closures nulls reaches places firsts down up table actions tokens : List ℕ) : Type 0 where
-  pub driven : Driven b rules definitions lines owned kernels heads closures nulls reaches places table
-  pub left-in : LeftIn b definitions firsts down up
+    (owned kernels bounds closures nullables reaches places spans down up table actions tokens : List ℕ) : Type 0 where
+  pub driven : Driven b rules definitions lines owned kernels bounds closures nullables reaches places table
+  pub left-in : LeftIn b definitions spans down up
   pub actions-in : ActionsIn b (setsOf (b .rules)) actions
   pub tokens-in : tokensOf tokens ≡ some ks
 
 -- the same, in the arrays that its moves read where the action is found
-pub record MovesIn (b : Book) (rules definitions firsts down up table : List ℕ) : Type 0 where
+pub record MovesIn (b : Book) (rules definitions spans down up table : List ℕ) : Type 0 where
   pub book-in : BookIn b rules definitions table
-  pub left-in : LeftIn b definitions firsts down up
+  pub left-in : LeftIn b definitions spans down up
 
 -- ---- the next token
 
@@ -131,48 +132,39 @@ rows-held : {b : Book} {ks : List Token} {c : Config} {states inherited synthesi
     → ConfigIn b ks states inherited synthesized starts rows top c → RowsIn (rowsOf c) rows
 rows-held (stands C) = C .rows-in
 
--- a byte of the action table names the action
-pub record Names (b : Book) (c : Config) (code : ℕ) : Type 0 where
-  pub action-is : meant (actionAt code) ≡ actionOf b c
+-- an action is the machine's
+pub record Names (b : Book) (c : Config) (x : Action) : Type 0 where
+  pub action-is : meant x ≡ actionOf b c
 
--- that of the state and the kind does
+-- that of the state's and the kind's byte in the action table is
 pub names-action : {b : Book} {c : Config} {rules definitions table actions : List ℕ} {state kind value : ℕ} → BookIn b rules definitions table
-    → ActionsIn b (setsOf (b .rules)) actions → Facing b c state kind value → Names b c (getD actions (32 * state + kind) 0)
+    → ActionsIn b (setsOf (b .rules)) actions → Facing b c state kind value → Names b c (actionAt (getD actions (32 * state + kind) 0))
 names-action {b} {c} {state = state} {kind = kind} B A F = record {
   action-is = action-means (B .spelled) (B .sound) A state kind (F .state-there) (F .kind-there)
       ∙ ap (λ s. tablesOf b .act s kind) (F .state-is) ∙ ap (tablesOf b .act (stateOf c)) (F .kind-is);
 }
 
--- a rule that it names is one of the book's
-pub names-rule : {b : Book} {c : Config} {rules definitions table : List ℕ} {code : ℕ} → BookIn b rules definitions table → Names b c code → (P : ℕ)
-    → actionAt code ≡ Due (Reduce P) → P < length (b .rules)
-unfolding meant
-names-rule {c = c} B N P e = reduced (B .spelled) (B .sound) (stateOf c) (kindOf c) P (sym (N .action-is) ∙ ap meant e) .there
-
--- the action, by its byte
-module _ {b : Book} {ks : List Token} {c : Config} {states inherited synthesized starts rows : List ℕ} {top : Top} {state kind value code : ℕ}
-    (H : Poised b ks c states inherited synthesized starts rows top) (F : Facing b c state kind value) (N : Names b c code) {x : Action}
-    (action-is : x ≡ actionAt code) where
-  means : meant x ≡ actionOf b c
-  means = ap meant action-is ∙ N .action-is
-
+module _ {b : Book} {c : Config} {x : Action} (N : Names b c x) where
   pub due-none : x ≡ None → step b (tablesOf b) c ≡ stop (refused 15)
   unfolding meant
-  due-none e = none-refused b c (sym means ∙ ap meant e)
+  due-none e = none-refused b c (sym (N .action-is) ∙ ap meant e)
 
-  pub due-accept : x ≡ Due Accept → Accepts b c rows
+-- the move that is due
+module _ {b : Book} {c : Config} {due : Move} (N : Names b c (Due due)) where
+  pub due-accept : {ks : List Token} {states inherited synthesized starts rows : List ℕ} {top : Top} → Poised b ks c states inherited synthesized starts rows top
+      → due ≡ Accept → Accepts b c rows
   unfolding meant
-  due-accept e = record { stops = accept-stops b c (sym means ∙ ap meant e); rows-in = rows-held (H .config-in) }
+  due-accept H e = record { stops = accept-stops b c (sym (N .action-is) ∙ ap (λ m. meant (Due m)) e); rows-in = rows-held (H .config-in) }
 
-  pub due-shift : x ≡ Due Shift → Shifts b c state kind value
+  pub due-shift : {state kind value : ℕ} → Facing b c state kind value → due ≡ Shift → Shifts b c state kind value
   unfolding meant
-  due-shift e = record {
-    action-is = sym means ∙ ap meant e;
+  due-shift F e = record {
+    action-is = sym (N .action-is) ∙ ap (λ m. meant (Due m)) e;
     state-is = F .state-is;
     kind-is = F .kind-is;
     value-is = F .value-is;
   }
 
-  pub due-reduce : {P : ℕ} → x ≡ Due (Reduce P) → Reduces b c P
+  pub due-reduce : {P : ℕ} → due ≡ Reduce P → Reduces b c P
   unfolding meant
-  due-reduce e = record { action-is = sym means ∙ ap meant e }
+  due-reduce e = record { action-is = sym (N .action-is) ∙ ap (λ m. meant (Due m)) e }

@@ -17,13 +17,13 @@ use Rattle.cells.specs.Frames.{no-frames}
 use Rattle.machine.specs.declared.moves.Moved.{Moved}
 use Rattle.machine.specs.declared.moves.Moved.the-variants.{On, Stopped}
 use Rattle.machine.specs.declared.run.Outcome.{Outcome}
-use Rattle.stack.specs.declared.action.Move.the-variants.{Reduce}
-use Rattle.stack.specs.declared.action.Action.the-variants.{Due}
+use Rattle.stack.specs.declared.action.Move.{Move}
+use Rattle.stack.specs.declared.action.Action.{Action}
+use Rattle.stack.specs.declared.action.Action.the-variants.{Due, None}
 use Rattle.stack.specs.declared.top.Top.{Top}
 use Rattle.stack.specs.Action.{actionAt}
-use Rattle.machine.specs.CellReads.{readsCell, not-read}
-use Rattle.machine.specs.Moving.{Rooms, Final, Poised, Told, told-on, told-accepted, told-refused}
-use Rattle.machine.specs.Running.{RunIn, MovesIn, Facing, facing-of, TopLow, top-low, rows-count, Names, names-action, names-rule}
+use Rattle.machine.specs.Moving.{Rooms, Poised, Told, told-on, told-accepted, told-refused}
+use Rattle.machine.specs.Running.{RunIn, MovesIn, Facing, facing-of, TopLow, top-low, rows-count, Names, names-action, due-none}
 use Rattle.machine.specs.Setting.{TopAsked, TopSet, config-asked, config-set, config-cell}
 use Rattle.stack.specs.Page.{RowsIn, no-rows}
 use Rattle.stack.specs.Path.{bottom}
@@ -104,7 +104,7 @@ module _ {b : Book} {ks : List Token} {states inherited synthesized starts rows 
 module _ (b : Book) (ks : List Token) (top : Top) (states inherited synthesized starts rows slots lists : List ℕ) where
   pub data Stepped : Moved → Type 0 where
     goes-on : {next : Top} → Underway b ks states inherited synthesized starts rows slots lists next → 512 - next .rows < 512 - top .rows → Stepped (On next)
-    answers : {r : Outcome} → (Final (length starts) (r .number) → Answered (evaluate b (tablesOf b) ks) r rows) → Stepped (Stopped r)
+    answers : {r : Outcome} → Answered (evaluate b (tablesOf b) ks) r rows → Stepped (Stopped r)
 
 -- by its answer
 module _ {b : Book} {ks : List Token} {top : Top} {states inherited synthesized starts rows slots lists : List ℕ} where
@@ -119,7 +119,7 @@ module _ {b : Book} {ks : List Token} {top : Top} {states inherited synthesized 
   step-less (answers a) e = absurd (let z : _≡_ {A = ℕ} 0 1 = cc in omega arith)
 
   pub step-answers : {m : Moved} {r : Outcome} → Stepped b ks top states inherited synthesized starts rows slots lists m → m ≡ Stopped r
-      → Final (length starts) (r .number) → Answered (evaluate b (tablesOf b) ks) r rows
+      → Answered (evaluate b (tablesOf b) ks) r rows
   step-answers (goes-on u l) e = absurd (let z : _≡_ {A = ℕ} 0 1 = cc in omega arith)
   step-answers {r = r} (answers {r = s} a) e = let same : s ≡ r = cc in rw same at a
 
@@ -129,25 +129,25 @@ stepped : {b : Book} {ks : List Token} {states inherited synthesized starts rows
     {states′ inherited′ synthesized′ starts′ rows′ slots′ lists′ : List ℕ} {m : Moved} → PlansIn b slots′ lists′
     → Told b ks (U .at) states′ inherited′ synthesized′ starts′ rows′ m → Stepped b ks top states′ inherited′ synthesized′ starts′ rows′ slots′ lists′ m
 stepped U P (told-on on) = goes-on (underway-more U on P) (underway-less U on)
-stepped {b} U P (told-accepted {r = r} a z n) = answers {r = r} λ f. rw (ends-stop b (tablesOf b) (U .ends) (a .stops)) (z, n, a .rows-in)
-stepped {b} U P (told-refused {r = r} e z) = answers {r = r} λ f. rw (ends-stop b (tablesOf b) (U .ends) (e f)) (refl, z)
+stepped {b} U P (told-accepted {r = r} a z n) = answers {r = r} (rw (ends-stop b (tablesOf b) (U .ends) (a .stops)) (z, n, a .rows-in))
+stepped {b} U P (told-refused {r = r} e z) = answers {r = r} (rw (ends-stop b (tablesOf b) (U .ends) e) (refl, z))
 
 -- ---- a step
 
--- a configuration whose top cell is set if its move reads it, with the plans that are worked out
+-- a configuration whose top cell is set, with the plans that are worked out
 pub record Ready (b : Book) (ks : List Token) (c : Config) (states inherited synthesized starts rows slots lists : List ℕ) (top : Top) : Type 0 where
   pub poised : Poised b ks c states inherited synthesized starts rows top
   pub plans-in : PlansIn b slots lists
 
 module _ {b : Book} {ks : List Token} {rules definitions : List ℕ} {lines : ℕ}
-    {owned kernels heads closures nulls reaches places firsts down up table actions tokens : List ℕ}
+    {owned kernels bounds closures nullables reaches places spans down up table actions tokens : List ℕ}
     {states inherited synthesized starts rows slots lists : List ℕ} {top : Top}
-    (R : RunIn b ks rules definitions lines owned kernels heads closures nulls reaches places firsts down up table actions tokens) (M : Message b ks)
+    (R : RunIn b ks rules definitions lines owned kernels bounds closures nullables reaches places spans down up table actions tokens) (M : Message b ks)
     (U : Underway b ks states inherited synthesized starts rows slots lists top) where
   pub run-low : TopLow starts top
   run-low = top-low M (U .config-in)
 
-  pub run-moves : MovesIn b rules definitions firsts down up table
+  pub run-moves : MovesIn b rules definitions spans down up table
   run-moves = record { book-in = R .driven .book-in; left-in = R .left-in }
 
   module _ {state kind : ℕ} (state-is : state ≡ getD states (top .depth) 0) (kind-is : kind ≡ getD tokens (2 * top .position) 0) where
@@ -161,78 +161,68 @@ module _ {b : Book} {ks : List Token} {rules definitions : List ℕ} {lines : �
     module _ {slots′ lists′ inherited′ : List ℕ}
         (sets : (b : Book) (states starts : List ℕ) (st : List Frame)
         → TopAsked b definitions inherited synthesized state (top .depth) states starts st → state < b .states
-        → PlansHeld b rules definitions lines owned kernels heads closures nulls reaches places → PlansIn b slots lists
+        → PlansHeld b rules definitions lines owned kernels bounds closures nullables reaches places → PlansIn b slots lists
         → TopSet b slots′ lists′ inherited inherited′ synthesized state kind states starts st) where
       cell-set : TopSet b slots′ lists′ inherited inherited′ synthesized state kind states starts (framesOf (U .at))
       cell-set = sets b states starts (framesOf (U .at)) run-asked (run-facing refl .state-there) (R .driven .plans-held) (U .plans-in)
 
-      pub run-set : {slots″ lists″ inherited″ : List ℕ} → slots″ ≡ slots′ → lists″ ≡ lists′ → inherited″ ≡ inherited′
-          → Ready b ks (U .at) states inherited″ synthesized starts rows slots″ lists″ top
-      run-set s l i =
+      pub run-set : Ready b ks (U .at) states inherited′ synthesized starts rows slots′ lists′ top
+      run-set =
           let B = R .driven .book-in in
           let F = run-facing refl in
-          rw (s, l, i) (record {
+          record {
             poised = record {
               config-in = config-set B (U .config-in) (F .state-is) (F .kind-is) cell-set;
-              cell-in = λ r. config-cell B (U .config-in) (F .state-is) (F .kind-is) cell-set;
+              cell-in = config-cell B (U .config-in) (F .state-is) (F .kind-is) cell-set;
               message = M;
             };
             plans-in = cell-set .plans-in;
-          })
+          }
 
-    -- with the byte of the action
-    module _ {code : ℕ} (code-is : code ≡ getD actions (32 * state + kind) 0) where
-      pub run-names : Names b (U .at) code
-      run-names = rw code-is (names-action (R .driven .book-in) (R .actions-in) (run-facing refl))
+    -- with the action
+    module _ {x : Action} (action-is : x ≡ actionAt (getD actions (32 * state + kind) 0)) where
+      pub run-names : Names b (U .at) x
+      run-names = rw action-is (names-action (R .driven .book-in) (R .actions-in) (run-facing refl))
 
-      pub run-sized : (P : ℕ) → actionAt code ≡ Due (Reduce P) → 10 * P + 1 < length rules
-      run-sized P e =
-          let B = R .driven .book-in in
-          omega (arith, names-rule B run-names P e, B .sound .limits .rules-limit .high, B .rules-in .long)
+      -- none is due
+      pub run-none : {r : Outcome} → x ≡ None → r .number ≡ 15 → r .count ≡ 0
+          → Stepped b ks top states inherited synthesized starts rows slots lists (Stopped r)
+      run-none {r} e n z = stepped U (U .plans-in) (told-refused {r = r} (rw n (due-none run-names e)) z)
 
-      -- where the move does not read the top cell
-      pub run-unread : {slots′ lists′ inherited′ : List ℕ} → readsCell rules (actionAt code) ≡ false → slots′ ≡ slots → lists′ ≡ lists
-          → inherited′ ≡ inherited → Ready b ks (U .at) states inherited′ synthesized starts rows slots′ lists′ top
-      run-unread unread s l i =
-          let B = R .driven .book-in in
-          let never = not-read b rules (actionAt code) (λ P e. B .rules-in .size-is P (names-rule B run-names P e)) unread in
-          rw (s, l, i) (record {
-            poised = record { config-in = U .config-in; cell-in = λ r. absurd (never (rw (run-names .action-is) r)); message = M };
-            plans-in = U .plans-in;
-          })
+      -- one is, and what `advance` ensures
+      module _ {due : Move} (due-is : x ≡ Due due) {value : ℕ} (value-is : value ≡ getD tokens (2 * top .position + 1) 0) {slots′ lists′ inherited′ : List ℕ}
+          (Q : Ready b ks (U .at) states inherited′ synthesized starts rows slots′ lists′ top) where
+        pub run-due : Names b (U .at) (Due due)
+        run-due = rw due-is at run-names
 
-      -- and what `advance` ensures
-      module _ {value : ℕ} (value-is : value ≡ getD tokens (2 * top .position + 1) 0) {slots′ lists′ inherited′ : List ℕ}
-          (Q : Ready b ks (U .at) states inherited′ synthesized starts rows slots′ lists′ top) {m : Moved} {states′ synthesized′ starts′ rows′ : List ℕ}
-          (moved : (b : Book) (ks : List Token) (c : Config) → MovesIn b rules definitions firsts down up table
-          → Poised b ks c states inherited′ synthesized starts rows top → Facing b c state kind value → Names b c code
-          → Told b ks c states′ inherited′ synthesized′ starts′ rows′ m) where
-        pub run-stepped : Stepped b ks top states′ inherited′ synthesized′ starts′ rows′ slots′ lists′ m
-        run-stepped = stepped U (Q .plans-in) (moved b ks (U .at) run-moves (Q .poised) (run-facing value-is) run-names)
+        pub run-stepped : {m : Moved} {states′ synthesized′ starts′ rows′ : List ℕ}
+            → ((b : Book) (ks : List Token) (c : Config) → MovesIn b rules definitions spans down up table
+            → Poised b ks c states inherited′ synthesized starts rows top → Facing b c state kind value → Names b c (Due due)
+            → Told b ks c states′ inherited′ synthesized′ starts′ rows′ m)
+            → Stepped b ks top states′ inherited′ synthesized′ starts′ rows′ slots′ lists′ m
+        run-stepped moved = stepped U (Q .plans-in) (moved b ks (U .at) run-moves (Q .poised) (run-facing value-is) run-due)
 
 -- the arrays as they are lent, after a step
-pub record RoomsLeft (room bytes symbols : ℕ) (states inherited synthesized starts rows slots lists : List ℕ) : Type 0 where
+pub record RoomsLeft (room bytes : ℕ) (states inherited synthesized starts rows slots lists : List ℕ) : Type 0 where
   pub rooms : Rooms states inherited synthesized starts rows
-  pub starts-long : length starts ≡ symbols
   pub slots-long : length slots ≡ room
   pub lists-long : length lists ≡ bytes
 
-pub rooms-kept : {room bytes symbols : ℕ} {states inherited synthesized starts rows slots lists : List ℕ}
-    {states′ inherited′ synthesized′ starts′ rows′ slots′ lists′ : List ℕ} → RoomsLeft room bytes symbols states inherited synthesized starts rows slots lists
+pub rooms-kept : {room bytes : ℕ} {states inherited synthesized starts rows slots lists : List ℕ}
+    {states′ inherited′ synthesized′ starts′ rows′ slots′ lists′ : List ℕ} → RoomsLeft room bytes states inherited synthesized starts rows slots lists
     → length states′ ≡ length states → length inherited′ ≡ length inherited → length synthesized′ ≡ length synthesized → length starts′ ≡ length starts
     → length rows′ ≡ length rows → length slots′ ≡ length slots → length lists′ ≡ length lists
-    → RoomsLeft room bytes symbols states′ inherited′ synthesized′ starts′ rows′ slots′ lists′
+    → RoomsLeft room bytes states′ inherited′ synthesized′ starts′ rows′ slots′ lists′
 rooms-kept R a b c d e g h = record {
   rooms = record {
     stacks = record {
-      starts-low = omega (arith, R .rooms .stacks .starts-low);
+      starts-long = d ∙ R .rooms .stacks .starts-long;
       states-long = omega (arith, R .rooms .stacks .states-long);
       synthesized-long = omega (arith, R .rooms .stacks .synthesized-long);
       rows-long = e ∙ R .rooms .stacks .rows-long;
     };
     cells-long = omega (arith, R .rooms .cells-long);
   };
-  starts-long = d ∙ R .starts-long;
   slots-long = g ∙ R .slots-long;
   lists-long = h ∙ R .lists-long;
 }

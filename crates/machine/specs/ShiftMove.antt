@@ -6,7 +6,7 @@ use mathlib.Core.Option.{some}
 use mathlib.Core.List.{List, [], _∷_}
 use native.Mathlib.Omega.{arith}
 use lib.ListN.{length, getD, length-drop}
-use Rattle.grammar.specs.Limits.{MAX-TOKENS}
+use Rattle.grammar.specs.Limits.{MAX-TOKENS, MAX-STACK}
 use Rattle.grammar.specs.Data.Book.{Book}
 use Rattle.grammar.specs.Automaton.States.{shift}
 use Rattle.grammar.specs.Evaluator.Tree.{Token}
@@ -56,8 +56,8 @@ module _ {b : Book} {ks : List Token} {c : Config} {rules definitions table stat
   shift-low = low-of B (H .message .few) (H .config-in) (X .action-is) (X .state-is) (X .kind-is)
 
   pub shift-told : {states′ synthesized′ starts′ rows′ : List ℕ} {target : ℕ} {next : Top} → Stacks states synthesized starts rows → top .rows ≢ 512
-      → top .depth ≢ length starts → TokenPushed top target kind value states synthesized starts rows states′ synthesized′ starts′ rows′ next
+      → top .depth ≢ MAX-STACK → TokenPushed top target kind value states synthesized starts rows states′ synthesized′ starts′ rows′ next
       → target ≡ getD table (64 * state + kind) 0 → GoesOn b ks c states′ inherited synthesized′ starts′ rows′ next
   shift-told L n m push t =
-      shift-on B L push (H .config-in) (H .cell-in (rw (X .action-is) tt)) (X .action-is) (X .state-is) (X .kind-is) (X .value-is)
-      (omega (arith, shift-low .depth-low)) (room-left B (H .config-in) n) t
+      shift-on B L push (H .config-in) (H .cell-in) (X .action-is) (X .state-is) (X .kind-is) (X .value-is)
+      (omega (arith, shift-low .depth-low, L .starts-long)) (room-left B (H .config-in) n) t

@@ -103,6 +103,6 @@ module _ {b : Book} {rules definitions table : List ℕ} (B : BookIn b rules def
         let go : tablesOf b .go S (terminal (x .kind)) ≡ some target = g .goes ∙ ap some same in
         record {
           then = shifted b (tablesOf b) x st S target z p rs;
-          moves = shift-moves b (tablesOf b) x st z p rs e go line (omega (arith, room, L .starts-low));
+          moves = shift-moves b (tablesOf b) x st z p rs e go line (omega (arith, room, L .starts-long));
           holds = stands (shift-stands C room line L (rw (← k, ← v) push) s go);
         }

@@ -20,7 +20,7 @@ pub enum Moved {
     Stopped(Outcome),
 }
 
-// A shift: "push the token with its value". Where no symbol has room it stops with 17, which is the machine's answer where the room is for 128 symbols.
+// A shift: "push the token with its value".
 pub fn shift(
     top: Top,
     state: usize,
@@ -47,7 +47,7 @@ pub fn shift(
             count: 0,
         });
     }
-    if top.depth == starts.len() {
+    if top.depth == Book::MAX_STACK {
         return Moved::Stopped(Outcome {
             number: 17,
             count: 0,

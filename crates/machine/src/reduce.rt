@@ -23,7 +23,7 @@ pub fn reduce(
     rule: u32,
     rules: &[u32],
     definitions: &[u32],
-    firsts: &[u32],
+    spans: &[u32],
     down: &[u32],
     up: &[u32],
     table: &[u8],
@@ -35,10 +35,10 @@ pub fn reduce(
 ) -> Moved
     requires { ⌜ Stacks (now states) (now synthesized) (now starts) (now rows) × (length (now inherited) ≡ 16 * length (now starts) + 16) ⌝ }
     requires { ⌜ ((b : Lines) × (ks : List Token) × (c : Config) × BookIn b (now rules) (now definitions) (now table)
-        × LeftIn b (now definitions) (now firsts) (now down) (now up)
+        × LeftIn b (now definitions) (now spans) (now down) (now up)
         × Poised b ks c (now states) (now inherited) (now synthesized) (now starts) (now rows) top × Reduces b c rule) ⌝ }
     ensures { λ r. ⌜ ((b : Lines) (ks : List Token) (c : Config) → BookIn b (now (rules .entry)) (now (definitions .entry)) (now (table .entry))
-        → LeftIn b (now (definitions .entry)) (now (firsts .entry)) (now (down .entry)) (now (up .entry))
+        → LeftIn b (now (definitions .entry)) (now (spans .entry)) (now (down .entry)) (now (up .entry))
         → Poised b ks c (now (states .entry)) (now (inherited .entry)) (now (synthesized .entry)) (now (starts .entry)) (now (rows .entry)) top
         → Reduces b c rule
         → Told b ks c (now (states .exit)) (now (inherited .entry)) (now (synthesized .exit)) (now (starts .exit)) (now (rows .exit)) r) ⌝ }
@@ -50,7 +50,7 @@ pub fn reduce(
         });
     }
     let below = top.depth - word(rules, 10 * rule as usize + 1);
-    if below == starts.len() {
+    if below == Book::MAX_STACK {
         return Moved::Stopped(Outcome {
             number: 17,
             count: 0,
@@ -61,7 +61,7 @@ pub fn reduce(
         rule,
         rules,
         definitions,
-        firsts,
+        spans,
         down,
         up,
         table,

@@ -7,7 +7,7 @@ ghost use Rattle.grammar.specs.Evaluator.Tree.{Token};
 ghost use Rattle.grammar.specs.Evaluator.Machine.{evaluate};
 ghost use Rattle.grammar.specs.Engine.{tablesOf};
 ghost use Rattle.plans.specs.Plans.{PlansIn};
-ghost use Rattle.machine.specs.Moving.{Rooms, Final};
+ghost use Rattle.machine.specs.Moving.{Rooms};
 ghost use Rattle.machine.specs.Running.{RunIn};
 ghost use Rattle.machine.specs.RunningLaws.{Answered};
 ghost use Rattle.stack.specs.Standing.{Message};
@@ -22,19 +22,18 @@ pub struct Outcome {
 }
 
 // The run from the start: the moves until one stops. Behind the rows of a message, and on a refusal everywhere, the words are left for the caller to clear.
-// Nothing is said of a 17 for want of room in the arrays.
 pub fn run(
     rules: &[u32],
     definitions: &[u32],
     lines: u32,
     owned: &[u32],
     kernels: &[u32],
-    heads: &[u32],
+    bounds: &[u32],
     closures: &[u32],
-    nulls: &[u32],
+    nullables: &[u32],
     reaches: &[u32],
     places: &[u32],
-    firsts: &[u32],
+    spans: &[u32],
     down: &[u32],
     up: &[u32],
     table: &[u8],
@@ -50,15 +49,15 @@ pub fn run(
 ) -> Outcome
     requires { ⌜ Rooms (now states) (now inherited) (now synthesized) (now starts) (now rows) ⌝ }
     requires { ⌜ ((b : Book) × (ks : List Token)
-        × RunIn b ks (now rules) (now definitions) lines (now owned) (now kernels) (now heads) (now closures) (now nulls) (now reaches) (now places)
-        (now firsts) (now down) (now up) (now table) (now actions) (now tokens)
+        × RunIn b ks (now rules) (now definitions) lines (now owned) (now kernels) (now bounds) (now closures) (now nullables) (now reaches) (now places)
+        (now spans) (now down) (now up) (now table) (now actions) (now tokens)
         × Message b ks × PlansIn b (now slots) (now lists)) ⌝ }
     ensures { λ r. ⌜ ((b : Book) (ks : List Token)
-        → RunIn b ks (now (rules .entry)) (now (definitions .entry)) lines (now (owned .entry)) (now (kernels .entry)) (now (heads .entry))
-        (now (closures .entry)) (now (nulls .entry)) (now (reaches .entry)) (now (places .entry)) (now (firsts .entry)) (now (down .entry)) (now (up .entry))
+        → RunIn b ks (now (rules .entry)) (now (definitions .entry)) lines (now (owned .entry)) (now (kernels .entry)) (now (bounds .entry))
+        (now (closures .entry)) (now (nullables .entry)) (now (reaches .entry)) (now (places .entry)) (now (spans .entry)) (now (down .entry)) (now (up .entry))
         (now (table .entry)) (now (actions .entry)) (now (tokens .entry))
         → Message b ks → PlansIn b (now (slots .entry)) (now (lists .entry))
-        → Final (length (now (starts .entry))) (r .number) → Answered (evaluate b (tablesOf b) ks) r (now (rows .exit))) ⌝ }
+        → Answered (evaluate b (tablesOf b) ks) r (now (rows .exit))) ⌝ }
 {
     states[0] = 0;
     let mut top = Top::empty();
@@ -70,12 +69,12 @@ pub fn run(
             lines,
             owned,
             kernels,
-            heads,
+            bounds,
             closures,
-            nulls,
+            nullables,
             reaches,
             places,
-            firsts,
+            spans,
             down,
             up,
             table,

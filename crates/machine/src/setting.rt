@@ -17,9 +17,9 @@ pub fn set_top(
     lines: u32,
     owned: &[u32],
     kernels: &[u32],
-    heads: &[u32],
+    bounds: &[u32],
     closures: &[u32],
-    nulls: &[u32],
+    nullables: &[u32],
     reaches: &[u32],
     places: &[u32],
     state: usize,
@@ -33,13 +33,13 @@ pub fn set_top(
     requires { ⌜ Room height (now inherited) (now synthesized) × (kind < 32) ⌝ }
     requires { ⌜ ((b : Book) × (states : List ℕ) × (starts : List ℕ) × (st : List Frame)
         × TopAsked b (now definitions) (now inherited) (now synthesized) state height states starts st × (state < b .states)
-        × PlansHeld b (now rules) (now definitions) lines (now owned) (now kernels) (now heads) (now closures) (now nulls) (now reaches)
+        × PlansHeld b (now rules) (now definitions) lines (now owned) (now kernels) (now bounds) (now closures) (now nullables) (now reaches)
         (now places)
         × PlansIn b (now slots) (now lists)) ⌝ }
     ensures { λ _. ⌜ ((b : Book) (states starts : List ℕ) (st : List Frame)
         → TopAsked b (now (definitions .entry)) (now (inherited .entry)) (now (synthesized .entry)) state height states starts st → state < b .states
-        → PlansHeld b (now (rules .entry)) (now (definitions .entry)) lines (now (owned .entry)) (now (kernels .entry)) (now (heads .entry))
-        (now (closures .entry)) (now (nulls .entry)) (now (reaches .entry)) (now (places .entry))
+        → PlansHeld b (now (rules .entry)) (now (definitions .entry)) lines (now (owned .entry)) (now (kernels .entry)) (now (bounds .entry))
+        (now (closures .entry)) (now (nullables .entry)) (now (reaches .entry)) (now (places .entry))
         → PlansIn b (now (slots .entry)) (now (lists .entry))
         → TopSet b (now (slots .exit)) (now (lists .exit)) (now (inherited .entry)) (now (inherited .exit)) (now (synthesized .entry)) state kind states
         starts st) ⌝ }
@@ -50,9 +50,9 @@ pub fn set_top(
         lines,
         owned,
         kernels,
-        heads,
+        bounds,
         closures,
-        nulls,
+        nullables,
         reaches,
         places,
         state,

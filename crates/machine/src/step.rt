@@ -7,13 +7,10 @@ ghost use lib.ListN.{length, getD};
 ghost use Rattle.grammar.specs.Data.Book.{Book};
 ghost use Rattle.grammar.specs.Evaluator.Tree.{Token};
 ghost use Rattle.grammar.specs.Evaluator.Machine.{Config};
-ghost use Rattle.machine.specs.CellReads.{readsCell};
 ghost use Rattle.machine.specs.Moving.{Rooms, Poised, Told};
 ghost use Rattle.machine.specs.Running.{RunIn, MovesIn, Facing, Names};
 ghost use Rattle.machine.specs.RunningLaws.{Underway, Stepped};
-ghost use Rattle.stack.specs.declared.action.Move.the-variants.{Reduce};
 ghost use Rattle.stack.specs.declared.action.Action.the-variants.{Due};
-ghost use Rattle.stack.specs.Action.{actionAt};
 ghost use Rattle.stack.specs.Pushes.{Stacks};
 ghost use Rattle.stack.specs.Standing.{Message};
 use super::moves::Moved;
@@ -37,23 +34,7 @@ fn number(tokens: &[u32], i: usize) -> u32
     0
 }
 
-// Whether the move that a byte of the action table names reads the top cell.
-fn reads_cell(rules: &[u32], code: u8) -> bool
-    requires { ⌜ ((P : ℕ) → actionAt code ≡ Due (Reduce P) → 10 * P + 1 < length (now rules)) ⌝ }
-    ensures { λ r. ⌜ r ≡ readsCell (now (rules .entry)) (actionAt code) ⌝ }
-{
-    let action = action_of(code);
-    let Action::Due(due) = action else {
-        return false;
-    };
-    match due {
-        Move::Shift => true,
-        Move::Reduce(rule) => word(rules, 10 * rule as usize + 1) == 0,
-        Move::Accept => false,
-    }
-}
-
-// One move, where the top cell is set if the move reads it: "find the action. None: 15. Accept: done."
+// The move that is due, with the top cell set.
 pub fn advance(
     top: Top,
     state: usize,
@@ -61,11 +42,11 @@ pub fn advance(
     value: u32,
     rules: &[u32],
     definitions: &[u32],
-    firsts: &[u32],
+    spans: &[u32],
     down: &[u32],
     up: &[u32],
     table: &[u8],
-    code: u8,
+    due: Move,
     states: &mut [u32],
     inherited: &[u32],
     synthesized: &mut [u32],
@@ -74,21 +55,14 @@ pub fn advance(
 ) -> Moved
     requires { ⌜ Stacks (now states) (now synthesized) (now starts) (now rows) × (length (now inherited) ≡ 16 * length (now starts) + 16) ⌝ }
     requires { ⌜ ((b : Book) × (ks : List Token) × (c : Config)
-        × MovesIn b (now rules) (now definitions) (now firsts) (now down) (now up) (now table)
-        × Poised b ks c (now states) (now inherited) (now synthesized) (now starts) (now rows) top × Facing b c state kind value × Names b c code) ⌝ }
+        × MovesIn b (now rules) (now definitions) (now spans) (now down) (now up) (now table)
+        × Poised b ks c (now states) (now inherited) (now synthesized) (now starts) (now rows) top × Facing b c state kind value × Names b c (Due due)) ⌝ }
     ensures { λ r. ⌜ ((b : Book) (ks : List Token) (c : Config)
-        → MovesIn b (now (rules .entry)) (now (definitions .entry)) (now (firsts .entry)) (now (down .entry)) (now (up .entry)) (now (table .entry))
+        → MovesIn b (now (rules .entry)) (now (definitions .entry)) (now (spans .entry)) (now (down .entry)) (now (up .entry)) (now (table .entry))
         → Poised b ks c (now (states .entry)) (now (inherited .entry)) (now (synthesized .entry)) (now (starts .entry)) (now (rows .entry)) top
-        → Facing b c state kind value → Names b c code
+        → Facing b c state kind value → Names b c (Due due)
         → Told b ks c (now (states .exit)) (now (inherited .entry)) (now (synthesized .exit)) (now (starts .exit)) (now (rows .exit)) r) ⌝ }
 {
-    let action = action_of(code);
-    let Action::Due(due) = action else {
-        return Moved::Stopped(Outcome {
-            number: 15,
-            count: 0,
-        });
-    };
     match due {
         Move::Shift => shift(
             top,
@@ -106,7 +80,7 @@ pub fn advance(
             rule,
             rules,
             definitions,
-            firsts,
+            spans,
             down,
             up,
             table,
@@ -123,8 +97,8 @@ pub fn advance(
     }
 }
 
-// One step of the machine: the top cell is set if the move reads it, then the move is made. A reduce of a rule that is not empty pops the cell, and a move
-// that stops leaves it.
+// One move: "find the action. None: 15." For any other the top cell is set and the move is made; an accept leaves the cell, and a reduce of a rule that is
+// not empty pops it.
 pub fn step(
     top: Top,
     rules: &[u32],
@@ -132,12 +106,12 @@ pub fn step(
     lines: u32,
     owned: &[u32],
     kernels: &[u32],
-    heads: &[u32],
+    bounds: &[u32],
     closures: &[u32],
-    nulls: &[u32],
+    nullables: &[u32],
     reaches: &[u32],
     places: &[u32],
-    firsts: &[u32],
+    spans: &[u32],
     down: &[u32],
     up: &[u32],
     table: &[u8],
@@ -153,13 +127,13 @@ pub fn step(
 ) -> Moved
     requires { ⌜ Rooms (now states) (now inherited) (now synthesized) (now starts) (now rows) ⌝ }
     requires { ⌜ ((b : Book) × (ks : List Token)
-        × RunIn b ks (now rules) (now definitions) lines (now owned) (now kernels) (now heads) (now closures) (now nulls) (now reaches) (now places)
-        (now firsts) (now down) (now up) (now table) (now actions) (now tokens)
+        × RunIn b ks (now rules) (now definitions) lines (now owned) (now kernels) (now bounds) (now closures) (now nullables) (now reaches) (now places)
+        (now spans) (now down) (now up) (now table) (now actions) (now tokens)
         × Message b ks
         × Underway b ks (now states) (now inherited) (now synthesized) (now starts) (now rows) (now slots) (now lists) top) ⌝ }
     ensures { λ r. ⌜ ((b : Book) (ks : List Token)
-        → RunIn b ks (now (rules .entry)) (now (definitions .entry)) lines (now (owned .entry)) (now (kernels .entry)) (now (heads .entry))
-        (now (closures .entry)) (now (nulls .entry)) (now (reaches .entry)) (now (places .entry)) (now (firsts .entry)) (now (down .entry)) (now (up .entry))
+        → RunIn b ks (now (rules .entry)) (now (definitions .entry)) lines (now (owned .entry)) (now (kernels .entry)) (now (bounds .entry))
+        (now (closures .entry)) (now (nullables .entry)) (now (reaches .entry)) (now (places .entry)) (now (spans .entry)) (now (down .entry)) (now (up .entry))
         (now (table .entry)) (now (actions .entry)) (now (tokens .entry))
         → Message b ks
         → Underway b ks (now (states .entry)) (now (inherited .entry)) (now (synthesized .entry)) (now (starts .entry)) (now (rows .entry))
@@ -171,28 +145,32 @@ pub fn step(
     let at = 2 * top.position;
     let state = word(states, depth);
     let kind = number(tokens, at);
-    let code = actions[32 * state + kind as usize];
-    if reads_cell(rules, code) {
-        set_top(
-            rules,
-            definitions,
-            lines,
-            owned,
-            kernels,
-            heads,
-            closures,
-            nulls,
-            reaches,
-            places,
-            state,
-            kind,
-            depth,
-            slots,
-            lists,
-            inherited,
-            synthesized,
-        );
-    }
+    let action = action_of(actions[32 * state + kind as usize]);
+    let Action::Due(due) = action else {
+        return Moved::Stopped(Outcome {
+            number: 15,
+            count: 0,
+        });
+    };
+    set_top(
+        rules,
+        definitions,
+        lines,
+        owned,
+        kernels,
+        bounds,
+        closures,
+        nullables,
+        reaches,
+        places,
+        state,
+        kind,
+        depth,
+        slots,
+        lists,
+        inherited,
+        synthesized,
+    );
     advance(
         top,
         state,
@@ -200,11 +178,11 @@ pub fn step(
         number(tokens, at + 1),
         rules,
         definitions,
-        firsts,
+        spans,
         down,
         up,
         table,
-        code,
+        due,
         states,
         inherited,
         synthesized,

@@ -24,16 +24,16 @@ use Rattle.messages.specs.Messages.{TakenBook, Message, message-tokens}
 use Rattle.messages.specs.Sides.{SidesIn}
 use Rattle.messages.specs.Zeros.{zeros}
 
-module _ {numbers : Book} {inherited synthesized rules definitions kernels goes : List ℕ} {vanishes reached starts closures table actions : List ℕ}
-    {b : Lines} (h : TakenBook numbers inherited synthesized rules definitions kernels goes vanishes reached starts closures table actions b)
-    {own firsts down up : List ℕ} (s : SidesIn b definitions own firsts down up) where
+module _ {numbers : Book} {inherited synthesized rules definitions kernels goes : List ℕ} {nullables reaches bounds closures table actions : List ℕ}
+    {b : Lines} (h : TakenBook numbers inherited synthesized rules definitions kernels goes nullables reaches bounds closures table actions b)
+    {own spans down up : List ℕ} (s : SidesIn b definitions own spans down up) where
   -- as the places of the definitions ask for it
   pub places-asked : CheckHeld b definitions rules own (replicate (9 * length (b .rules)) 0)
   places-asked = held-check (asked-formulas (h .ready)) (s .owned-in) (omega (arith, zeros (9 * length (b .rules))))
 
   -- and with them
   module _ {places : List ℕ} (L : PlacesIn b 0 places) where
-    driven : Driven b rules definitions (numbers .«inherited_definitions») own kernels starts closures vanishes reached places table
+    driven : Driven b rules definitions (numbers .«inherited_definitions») own kernels bounds closures nullables reaches places table
     driven = record {
       book-in = record {
         spelled = h .spelled;
@@ -43,7 +43,7 @@ module _ {numbers : Book} {inherited synthesized rules definitions kernels goes 
         table-in = h .ready .tables-in .table-in;
       };
       plans-held = record {
-        firsts = h .ready .begins;
+        begins = h .ready .begins;
         count = numbers .rules;
         terminals = numbers .terminals;
         states = numbers .states;
@@ -54,12 +54,12 @@ module _ {numbers : Book} {inherited synthesized rules definitions kernels goes 
     }
 
     pub run-in : {tokens : List ℕ} {ks : List Token} → tokensOf tokens ≡ some ks
-        → RunIn b ks rules definitions (numbers .«inherited_definitions») own kernels starts closures vanishes reached places firsts down up
+        → RunIn b ks rules definitions (numbers .«inherited_definitions») own kernels bounds closures nullables reaches places spans down up
         table actions tokens
     run-in e = record { driven = driven; left-in = s .left-in; actions-in = h .ready .tables-in .actions-in; tokens-in = e }
 
-module _ {numbers : Book} {inherited synthesized rules definitions kernels goes : List ℕ} {vanishes reached starts closures table actions : List ℕ}
-    {b : Lines} (h : TakenBook numbers inherited synthesized rules definitions kernels goes vanishes reached starts closures table actions b) where
+module _ {numbers : Book} {inherited synthesized rules definitions kernels goes : List ℕ} {nullables reaches bounds closures table actions : List ℕ}
+    {b : Lines} (h : TakenBook numbers inherited synthesized rules definitions kernels goes nullables reaches bounds closures table actions b) where
   pub tokens-of : {tokens : List ℕ} (m : Message (numbers .terminals) tokens) → Tokens b (m .list)
   tokens-of m = record { tokens = message-tokens b m (counted b (h .ready .numbers-are) .terminals-are); few = m .few }
 
@@ -79,7 +79,7 @@ pub run-room : {rows : List ℕ} → length rows ≡ PAGE-WORDS
     → Rooms (replicate (MAX-STACK + 1) 0) (replicate (16 * MAX-STACK + 16) 0) (replicate (33 * MAX-STACK) 0) (replicate MAX-STACK 0) rows
 run-room e = record {
   stacks = record {
-    starts-low = omega (arith, zeros MAX-STACK);
+    starts-long = zeros MAX-STACK;
     states-long = omega (arith, zeros MAX-STACK, zeros (MAX-STACK + 1));
     synthesized-long = omega (arith, zeros MAX-STACK, zeros (33 * MAX-STACK));
     rows-long = e;

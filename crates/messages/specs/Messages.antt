@@ -18,8 +18,8 @@ use Rattle.compiler.specs.Prepared.{BookReady}
 
 -- the arrays hold a book that is taken, and its tables
 pub record TakenBook (numbers : Book) (inherited synthesized rules definitions kernels goes : List ℕ)
-    (vanishes reached starts closures table actions : List ℕ) (b : Lines) : Type 0 where
-  pub ready : BookReady numbers inherited synthesized rules definitions kernels goes vanishes reached starts closures table actions b
+    (nullables reaches bounds closures table actions : List ℕ) (b : Lines) : Type 0 where
+  pub ready : BookReady numbers inherited synthesized rules definitions kernels goes nullables reaches bounds closures table actions b
   pub spelled : Spelled b
   pub sound : Sound b
 

@@ -14,7 +14,7 @@ use Rattle.book.specs.declared.Book.{Book}
 use Rattle.conditions.specs.AskedLaws.{counted}
 use Rattle.attributes.specs.Owned.{OwnedIn}
 use Rattle.agreement.specs.OneFormula.{owned-all}
-use Rattle.stack.specs.Firsts.{LinesIn}
+use Rattle.stack.specs.Spans.{LinesIn}
 use Rattle.stack.specs.Lists.{Listable}
 use Rattle.stack.specs.Standing.{LeftIn}
 use Rattle.compiler.specs.Prepared.{BookReady}
@@ -27,16 +27,16 @@ pub record SidesAsked (numbers : Book) (inherited synthesized definitions : List
   pub synthesized-in : Listable MAX-SYNTHESIZED (b .synthesizedOwners) synthesized (numbers .synthesized)
 
 -- as sets, and as lists
-pub record SidesIn (b : Lines) (definitions own firsts down up : List ℕ) : Type 0 where
+pub record SidesIn (b : Lines) (definitions own spans down up : List ℕ) : Type 0 where
   pub owned-in : OwnedIn (b .inheritedOwners) (attributes b) own
-  pub left-in : LeftIn b definitions firsts down up
+  pub left-in : LeftIn b definitions spans down up
 
 owner-small : (b : Lines) → WithinLimits b → (owners : List ℕ) → ((A : ℕ) → Mem A owners → IsNonterminal b A) → (K : ℕ) → K < length owners
     → ownerAt owners K < 32
 owner-small b w owners d K h = omega (arith, d (getD owners K 32) (at-member owners K 32 h) .high, w .nonterminals-limit .high)
 
-module _ {numbers : Book} {inherited synthesized rules definitions kernels goes : List ℕ} {vanishes reached starts closures table actions : List ℕ}
-    {b : Lines} (h : BookReady numbers inherited synthesized rules definitions kernels goes vanishes reached starts closures table actions b) where
+module _ {numbers : Book} {inherited synthesized rules definitions kernels goes : List ℕ} {nullables reaches bounds closures table actions : List ℕ}
+    {b : Lines} (h : BookReady numbers inherited synthesized rules definitions kernels goes nullables reaches bounds closures table actions b) where
   pub asked-sides : SidesAsked numbers inherited synthesized definitions b
   asked-sides = let n = counted b (h .numbers-are) in
       let w = h .conditions-met .limits in
@@ -67,7 +67,7 @@ module _ {numbers : Book} {inherited synthesized rules definitions kernels goes 
         };
       }
 
-pub sides-in : {numbers : Book} {inherited synthesized definitions own firsts down up : List ℕ} {b : Lines}
-    → SidesAsked numbers inherited synthesized definitions b → OwnedIn (b .inheritedOwners) (numbers .inherited) own → LeftIn b definitions firsts down up
-    → SidesIn b definitions own firsts down up
+pub sides-in : {numbers : Book} {inherited synthesized definitions own spans down up : List ℕ} {b : Lines}
+    → SidesAsked numbers inherited synthesized definitions b → OwnedIn (b .inheritedOwners) (numbers .inherited) own → LeftIn b definitions spans down up
+    → SidesIn b definitions own spans down up
 sides-in a o l = record { owned-in = owned-all (sym (a .inherited-in .counted)) o; left-in = l }

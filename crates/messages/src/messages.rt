@@ -36,22 +36,22 @@ fn message_run(
     definitions: &[u32],
     kernels: &[u32],
     goes: &[u32],
-    vanishes: &[u32],
-    reached: &[u32],
-    starts: &[u32],
-    lookaheads: &[u32],
+    nullables: &[u32],
+    reaches: &[u32],
+    bounds: &[u32],
+    closures: &[u32],
     table: &[u8],
     actions: &[u8],
     tokens: &[u32],
     slots: &mut [u8],
     rows: &mut [u32],
 ) -> Outcome
-    requires { ⌜ Some (TakenBook book (now inherited) (now synthesized) (now rules) (now definitions) (now kernels) (now goes) (now vanishes)
-        (now reached) (now starts) (now lookaheads) (now table) (now actions)) ⌝ }
+    requires { ⌜ Some (TakenBook book (now inherited) (now synthesized) (now rules) (now definitions) (now kernels) (now goes) (now nullables)
+        (now reaches) (now bounds) (now closures) (now table) (now actions)) ⌝ }
     requires { ⌜ Message (book .terminals) (now tokens) × (length (now rows) ≡ PAGE-WORDS) × (32 * book .states ≤ length (now slots)) ⌝ }
     ensures { λ r. ⌜ ((b : Lines) → TakenBook book (now (inherited .entry)) (now (synthesized .entry)) (now (rules .entry))
-        (now (definitions .entry)) (now (kernels .entry)) (now (goes .entry)) (now (vanishes .entry)) (now (reached .entry)) (now (starts .entry))
-        (now (lookaheads .entry)) (now (table .entry)) (now (actions .entry)) b
+        (now (definitions .entry)) (now (kernels .entry)) (now (goes .entry)) (now (nullables .entry)) (now (reaches .entry)) (now (bounds .entry))
+        (now (closures .entry)) (now (table .entry)) (now (actions .entry)) b
         → (m : Message (book .terminals) (now (tokens .entry)))
         → Answered (evaluate b (tablesOf b) (m .list)) r (now (rows .exit))) ⌝ }
 {
@@ -59,9 +59,9 @@ fn message_run(
     let mut states = [0u32; Book::MAX_STACK + 1];
     let mut cells = [0u32; 16 * Book::MAX_STACK + 16];
     let mut records = [0u32; 33 * Book::MAX_STACK];
-    let mut bounds = [0u32; Book::MAX_STACK];
+    let mut starts = [0u32; Book::MAX_STACK];
     let mut own = [0u32; NONTERMINALS];
-    let mut firsts = [0u32; RULES + 1];
+    let mut spans = [0u32; RULES + 1];
     let mut down = [0u32; 5 * NONTERMINALS];
     let mut up = [0u32; 5 * NONTERMINALS];
     fill_sides(
@@ -70,7 +70,7 @@ fn message_run(
         synthesized,
         definitions,
         &mut own,
-        &mut firsts,
+        &mut spans,
         &mut down,
         &mut up,
     );
@@ -88,12 +88,12 @@ fn message_run(
         book.inherited_definitions,
         &own,
         kernels,
-        starts,
-        lookaheads,
-        vanishes,
-        reached,
+        bounds,
+        closures,
+        nullables,
+        reaches,
         &places,
-        &firsts,
+        &spans,
         &down,
         &up,
         table,
@@ -104,7 +104,7 @@ fn message_run(
         &mut states,
         &mut cells,
         &mut records,
-        &mut bounds,
+        &mut starts,
         rows,
     )
 }
@@ -130,22 +130,22 @@ pub fn message(
     definitions: &[u32],
     kernels: &[u32],
     goes: &[u32],
-    vanishes: &[u32],
-    reached: &[u32],
-    starts: &[u32],
-    lookaheads: &[u32],
+    nullables: &[u32],
+    reaches: &[u32],
+    bounds: &[u32],
+    closures: &[u32],
     table: &[u8],
     actions: &[u8],
     tokens: &[u32],
     slots: &mut [u8],
     rows: &mut [u32],
 ) -> Outcome
-    requires { ⌜ Some (TakenBook book (now inherited) (now synthesized) (now rules) (now definitions) (now kernels) (now goes) (now vanishes)
-        (now reached) (now starts) (now lookaheads) (now table) (now actions)) ⌝ }
+    requires { ⌜ Some (TakenBook book (now inherited) (now synthesized) (now rules) (now definitions) (now kernels) (now goes) (now nullables)
+        (now reaches) (now bounds) (now closures) (now table) (now actions)) ⌝ }
     requires { ⌜ Message (book .terminals) (now tokens) × (length (now rows) ≡ PAGE-WORDS) × (32 * book .states ≤ length (now slots)) ⌝ }
     ensures { λ r. ⌜ ((b : Lines) → TakenBook book (now (inherited .entry)) (now (synthesized .entry)) (now (rules .entry))
-        (now (definitions .entry)) (now (kernels .entry)) (now (goes .entry)) (now (vanishes .entry)) (now (reached .entry)) (now (starts .entry))
-        (now (lookaheads .entry)) (now (table .entry)) (now (actions .entry)) b
+        (now (definitions .entry)) (now (kernels .entry)) (now (goes .entry)) (now (nullables .entry)) (now (reaches .entry)) (now (bounds .entry))
+        (now (closures .entry)) (now (table .entry)) (now (actions .entry)) b
         → (m : Message (book .terminals) (now (tokens .entry)))
         → Paged (evaluate b (tablesOf b) (m .list)) r (now (rows .exit))) ⌝ }
 {
@@ -157,10 +157,10 @@ pub fn message(
         definitions,
         kernels,
         goes,
-        vanishes,
-        reached,
-        starts,
-        lookaheads,
+        nullables,
+        reaches,
+        bounds,
+        closures,
         table,
         actions,
         tokens,

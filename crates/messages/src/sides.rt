@@ -7,8 +7,8 @@ ghost use Rattle.conditions.specs.Answers.{Some};
 ghost use Rattle.messages.specs.Sides.{SidesAsked, SidesIn};
 use attributes::owned::owned;
 use book::Book;
-use stack::firsts::first_lines;
 use stack::lists::fill_lists;
+use stack::spans::fill_spans;
 
 // The attributes of each nonterminal, as sets and as lists, and where each rule's definitions of synthesized attributes begin.
 pub fn fill_sides(
@@ -17,19 +17,19 @@ pub fn fill_sides(
     synthesized: &[u32],
     definitions: &[u32],
     own: &mut [u32],
-    firsts: &mut [u32],
+    spans: &mut [u32],
     down: &mut [u32],
     up: &mut [u32],
 )
     requires { ⌜ Some (SidesAsked book (now inherited) (now synthesized) (now definitions)) ⌝ }
-    requires { ⌜ (now own ≡ replicate 32 0) × (length (now firsts) ≡ 65) × (now down ≡ replicate 160 0) × (now up ≡ replicate 160 0) ⌝ }
+    requires { ⌜ (now own ≡ replicate 32 0) × (length (now spans) ≡ 65) × (now down ≡ replicate 160 0) × (now up ≡ replicate 160 0) ⌝ }
     ensures { λ _. ⌜ ((b : Lines) → SidesAsked book (now (inherited .entry)) (now (synthesized .entry)) (now (definitions .entry)) b
-        → SidesIn b (now (definitions .entry)) (now (own .exit)) (now (firsts .exit)) (now (down .exit)) (now (up .exit))) ⌝ }
+        → SidesIn b (now (definitions .entry)) (now (own .exit)) (now (spans .exit)) (now (down .exit)) (now (up .exit))) ⌝ }
 {
     owned(inherited, book.inherited as usize, own);
     let from = book.inherited_definitions as usize;
     let to = (book.inherited_definitions + book.synthesized_definitions) as usize;
-    first_lines(definitions, from, to, book.rules, firsts);
+    fill_spans(definitions, from, to, book.rules, spans);
     fill_lists(inherited, book.inherited as usize, down);
     fill_lists(synthesized, book.synthesized as usize, up);
 }

@@ -99,8 +99,8 @@ none-found b F R a looks {found} e = record {
 }
 
 -- The items of a state, those with the dot in front and those of its kernel lines
-pub found-state : {b : Book} {rules kernels starts closures nulls firsts reaches : List ℕ} (H : MarksHeld b rules kernels starts closures nulls firsts reaches)
-    {S : ℕ} (s : S < b .states) {first last : ℕ} → first ≡ getD starts S 0 → last ≡ getD starts (S + 1) 0 → {F : Sets} {R : List ℕ} {a : ℕ} {found : List ℕ}
+pub found-state : {b : Book} {rules kernels bounds closures nullables begins reaches : List ℕ} (H : MarksHeld b rules kernels bounds closures nullables begins reaches)
+    {S : ℕ} (s : S < b .states) {first last : ℕ} → first ≡ getD bounds S 0 → last ≡ getD bounds (S + 1) 0 → {F : Sets} {R : List ℕ} {a : ℕ} {found : List ℕ}
     → FoundIn b F R a (ofKernels (slice first last (b .kernels)) ++ ofRules (b .rules) (closureSets b F S) (length (b .rules))) found
     → FoundIn b F R a (coreItems b F S) found
 unfolding coreItems

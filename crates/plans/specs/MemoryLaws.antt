@@ -36,16 +36,16 @@ plan-filled slot {new} {n} there R = record {
   line-is = λ i h. getD-set-other new (17 * slot) (17 * slot + 1 + i) n 0 (λ e. absurd (omega arith)) ∙ R .line-is i h;
 }
 
-module _ {b : Book} {rules definitions : List ℕ} {lines : ℕ} {owned kernels starts closures nulls reaches places : List ℕ}
-    (H : PlansHeld b rules definitions lines owned kernels starts closures nulls reaches places) where
+module _ {b : Book} {rules definitions : List ℕ} {lines : ℕ} {owned kernels bounds closures nullables reaches places : List ℕ}
+    (H : PlansHeld b rules definitions lines owned kernels bounds closures nullables reaches places) where
   -- for the plan of a partial state; the places are as long as the sets of items would be
   pub plans-check : CheckHeld b definitions rules owned places
   plans-check = held-check (H .formulas-held) (H .owned-in) (omega (arith, H .places-in .long))
 
-  pub plans-room : MarksRoom (b .rules) nulls reaches nulls
+  pub plans-room : MarksRoom (b .rules) nullables reaches nullables
   plans-room =
       let R = H .formulas-held .marks-held .rests-in in
-      record { nulls-long = R .suffixes-in .nulls-long; reaches-long = R .reaches-in .long; masks-long = R .suffixes-in .nulls-long }
+      record { nullables-long = R .suffixes-in .nullables-long; reaches-long = R .reaches-in .long; masks-long = R .suffixes-in .nullables-long }
 
 module _ {b : Book} {S a : ℕ} (low : a < 32) {slots lists : List ℕ} (M : PlansIn b slots lists) (s : S < b .states) where
   -- the plan is known

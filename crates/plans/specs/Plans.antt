@@ -64,11 +64,11 @@ pub record PlanTold (b : Book) (slots lists : List ℕ) (S a slot : ℕ) : Type 
   pub plan-in : PlanIn (planOf b S a) lists slot
 
 -- what the plans ask of a book and of its arrays
-pub record PlansHeld (b : Book) (rules definitions : List ℕ) (lines : ℕ) (owned kernels starts closures nulls reaches places : List ℕ) : Type 0 where
-  pub firsts : List ℕ
+pub record PlansHeld (b : Book) (rules definitions : List ℕ) (lines : ℕ) (owned kernels bounds closures nullables reaches places : List ℕ) : Type 0 where
+  pub begins : List ℕ
   pub count : ℕ
   pub terminals : ℕ
   pub states : ℕ
-  pub formulas-held : FormulasHeld b rules count definitions lines kernels starts closures nulls firsts reaches terminals states
+  pub formulas-held : FormulasHeld b rules count definitions lines kernels bounds closures nullables begins reaches terminals states
   pub owned-in : OwnedIn (b .inheritedOwners) (attributes b) owned
   pub places-in : PlacesIn b 0 places

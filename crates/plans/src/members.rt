@@ -94,25 +94,25 @@ fn front_line(
     rules: &[u32],
     closures: &[u32],
     first: usize,
-    nulls: &[u32],
+    nullables: &[u32],
     reaches: &[u32],
     terminal: u32,
     found: &mut [u64],
 )
     requires { ⌜ ((b : Book) × (owned : List ℕ) × (masks : List ℕ) × (L : List ℕ) × CheckHeld b (now definitions) (now rules) owned masks
         × LooksIn (b .rules) (now rules) L (now closures) first × (line < grammar.definitions b)
-        × MarksRoom (b .rules) (now nulls) (now reaches) (now nulls)) × (first + 32 ≤ length (now closures)) × (terminal < 32)
+        × MarksRoom (b .rules) (now nullables) (now reaches) (now nullables)) × (first + 32 ≤ length (now closures)) × (terminal < 32)
         × (length (now found) ≡ 2) ⌝ }
-    ensures { λ _. ⌜ ((b : Book) (F : Sets) (R firsts owned masks L : List ℕ) → CheckHeld b (now (definitions .entry)) (now (rules .entry)) owned masks
+    ensures { λ _. ⌜ ((b : Book) (F : Sets) (R begins owned masks L : List ℕ) → CheckHeld b (now (definitions .entry)) (now (rules .entry)) owned masks
         → LooksIn (b .rules) (now (rules .entry)) L (now (closures .entry)) first → line < grammar.definitions b
-        → SuffixesIn (b .rules) F (now (nulls .entry)) firsts → ReachesIn (b .rules) F R (now (reaches .entry))
+        → SuffixesIn (b .rules) F (now (nullables .entry)) begins → ReachesIn (b .rules) F R (now (reaches .entry))
         → FrontsFound b F R terminal L line (now (found .entry)) → FrontsFound b F R terminal L (line + 1) (now (found .exit))) ⌝ }
 {
     if word(definitions, 49 * line + 1) != 1 {
         return;
     }
     let rule = word(definitions, 49 * line);
-    let set = front_set(rules, closures, first, nulls, reaches, rule);
+    let set = front_set(rules, closures, first, nullables, reaches, rule);
     if !sets::has(set, terminal) {
         return;
     }
@@ -126,7 +126,7 @@ fn front_lines(
     rules: &[u32],
     closures: &[u32],
     first: usize,
-    nulls: &[u32],
+    nullables: &[u32],
     reaches: &[u32],
     places: &[u32],
     terminal: u32,
@@ -134,11 +134,11 @@ fn front_lines(
 )
     requires { ⌜ ((b : Book) × (owned : List ℕ) × (masks : List ℕ) × (L : List ℕ) × CheckHeld b (now definitions) (now rules) owned masks
         × LooksIn (b .rules) (now rules) L (now closures) first × (lines ≡ grammar.definitions b)
-        × MarksRoom (b .rules) (now nulls) (now reaches) (now nulls) × PlacesIn b 0 (now places)) × (first + 32 ≤ length (now closures)) × (terminal < 32)
+        × MarksRoom (b .rules) (now nullables) (now reaches) (now nullables) × PlacesIn b 0 (now places)) × (first + 32 ≤ length (now closures)) × (terminal < 32)
         × (length (now found) ≡ 2) ⌝ }
-    ensures { λ _. ⌜ ((b : Book) (F : Sets) (R firsts owned masks L : List ℕ) → CheckHeld b (now (definitions .entry)) (now (rules .entry)) owned masks
+    ensures { λ _. ⌜ ((b : Book) (F : Sets) (R begins owned masks L : List ℕ) → CheckHeld b (now (definitions .entry)) (now (rules .entry)) owned masks
         → LooksIn (b .rules) (now (rules .entry)) L (now (closures .entry)) first → lines ≡ grammar.definitions b
-        → SuffixesIn (b .rules) F (now (nulls .entry)) firsts → ReachesIn (b .rules) F R (now (reaches .entry)) → PlacesIn b 0 (now (places .entry))
+        → SuffixesIn (b .rules) F (now (nullables .entry)) begins → ReachesIn (b .rules) F R (now (reaches .entry)) → PlacesIn b 0 (now (places .entry))
         → FrontsFound b F R terminal L 0 (now (found .entry)) → FrontsFound b F R terminal L lines (now (found .exit))) ⌝ }
 {
     if front_free(closures, first, places) {
@@ -152,7 +152,7 @@ fn front_lines(
             rules,
             closures,
             first,
-            nulls,
+            nullables,
             reaches,
             terminal,
             found,
@@ -184,7 +184,7 @@ fn kernel_line(
     lines: usize,
     kernels: &[u32],
     i: usize,
-    nulls: &[u32],
+    nullables: &[u32],
     reaches: &[u32],
     places: &[u32],
     terminal: u32,
@@ -192,10 +192,10 @@ fn kernel_line(
 )
     requires { ⌜ ((b : Book) × (rules : List ℕ) × (owned : List ℕ) × (masks : List ℕ) × CheckHeld b (now definitions) rules owned masks
         × (lines ≡ grammar.definitions b) × ItemLinesIn b (now kernels) × (i < length (b .kernels))
-        × MarksRoom (b .rules) (now nulls) (now reaches) (now nulls) × PlacesIn b 0 (now places)) × (terminal < 32) × (length (now found) ≡ 2) ⌝ }
-    ensures { λ _. ⌜ ((b : Book) (F : Sets) (R firsts rules owned masks : List ℕ) (items : List Core) → Ordered b
+        × MarksRoom (b .rules) (now nullables) (now reaches) (now nullables) × PlacesIn b 0 (now places)) × (terminal < 32) × (length (now found) ≡ 2) ⌝ }
+    ensures { λ _. ⌜ ((b : Book) (F : Sets) (R begins rules owned masks : List ℕ) (items : List Core) → Ordered b
         → CheckHeld b (now (definitions .entry)) rules owned masks → lines ≡ grammar.definitions b → ItemLinesIn b (now (kernels .entry))
-        → i < length (b .kernels) → SuffixesIn (b .rules) F (now (nulls .entry)) firsts → ReachesIn (b .rules) F R (now (reaches .entry))
+        → i < length (b .kernels) → SuffixesIn (b .rules) F (now (nullables .entry)) begins → ReachesIn (b .rules) F R (now (reaches .entry))
         → PlacesIn b 0 (now (places .entry)) → FoundIn b F R terminal items (now (found .entry))
         → FoundIn b F R terminal (itemOf (b .kernels) i ∷ items) (now (found .exit))) ⌝ }
 {
@@ -205,7 +205,7 @@ fn kernel_line(
     if first == 0 {
         return;
     }
-    let reach = reach_with(nulls, reaches, rule, dot, kernels[5 * i + 4]);
+    let reach = reach_with(nullables, reaches, rule, dot, kernels[5 * i + 4]);
     if !sets::has(reach, terminal) {
         return;
     }
@@ -219,7 +219,7 @@ fn kernel_lines(
     kernels: &[u32],
     from: usize,
     to: usize,
-    nulls: &[u32],
+    nullables: &[u32],
     reaches: &[u32],
     places: &[u32],
     terminal: u32,
@@ -227,11 +227,11 @@ fn kernel_lines(
 )
     requires { ⌜ ((b : Book) × (rules : List ℕ) × (owned : List ℕ) × (masks : List ℕ) × CheckHeld b (now definitions) rules owned masks
         × (lines ≡ grammar.definitions b) × ItemLinesIn b (now kernels) × (to ≤ length (b .kernels))
-        × MarksRoom (b .rules) (now nulls) (now reaches) (now nulls) × PlacesIn b 0 (now places)) × (from ≤ to) × (terminal < 32)
+        × MarksRoom (b .rules) (now nullables) (now reaches) (now nullables) × PlacesIn b 0 (now places)) × (from ≤ to) × (terminal < 32)
         × (length (now found) ≡ 2) ⌝ }
-    ensures { λ _. ⌜ ((b : Book) (F : Sets) (R firsts rules owned masks : List ℕ) (items : List Core) → Ordered b
+    ensures { λ _. ⌜ ((b : Book) (F : Sets) (R begins rules owned masks : List ℕ) (items : List Core) → Ordered b
         → CheckHeld b (now (definitions .entry)) rules owned masks → lines ≡ grammar.definitions b → ItemLinesIn b (now (kernels .entry))
-        → to ≤ length (b .kernels) → SuffixesIn (b .rules) F (now (nulls .entry)) firsts → ReachesIn (b .rules) F R (now (reaches .entry))
+        → to ≤ length (b .kernels) → SuffixesIn (b .rules) F (now (nullables .entry)) begins → ReachesIn (b .rules) F R (now (reaches .entry))
         → PlacesIn b 0 (now (places .entry)) → FoundIn b F R terminal items (now (found .entry))
         → FoundIn b F R terminal (ofKernels (slice from to (b .kernels)) ++ items) (now (found .exit))) ⌝ }
 {
@@ -243,7 +243,7 @@ fn kernel_lines(
             lines,
             kernels,
             i,
-            nulls,
+            nullables,
             reaches,
             places,
             terminal,
@@ -258,19 +258,19 @@ pub fn members(
     lines: u32,
     rules: &[u32],
     kernels: &[u32],
-    starts: &[u32],
+    bounds: &[u32],
     closures: &[u32],
-    nulls: &[u32],
+    nullables: &[u32],
     reaches: &[u32],
     places: &[u32],
     state: usize,
     terminal: u32,
     found: &mut [u64],
 )
-    requires { ⌜ ((b : Book) × (owned : List ℕ) × PlansHeld b (now rules) (now definitions) lines owned (now kernels) (now starts) (now closures)
-        (now nulls) (now reaches) (now places) × (state < b .states)) × (terminal < 32) × (now found ≡ 0 ∷ 0 ∷ []) ⌝ }
+    requires { ⌜ ((b : Book) × (owned : List ℕ) × PlansHeld b (now rules) (now definitions) lines owned (now kernels) (now bounds) (now closures)
+        (now nullables) (now reaches) (now places) × (state < b .states)) × (terminal < 32) × (now found ≡ 0 ∷ 0 ∷ []) ⌝ }
     ensures { λ _. ⌜ ((b : Book) (owned : List ℕ) → PlansHeld b (now (rules .entry)) (now (definitions .entry)) lines owned (now (kernels .entry))
-        (now (starts .entry)) (now (closures .entry)) (now (nulls .entry)) (now (reaches .entry)) (now (places .entry))
+        (now (bounds .entry)) (now (closures .entry)) (now (nullables .entry)) (now (reaches .entry)) (now (places .entry))
         → state < b .states
         → LinesIn b (listed (partialAt b (setsOf (b .rules)) (reachSets (b .rules) (setsOf (b .rules))) state terminal)) (now (found .exit))) ⌝ }
 {
@@ -280,21 +280,21 @@ pub fn members(
         rules,
         closures,
         32 * state,
-        nulls,
+        nullables,
         reaches,
         places,
         terminal,
         found,
     );
-    let from = word(starts, state);
-    let to = word(starts, state + 1);
+    let from = word(bounds, state);
+    let to = word(bounds, state + 1);
     kernel_lines(
         definitions,
         lines as usize,
         kernels,
         from,
         to,
-        nulls,
+        nullables,
         reaches,
         places,
         terminal,

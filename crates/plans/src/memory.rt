@@ -51,9 +51,9 @@ pub fn planned(
     lines: u32,
     owned: &[u32],
     kernels: &[u32],
-    starts: &[u32],
+    bounds: &[u32],
     closures: &[u32],
-    nulls: &[u32],
+    nullables: &[u32],
     reaches: &[u32],
     places: &[u32],
     state: usize,
@@ -61,10 +61,10 @@ pub fn planned(
     slots: &mut [u8],
     lists: &mut [u8],
 ) -> usize
-    requires { ⌜ ((b : Book) × PlansHeld b (now rules) (now definitions) lines (now owned) (now kernels) (now starts) (now closures) (now nulls)
+    requires { ⌜ ((b : Book) × PlansHeld b (now rules) (now definitions) lines (now owned) (now kernels) (now bounds) (now closures) (now nullables)
         (now reaches) (now places) × (state < b .states) × PlansIn b (now slots) (now lists)) × (terminal < 32) ⌝ }
     ensures { λ r. ⌜ ((b : Book) → PlansHeld b (now (rules .entry)) (now (definitions .entry)) lines (now (owned .entry)) (now (kernels .entry))
-        (now (starts .entry)) (now (closures .entry)) (now (nulls .entry)) (now (reaches .entry)) (now (places .entry)) → state < b .states
+        (now (bounds .entry)) (now (closures .entry)) (now (nullables .entry)) (now (reaches .entry)) (now (places .entry)) → state < b .states
         → PlansIn b (now (slots .entry)) (now (lists .entry)) → PlanTold b (now (slots .exit)) (now (lists .exit)) state terminal r) ⌝ }
 {
     let place = 32 * state + terminal as usize;
@@ -78,9 +78,9 @@ pub fn planned(
         lines,
         rules,
         kernels,
-        starts,
+        bounds,
         closures,
-        nulls,
+        nullables,
         reaches,
         places,
         state,

@@ -20,10 +20,10 @@ use Rattle.stack.specs.Reductions.{RuleReady, rule-ready, reduce-on}
 use Rattle.stack.specs.Standing.{BookIn, LeftIn, ConfigIn, CellIn, actionOf, GoesOn}
 
 -- a configuration of at most 255 tokens with a reduce of rule P due, and room for its row and its left side
-pub record LeftAsked (b : Book) (ks : List Token) (c : Config) (rules definitions table firsts down up : List ℕ)
+pub record LeftAsked (b : Book) (ks : List Token) (c : Config) (rules definitions table spans down up : List ℕ)
     (states inherited synthesized starts rows : List ℕ) (top : Top) (P : ℕ) : Type 0 where
   pub book-in : BookIn b rules definitions table
-  pub left-in : LeftIn b definitions firsts down up
+  pub left-in : LeftIn b definitions spans down up
   pub config-in : ConfigIn b ks states inherited synthesized starts rows top c
   pub cell-in : length (rightOf (b .rules) P) ≡ 0 → CellIn b inherited c
   pub action-is : actionOf b c ≡ some (reduce P)
@@ -31,8 +31,8 @@ pub record LeftAsked (b : Book) (ks : List Token) (c : Config) (rules definition
   pub rows-low : top .rows < 512
   pub room : top .depth < length starts + getD rules (10 * P + 1) 0
 
-module _ {b : Book} {ks : List Token} {c : Config} {rules definitions table firsts down up states inherited synthesized starts rows : List ℕ} {top : Top}
-    {P : ℕ} (A : LeftAsked b ks c rules definitions table firsts down up states inherited synthesized starts rows top P) where
+module _ {b : Book} {ks : List Token} {c : Config} {rules definitions table spans down up states inherited synthesized starts rows : List ℕ} {top : Top}
+    {P : ℕ} (A : LeftAsked b ks c rules definitions table spans down up states inherited synthesized starts rows top P) where
   pub left-ready : RuleReady (A .book-in) (A .left-in) P ks states starts top
   left-ready = rule-ready (A .book-in) (A .left-in) P (A .config-in) (A .cell-in) (A .action-is)
 
@@ -56,7 +56,7 @@ module _ {b : Book} {ks : List Token} {c : Config} {rules definitions table firs
     pub left-state-there : getD states (top .depth - n) 0 < b .states
     left-state-there = rw same-size (left-ready .state-there)
 
-    pub left-asked : NodeAsked b definitions firsts P n
+    pub left-asked : NodeAsked b definitions spans P n
     left-asked = rw size-is (left-ready .asked)
 
     pub left-reducing : Stacks states synthesized starts rows → length inherited ≡ 16 * length starts + 16
@@ -64,7 +64,7 @@ module _ {b : Book} {ks : List Token} {c : Config} {rules definitions table firs
     left-reducing L cells = record {
       deep = left-deep;
       room = omega (arith, A .room);
-      low = omega (arith, left-ready .depth-low, L .starts-low);
+      low = omega (arith, left-ready .depth-low, L .starts-long);
       rows-low = A .rows-low;
       down-in = gathers (A .left-in .down-in) left-owner (omega (arith, left-room, A .book-in .sound .limits .inherited-limit));
       up-in = gathers (A .left-in .up-in) left-owner (omega (arith, left-room, L .synthesized-long, A .book-in .sound .limits .synthesized-limit));

@@ -1,5 +1,4 @@
 pub mod Action
-pub mod Firsts
 pub mod Goes
 pub mod LeftLines
 pub mod LeftMove
@@ -11,4 +10,5 @@ pub mod Pushes
 pub mod PutValues
 pub mod Records
 pub mod Reductions
+pub mod Spans
 pub mod Standing

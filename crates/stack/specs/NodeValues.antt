@@ -18,16 +18,16 @@ use Rattle.grammar.specs.Data.ListLaws.{at-member, member-at}
 use Rattle.book.specs.Held.{DefinitionsIn, synthesizedAt, noSynthesized}
 use Rattle.cells.specs.Values.{placeIn, Asked}
 use Rattle.cells.specs.DefinitionsAsked.{synthesized-asked, synthesized-expression}
-use Rattle.stack.specs.Firsts.{ruleWord, attributeWord, Cut, FirstsIn, RuleLines}
+use Rattle.stack.specs.Spans.{ruleWord, attributeWord, Cut, SpansIn, RuleLines}
 
 -- a book's definitions, where those of each rule begin, and a rule with its size
-pub record NodeAsked (b : Book) (definitions firsts : List ℕ) (P size : ℕ) : Type 0 where
+pub record NodeAsked (b : Book) (definitions spans : List ℕ) (P size : ℕ) : Type 0 where
   pub ordered : Ordered b
   pub limits : WithinLimits b
   pub declared : Declared b
   pub owned : Owned b
   pub definitions-in : DefinitionsIn (b .inheritedDefinitions) (b .synthesizedDefinitions) definitions
-  pub firsts-in : FirstsIn b definitions firsts
+  pub spans-in : SpansIn b definitions spans
   pub rule-there : P < length (b .rules)
   pub size-is : size ≡ length (rightOf (b .rules) P)
 
@@ -68,32 +68,32 @@ pub record LineOf (b : Book) (definitions : List ℕ) (P size line : ℕ) : Type
   pub low : line < 128
 
 -- a line's place among the definitions
-module _ {b : Book} {definitions firsts : List ℕ} {P size : ℕ} (A : NodeAsked b definitions firsts P size) where
+module _ {b : Book} {definitions spans : List ℕ} {P size : ℕ} (A : NodeAsked b definitions spans P size) where
   abbrev CutAt : ℕ → Type 0
   CutAt R =
-      Cut definitions (length (b .inheritedDefinitions)) (length (b .inheritedDefinitions) + length (b .synthesizedDefinitions)) R (getD firsts R 0)
+      Cut definitions (length (b .inheritedDefinitions)) (length (b .inheritedDefinitions) + length (b .synthesizedDefinitions)) R (getD spans R 0)
 
   here : CutAt P
-  here = A .firsts-in .cut P (omega (arith, A .rule-there))
+  here = A .spans-in .cut P (omega (arith, A .rule-there))
 
   next : CutAt (P + 1)
-  next = A .firsts-in .cut (P + 1) (omega (arith, A .rule-there))
+  next = A .spans-in .cut (P + 1) (omega (arith, A .rule-there))
 
-  pub rule-lines : RuleLines definitions firsts P
+  pub rule-lines : RuleLines definitions spans P
   rule-lines = record {
-    there = omega (arith, A .firsts-in .long, A .rule-there, A .limits .rules-limit .high);
-    ascend = by (decLt (getD firsts (P + 1) 0) (getD firsts P 0));
+    there = omega (arith, A .spans-in .long, A .rule-there, A .limits .rules-limit .high);
+    ascend = by (decLt (getD spans (P + 1) 0) (getD spans P 0));
     low = omega (arith, next .within, A .definitions-in .fits);
     inside = omega (arith, next .within, A .definitions-in .long);
   }
     where
-      by : Dec (getD firsts (P + 1) 0 < getD firsts P 0) → getD firsts P 0 ≤ getD firsts (P + 1) 0
+      by : Dec (getD spans (P + 1) 0 < getD spans P 0) → getD spans P 0 ≤ getD spans (P + 1) 0
       by (yes l) =
-          let line : ℕ = getD firsts (P + 1) 0 in
+          let line : ℕ = getD spans (P + 1) 0 in
           absurd (let z : ⊥ = omega (arith, here .lower line (next .above) l, next .upper line (omega arith) (omega (arith, here .within))) in z)
       by (no g) = omega arith
 
-  line-at : (line i : ℕ) → line ≡ length (b .inheritedDefinitions) + i → getD firsts P 0 ≤ line → line < getD firsts (P + 1) 0
+  line-at : (line i : ℕ) → line ≡ length (b .inheritedDefinitions) + i → getD spans P 0 ≤ line → line < getD spans (P + 1) 0
       → LineOf b definitions P size line
   line-at line i e l h =
       let d : SynthesizedDefinition = synthesizedAt (b .synthesizedDefinitions) i in
@@ -123,11 +123,11 @@ module _ {b : Book} {definitions firsts : List ℕ} {P size : ℕ} (A : NodeAske
         low = omega (arith, next .within, A .definitions-in .fits);
       }
 
-  pub line-of : (line : ℕ) → getD firsts P 0 ≤ line → line < getD firsts (P + 1) 0 → LineOf b definitions P size line
+  pub line-of : (line : ℕ) → getD spans P 0 ≤ line → line < getD spans (P + 1) 0 → LineOf b definitions P size line
   line-of line l h = line-at line (line - length (b .inheritedDefinitions)) (omega (arith, here .above)) l h
 
   module _ {base : ℕ} {inherited synthesized : List ℕ} where
-    pub values-none : {fresh : List ℕ} → fresh ≡ replicate 33 0 → ValuesBefore b P base inherited synthesized (getD firsts P 0) fresh
+    pub values-none : {fresh : List ℕ} → fresh ≡ replicate 33 0 → ValuesBefore b P base inherited synthesized (getD spans P 0) fresh
     values-none e = record {
       long = ap (length {A = ℕ}) e ∙ length-replicate {A = ℕ} 33 0;
       no-token = ap (λ (l : List ℕ). getD l 0 0) e;
@@ -174,7 +174,7 @@ module _ {b : Book} {definitions firsts : List ℕ} {P size : ℕ} (A : NodeAske
             of (inl e) = inl (kept ∙ e)
             of (inr (z, none)) = inr (kept ∙ z, more none)
 
-    pub values-end : {line : ℕ} {fresh : List ℕ} → ValuesBefore b P base inherited synthesized line fresh → getD firsts (P + 1) 0 ≤ line
+    pub values-end : {line : ℕ} {fresh : List ℕ} → ValuesBefore b P base inherited synthesized line fresh → getD spans (P + 1) 0 ≤ line
         → NodeValues b P base inherited synthesized fresh
     unfolding eval
     values-end {line} {fresh} W h = record { no-token = W .no-token; value-is = λ K l. by K (W .known K l) }
@@ -182,9 +182,9 @@ module _ {b : Book} {definitions firsts : List ℕ} {P size : ℕ} (A : NodeAske
         -- a definition of P stands before the last of its lines
         before : (i : ℕ) → i < length (b .synthesizedDefinitions) → synthesizedAt (b .synthesizedDefinitions) i .rule ≡ P
             → length (b .inheritedDefinitions) + i < line
-        before i l e = of (decLt (length (b .inheritedDefinitions) + i) (getD firsts (P + 1) 0))
+        before i l e = of (decLt (length (b .inheritedDefinitions) + i) (getD spans (P + 1) 0))
           where
-            of : Dec (length (b .inheritedDefinitions) + i < getD firsts (P + 1) 0) → length (b .inheritedDefinitions) + i < line
+            of : Dec (length (b .inheritedDefinitions) + i < getD spans (P + 1) 0) → length (b .inheritedDefinitions) + i < line
             of (yes m) = omega arith
             of (no m) =
                 let z : ⊥ =

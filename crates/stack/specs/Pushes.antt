@@ -12,7 +12,7 @@ use Rattle.stack.specs.Records.{Stored}
 
 -- the arrays that a move changes, but for the cells: room for as many symbols as there are starts
 pub record Stacks (states synthesized starts rows : List ℕ) : Type 0 where
-  pub starts-low : length starts ≤ MAX-STACK
+  pub starts-long : length starts ≡ MAX-STACK
   pub states-long : length states ≡ length starts + 1
   pub synthesized-long : length synthesized ≡ 33 * length starts
   pub rows-long : length rows ≡ 5120

@@ -7,7 +7,7 @@ use native.Mathlib.Numerals.{add-one}
 use native.Mathlib.Omega.{arith}
 use lib.ListN.{length, getD, set, replicate, length-set, length-replicate}
 use lib.Seq.{getD-set-same, getD-set-other}
-use Rattle.stack.specs.Firsts.{attributeWord, RuleLines, lineCount}
+use Rattle.stack.specs.Spans.{attributeWord, RuleLines, lineCount}
 use Rattle.stack.specs.Records.{Stored, stored-set}
 
 -- the first n values are those of the lines from `first` on; attributes' words stand from a place on
@@ -18,11 +18,11 @@ valuesPut definitions values first from (suc n) words =
 
 -- those of rule P
 abbrev pub linesPut : List ℕ → List ℕ → List ℕ → ℕ → ℕ → List ℕ → List ℕ
-linesPut definitions firsts values P from words = valuesPut definitions values (getD firsts P 0) from (lineCount firsts P) words
+linesPut definitions spans values P from words = valuesPut definitions values (getD spans P 0) from (lineCount spans P) words
 
 -- the record of its left side
 abbrev pub leftRecord : List ℕ → List ℕ → List ℕ → ℕ → List ℕ
-leftRecord definitions firsts values P = linesPut definitions firsts values P 1 (replicate 33 0)
+leftRecord definitions spans values P = linesPut definitions spans values P 1 (replicate 33 0)
 
 -- opens every definition of this module
 unfoldable pub opens : Unit {0}
@@ -30,10 +30,10 @@ unfolding valuesPut
 opens = tt
 
 -- there is a value for each line of rule P, and a word for its attribute
-pub record Putting (definitions firsts values : List ℕ) (P : ℕ) : Type 0 where
-  pub lines : RuleLines definitions firsts P
-  pub few : lineCount firsts P ≤ length values
-  pub attribute-low : (i : ℕ) → i < lineCount firsts P → attributeWord definitions (getD firsts P 0 + i) < 32
+pub record Putting (definitions spans values : List ℕ) (P : ℕ) : Type 0 where
+  pub lines : RuleLines definitions spans P
+  pub few : lineCount spans P ≤ length values
+  pub attribute-low : (i : ℕ) → i < lineCount spans P → attributeWord definitions (getD spans P 0 + i) < 32
 
 module _ (definitions values : List ℕ) (first from : ℕ) (words : List ℕ) where
   abbrev puts : List ℕ → ℕ → List ℕ
@@ -55,27 +55,27 @@ module _ (definitions values : List ℕ) (first from : ℕ) (words : List ℕ) w
   put-next n v h = rw (add-one n, put-kept n n v (omega arith), getD-set-same values n v 0 h)
 
 -- a loop over the lines of rule P, after i of them
-pub record PuttingLines (definitions firsts values : List ℕ) (P from : ℕ) (old : List ℕ) (i : ℕ) (new : List ℕ) : Type 0 where
-  pub within : i ≤ lineCount firsts P
-  pub words-are : new ≡ valuesPut definitions values (getD firsts P 0) from i old
+pub record PuttingLines (definitions spans values : List ℕ) (P from : ℕ) (old : List ℕ) (i : ℕ) (new : List ℕ) : Type 0 where
+  pub within : i ≤ lineCount spans P
+  pub words-are : new ≡ valuesPut definitions values (getD spans P 0) from i old
 
-module _ {definitions firsts values : List ℕ} {P from : ℕ} {old : List ℕ} where
-  pub putting-start : PuttingLines definitions firsts values P from old 0 old
+module _ {definitions spans values : List ℕ} {P from : ℕ} {old : List ℕ} where
+  pub putting-start : PuttingLines definitions spans values P from old 0 old
   unfolding valuesPut
   putting-start = record { within = omega arith; words-are = refl }
 
-  module _ {i : ℕ} {new : List ℕ} (W : PuttingLines definitions firsts values P from old i new) where
+  module _ {i : ℕ} {new : List ℕ} (W : PuttingLines definitions spans values P from old i new) where
     pub putting-long : length new ≡ length old
-    putting-long = ap length (W .words-are) ∙ put-long definitions values (getD firsts P 0) from old i
+    putting-long = ap length (W .words-are) ∙ put-long definitions values (getD spans P 0) from old i
 
-    pub putting-turn : {k : ℕ} → i < lineCount firsts P → k ≡ attributeWord definitions (getD firsts P 0 + i)
-        → PuttingLines definitions firsts values P from old (i + 1) (set new (from + k) (getD values i 0))
+    pub putting-turn : {k : ℕ} → i < lineCount spans P → k ≡ attributeWord definitions (getD spans P 0 + i)
+        → PuttingLines definitions spans values P from old (i + 1) (set new (from + k) (getD values i 0))
     unfolding valuesPut
     putting-turn h e = record { within = omega arith; words-are = rw (add-one i, e, W .words-are) }
 
-    pub putting-end : lineCount firsts P ≤ i → new ≡ linesPut definitions firsts values P from old
+    pub putting-end : lineCount spans P ≤ i → new ≡ linesPut definitions spans values P from old
     putting-end h =
-        let e : i ≡ lineCount firsts P = omega (arith, W .within) in
+        let e : i ≡ lineCount spans P = omega (arith, W .within) in
         rw e at (W .words-are)
 
 -- on the stack as in a record by itself
@@ -93,7 +93,7 @@ module _ (definitions values : List ℕ) (first : ℕ) {place : ℕ} {old new : 
       put-long definitions values first 1 (replicate 33 0) n ∙ length-replicate {A = ℕ} 33 0 in
       rw e (stored-set (put-stored n (λ i l. low i (omega arith))) (1 + k) (getD values n 0) there (omega arith) room)
 
-pub left-stored : {definitions firsts values : List ℕ} {P place : ℕ} {old new : List ℕ} → Putting definitions firsts values P
+pub left-stored : {definitions spans values : List ℕ} {P place : ℕ} {old new : List ℕ} → Putting definitions spans values P
     → Stored place (replicate 33 0) old 33 new → place + 33 ≤ length old
-    → Stored place (leftRecord definitions firsts values P) old 33 (linesPut definitions firsts values P (place + 1) new)
-left-stored {definitions} {firsts} {values} {P} R S room = put-stored definitions values (getD firsts P 0) S room (lineCount firsts P) (R .attribute-low)
+    → Stored place (leftRecord definitions spans values P) old 33 (linesPut definitions spans values P (place + 1) new)
+left-stored {definitions} {spans} {values} {P} R S room = put-stored definitions values (getD spans P 0) S room (lineCount spans P) (R .attribute-low)

@@ -57,7 +57,7 @@ same-node : (P : ℕ) {r r′ start start′ : ℕ} {is is′ ss ss′ : List �
     → nodeStored r P start is ss out ≡ nodeStored r′ P start′ is′ ss′ out
 same-node P out e f g h = cc
 
-module _ {b : Book} {rules definitions table firsts down up : List ℕ} (B : BookIn b rules definitions table) (F : LeftIn b definitions firsts down up)
+module _ {b : Book} {rules definitions table spans down up : List ℕ} (B : BookIn b rules definitions table) (F : LeftIn b definitions spans down up)
     (P : ℕ) where
   abbrev size : ℕ
   size = length (rightOf (b .rules) P)
@@ -226,7 +226,7 @@ module _ {b : Book} {rules definitions table firsts down up : List ℕ} (B : Boo
     pub position-low : top .position ≤ length ks
     pub state-there : getD states (top .depth - size) 0 < b .states
     pub state-low : getD states (top .depth - size) 0 < 128
-    pub asked : NodeAsked b definitions firsts P (getD rules (10 * P + 1) 0)
+    pub asked : NodeAsked b definitions spans P (getD rules (10 * P + 1) 0)
 
   module _ {ks : List Token} {states inherited synthesized starts rows : List ℕ} {top : Top} where
     pub rule-ready : {c : Config} → ConfigIn b ks states inherited synthesized starts rows top c → (size ≡ 0 → CellIn b inherited c)
@@ -255,7 +255,7 @@ module _ {b : Book} {rules definitions table firsts down up : List ℕ} (B : Boo
             declared = B .sound .names;
             owned = B .sound .attributes;
             definitions-in = B .definitions-in;
-            firsts-in = F .firsts-in;
+            spans-in = F .spans-in;
             rule-there = x .there;
             size-is = size-is;
           };
@@ -282,7 +282,7 @@ module _ {b : Book} {rules definitions table firsts down up : List ℕ} (B : Boo
         let go : tablesOf b .go (off .state) (nonterminal (leftOf (b .rules) P)) ≡ some target = g ∙ ap some same in
         record {
           then = reducedTo C e s target;
-          moves = moves.reduce-moves b (tablesOf b) st z p rs e (off .below) (off .popped-is) go line (omega (arith, room, L .starts-low));
+          moves = moves.reduce-moves b (tablesOf b) st z p rs e (off .below) (off .popped-is) go line (omega (arith, room, L .starts-long));
           holds = stands (reduce-stands C e s room line L cells push owner-is (start-by (decLt 0 size)) (rw low-is at fresh-in) go);
         }
       where

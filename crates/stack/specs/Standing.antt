@@ -20,7 +20,7 @@ use Rattle.book.specs.Held.{RulesIn, DefinitionsIn}
 use Rattle.items.specs.Arrays.{GoTableIn}
 use Rattle.cells.specs.Frames.{cellValue, FramesIn}
 use Rattle.stack.specs.declared.top.Top.{Top}
-use Rattle.stack.specs.Firsts.{FirstsIn}
+use Rattle.stack.specs.Spans.{SpansIn}
 use Rattle.stack.specs.Lists.{ListsIn}
 use Rattle.stack.specs.Page.{RowsIn}
 use Rattle.stack.specs.Path.{Path, path-state}
@@ -40,8 +40,8 @@ state-low {b} B q =
     path-state b (tablesOf b) (premises (B .spelled) (B .sound)) (B .sound .names) (omega (arith, B .sound .limits .states-limit .low)) q
 
 -- what a reduce reads of left sides: where their definitions begin, and which attributes they have
-pub record LeftIn (b : Book) (definitions firsts down up : List ℕ) : Type 0 where
-  pub firsts-in : FirstsIn b definitions firsts
+pub record LeftIn (b : Book) (definitions spans down up : List ℕ) : Type 0 where
+  pub spans-in : SpansIn b definitions spans
   pub down-in : ListsIn (b .inheritedOwners) down
   pub up-in : ListsIn (b .synthesizedOwners) up
 

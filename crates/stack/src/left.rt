@@ -33,7 +33,7 @@ pub fn put_left(
     rule: u32,
     rules: &[u32],
     definitions: &[u32],
-    firsts: &[u32],
+    spans: &[u32],
     down: &[u32],
     up: &[u32],
     table: &[u8],
@@ -44,10 +44,10 @@ pub fn put_left(
     rows: &mut [u32],
 ) -> Top
     requires { ⌜ Stacks (now states) (now synthesized) (now starts) (now rows) × (length (now inherited) ≡ 16 * length (now starts) + 16) ⌝ }
-    requires { ⌜ ((b : Lines) × (ks : List Token) × (c : Config) × LeftAsked b ks c (now rules) (now definitions) (now table) (now firsts) (now down) (now up)
+    requires { ⌜ ((b : Lines) × (ks : List Token) × (c : Config) × LeftAsked b ks c (now rules) (now definitions) (now table) (now spans) (now down) (now up)
         (now states) (now inherited) (now synthesized) (now starts) (now rows) top rule) ⌝ }
     ensures { λ r. ⌜ ((b : Lines) (ks : List Token) (c : Config)
-        → LeftAsked b ks c (now (rules .entry)) (now (definitions .entry)) (now (table .entry)) (now (firsts .entry)) (now (down .entry)) (now (up .entry))
+        → LeftAsked b ks c (now (rules .entry)) (now (definitions .entry)) (now (table .entry)) (now (spans .entry)) (now (down .entry)) (now (up .entry))
         (now (states .entry)) (now (inherited .entry)) (now (synthesized .entry)) (now (starts .entry)) (now (rows .entry)) top rule
         → GoesOn b ks c (now (states .exit)) (now (inherited .entry)) (now (synthesized .exit)) (now (starts .exit)) (now (rows .exit)) r) ⌝ }
 {
@@ -58,7 +58,7 @@ pub fn put_left(
     let mut values = [0u32; Book::MAX_OWNED as usize];
     node_values(
         definitions,
-        firsts,
+        spans,
         rule as usize,
         size as u32,
         top.depth,
@@ -76,7 +76,7 @@ pub fn put_left(
         owner,
         start,
         definitions,
-        firsts,
+        spans,
         &values,
         down,
         inherited,

@@ -44,7 +44,7 @@ pub fn push_node(
     owner: usize,
     start: u32,
     definitions: &[u32],
-    firsts: &[u32],
+    spans: &[u32],
     values: &[u32],
     down: &[u32],
     inherited: &[u32],
@@ -54,9 +54,9 @@ pub fn push_node(
     starts: &mut [u32],
     rows: &mut [u32],
 ) -> Top
-    requires { ⌜ Stacks (now states) (now synthesized) (now starts) (now rows) × Putting (now definitions) (now firsts) (now values) rule ⌝ }
+    requires { ⌜ Stacks (now states) (now synthesized) (now starts) (now rows) × Putting (now definitions) (now spans) (now values) rule ⌝ }
     requires { ⌜ Reducing top size owner (now down) (now inherited) (now up) (now synthesized) (now starts) ⌝ }
-    ensures { λ r. ⌜ NodePushed top target rule size owner start (leftRecord (now (definitions .entry)) (now (firsts .entry)) (now (values .entry)) rule)
+    ensures { λ r. ⌜ NodePushed top target rule size owner start (leftRecord (now (definitions .entry)) (now (spans .entry)) (now (values .entry)) rule)
         (now (down .entry)) (now (inherited .entry)) (now (up .entry))
         (now (states .entry)) (now (synthesized .entry)) (now (starts .entry)) (now (rows .entry))
         (now (states .exit)) (now (synthesized .exit)) (now (starts .exit)) (now (rows .exit)) r ⌝ }
@@ -64,7 +64,7 @@ pub fn push_node(
     let below = top.depth - size;
     node_record(
         definitions,
-        firsts,
+        spans,
         rule as usize,
         values,
         synthesized,

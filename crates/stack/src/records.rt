@@ -32,7 +32,7 @@ pub fn token_record(synthesized: &mut [u32], height: usize, value: u32)
 // The synthesized values of a rule's left side, whose right side are the top `size` symbols of `height`: one for each line of the rule, in their order.
 pub fn node_values<'a>(
     definitions: &[u32],
-    firsts: &[u32],
+    spans: &[u32],
     rule: usize,
     size: u32,
     height: usize,
@@ -41,13 +41,13 @@ pub fn node_values<'a>(
     values: &mut [u32],
 )
     requires { ⌜ Room height (now inherited) (now synthesized) × (size ≤ height) × (length (now values) ≡ MAX-OWNED) ⌝ }
-    requires { ⌜ ((b : Book) × NodeAsked b (now definitions) (now firsts) rule size) ⌝ }
-    ensures { λ _. ⌜ ((b : Book) → NodeAsked b (now (definitions .entry)) (now (firsts .entry)) rule size
+    requires { ⌜ ((b : Book) × NodeAsked b (now definitions) (now spans) rule size) ⌝ }
+    ensures { λ _. ⌜ ((b : Book) → NodeAsked b (now (definitions .entry)) (now (spans .entry)) rule size
         → NodeValues b rule (height - size) (now (inherited .entry)) (now (synthesized .entry))
-        (leftRecord (now (definitions .entry)) (now (firsts .entry)) (now (values .exit)) rule)) ⌝ }
+        (leftRecord (now (definitions .entry)) (now (spans .entry)) (now (values .exit)) rule)) ⌝ }
 {
-    let first = word(firsts, rule);
-    let count = word(firsts, rule + 1) - first;
+    let first = word(spans, rule);
+    let count = word(spans, rule + 1) - first;
     let mut i = 0;
     while i < count {
         values[i] = value(definitions, first + i, size, height, inherited, synthesized);
@@ -58,19 +58,19 @@ pub fn node_values<'a>(
 // The values of a rule's lines, each in the word of its attribute in the record of symbol `height`.
 fn put_values(
     definitions: &[u32],
-    firsts: &[u32],
+    spans: &[u32],
     rule: usize,
     values: &[u32],
     synthesized: &mut [u32],
     height: usize,
 )
-    requires { ⌜ (33 * height + 33 ≤ length (now synthesized)) × Putting (now definitions) (now firsts) (now values) rule ⌝ }
+    requires { ⌜ (33 * height + 33 ≤ length (now synthesized)) × Putting (now definitions) (now spans) (now values) rule ⌝ }
     ensures { λ _. ⌜ now (synthesized .exit)
-        ≡ linesPut (now (definitions .entry)) (now (firsts .entry)) (now (values .entry)) rule (33 * height + 1) (now (synthesized .entry)) ⌝ }
+        ≡ linesPut (now (definitions .entry)) (now (spans .entry)) (now (values .entry)) rule (33 * height + 1) (now (synthesized .entry)) ⌝ }
 {
     let place = 33 * height + 1;
-    let first = word(firsts, rule);
-    let count = word(firsts, rule + 1) - first;
+    let first = word(spans, rule);
+    let count = word(spans, rule + 1) - first;
     let mut i = 0;
     while i < count {
         let k = word(definitions, 49 * (first + i) + 2);
@@ -82,16 +82,16 @@ fn put_values(
 // The record of symbol `height` is that of a rule's left side.
 pub fn node_record(
     definitions: &[u32],
-    firsts: &[u32],
+    spans: &[u32],
     rule: usize,
     values: &[u32],
     synthesized: &mut [u32],
     height: usize,
 )
-    requires { ⌜ (33 * height + 33 ≤ length (now synthesized)) × Putting (now definitions) (now firsts) (now values) rule ⌝ }
-    ensures { λ _. ⌜ Stored (33 * height) (leftRecord (now (definitions .entry)) (now (firsts .entry)) (now (values .entry)) rule)
+    requires { ⌜ (33 * height + 33 ≤ length (now synthesized)) × Putting (now definitions) (now spans) (now values) rule ⌝ }
+    ensures { λ _. ⌜ Stored (33 * height) (leftRecord (now (definitions .entry)) (now (spans .entry)) (now (values .entry)) rule)
         (now (synthesized .entry)) 33 (now (synthesized .exit)) ⌝ }
 {
     clear_record(synthesized, height);
-    put_values(definitions, firsts, rule, values, synthesized, height);
+    put_values(definitions, spans, rule, values, synthesized, height);
 }

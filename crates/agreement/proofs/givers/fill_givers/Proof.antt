@@ -18,14 +18,14 @@ clear-requires c κs = search needs
 
 mark-givers-requires : tie.Need-mark-givers-requires
 mark-givers-requires c κs =
-    let (b, rules, kernels, starts, closures, nulls, firsts, reaches, terminals, states, H) = entry c .pre .0 in
+    let (b, rules, kernels, bounds, closures, nullables, begins, reaches, terminals, states, H) = entry c .pre .0 in
     (b, rules, held-lines H .0, _, held-lines H .1, H .definitions-counted, omega (arith, H .rules-counted, entry c .pre .1, c .before .before .before .clear .kept .0))
 
 same-length : tie.Need-same-length
 same-length c = search needs
 
 returns : tie.Need-returns
-returns c = λ b rules kernels starts closures nulls firsts reaches terminals states H.
+returns c = λ b rules kernels bounds closures nullables begins reaches terminals states H.
     let m = c .before .before in
     m .mark-givers .ensures b _ _ _ (held-lines H .1) (H .definitions-counted)
     (omega (arith, H .rules-counted, entry (m .before) .pre .1, m .before .before .before .before .clear .kept .0))

@@ -38,9 +38,9 @@ states-right-requires : tie.Need-states-right-requires
 states-right-requires c κs =
     let o = c .before .before .before .before .before .before .before .before in
     let s = entry o in
-    let (b, firsts, W, I, e, G) = s .pre .0 in
+    let (b, begins, W, I, e, G) = s .pre .0 in
     let H = W .formulas-held in (
-      (b, firsts, W, owned-all e (o .owned .ensures (b .inheritedOwners) I (sym e)), G),
+      (b, begins, W, owned-all e (o .owned .ensures (b .inheritedOwners) I (sym e)), G),
       omega (arith, rules-low H, H .rules-counted),
       record { words-long = refl; marks-long = refl; heads-long = refl; nodes-room = s .pre .1 },
     )
@@ -52,10 +52,10 @@ same-length-2 : tie.Need-same-length-2
 same-length-2 c = search needs
 
 returns : tie.Need-returns
-returns c = λ b firsts W I e G.
+returns c = λ b begins W I e G.
     let v = c .before .before .before .before .before .before .before .before in
     let o = v .before .before .before .before .before .before .before .before .before in
-    v .states-right .ensures b firsts W (owned-all e (o .owned .ensures (b .inheritedOwners) I (sym e))) G ∙ states-told (W .formulas-held)
+    v .states-right .ensures b begins W (owned-all e (o .owned .ensures (b .inheritedOwners) I (sym e))) G ∙ states-told (W .formulas-held)
 
 pub one-formula-spec : {M : Type 1} → statement M
 one-formula-spec =

@@ -21,7 +21,7 @@ single-requires c κs =
     (g .0, _, _, H .marks-held .items-in, g .3 .fronts-in, omega (arith, g .6, H .states-are), g .5 .long)
 
 returns : tie.Need-returns
-returns c = λ b firsts states W O L l.
+returns c = λ b begins states W O L l.
     let H = W .formulas-held in
     let v = c .before in
     state-single H (start (v .before) .args .state)
@@ -66,12 +66,12 @@ same-length-6 : tie.Need-same-length-6
 same-length-6 c = search needs
 
 returns-2 : tie.Need-returns-2
-returns-2 c = λ b firsts states W O L l.
+returns-2 c = λ b begins states W O L l.
     let H = W .formulas-held in
     let v = c .before .before .before .before .before .before .before .before .before .before in
     let m = v .before .before .before .before .before .before .before .before .before in
     let s = entry (m .before) in
-    let M = m .masks .ensures b firsts _ (H .marks-held) (held-check H O (omega (arith, s .pre .1, H .rules-counted))) (H .definitions-counted)
+    let M = m .masks .ensures b begins _ (H .marks-held) (held-check H O (omega (arith, s .pre .1, H .rules-counted))) (H .definitions-counted)
     (omega (arith, l, H .states-are)) in
     v .check-state .ensures b (held-check H O (M .long)) (H .definitions-counted) (H .terminals-are)
     ∙ state-told H (s .args .state) M

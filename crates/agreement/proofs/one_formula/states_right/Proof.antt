@@ -19,15 +19,15 @@ use Rattle.agreement.proofs.one_formula.states_right.Statement.{stateme
 use Rattle.agreement.proofs.one_formula.states_right.Tie as tie
 
 abbrev Inv-loop : tie.InvT-loop
-Inv-loop rules count definitions lines owned given leaders kernels starts closures fronts nulls reaches terminals states sets₀ slots₀ done₀ table₀ heads₀ nexts₀
+Inv-loop rules count definitions lines owned given leaders kernels bounds closures fronts nullables reaches terminals states sets₀ slots₀ done₀ table₀ heads₀ nexts₀
     n state₀ sets slots done table heads nexts state =
     (state ≤ states) × (length sets ≡ length sets₀) × (length slots ≡ length slots₀) × (length done ≡ length done₀)
     × (length table ≡ length table₀) × (length heads ≡ length heads₀) × (length nexts ≡ length nexts₀)
-    × ((b : Book) (firsts : List ℕ) → FrontsHeld b rules count definitions lines kernels starts closures fronts nulls firsts reaches terminals states
+    × ((b : Book) (begins : List ℕ) → FrontsHeld b rules count definitions lines kernels bounds closures fronts nullables begins reaches terminals states
     → OwnedIn (b .inheritedOwners) (attributes b) owned → GivenIn b (grammar.definitions b) given leaders → allBelow state (stateRight b) ≡ true)
 
 abbrev μ-loop : tie.MeasureT-loop
-μ-loop rules count definitions lines owned given leaders kernels starts closures fronts nulls reaches terminals states sets₀ slots₀ done₀ table₀ heads₀ nexts₀
+μ-loop rules count definitions lines owned given leaders kernels bounds closures fronts nullables reaches terminals states sets₀ slots₀ done₀ table₀ heads₀ nexts₀
     n state₀ sets slots done table heads nexts state =
     states - state
 
@@ -40,7 +40,7 @@ abbrev turn : tie.After-state-right Inv-loop μ-loop → tie.In-loop Inv-loop μ
 turn c = c .before .before .before .before .before .before .before
 
 loop-holds : tie.Need-loop-holds Inv-loop μ-loop
-loop-holds c = (omega arith, refl, refl, refl, refl, refl, refl, λ b firsts H O L. all-start _)
+loop-holds c = (omega arith, refl, refl, refl, refl, refl, refl, λ b begins H O L. all-start _)
 
 state-right-requires : tie.Need-state-right-requires Inv-loop μ-loop
 state-right-requires c κs =
@@ -71,11 +71,11 @@ same-length-6 : tie.Need-same-length-6 Inv-loop μ-loop
 same-length-6 c = search needs
 
 returns : tie.Need-returns Inv-loop μ-loop
-returns c = λ b firsts H O L.
+returns c = λ b begins H O L.
     let v = c .before .before .before .before .before .before .before .before .before .before .before .before .before in
     let l = turn v .before in
     one-fails (stateRight b) (l .loop .state) _ (omega (arith, turn v .loop-test .taken, H .formulas-held .states-are))
-    (v .state-right .ensures b firsts (entry l .args .states) H O L (turn v .loop-test .taken)) (c .if1 .taken)
+    (v .state-right .ensures b begins (entry l .args .states) H O L (turn v .loop-test .taken)) (c .if1 .taken)
 
 add-state : tie.Need-add-state Inv-loop μ-loop
 add-state c =
@@ -96,9 +96,9 @@ loop-again c =
       search needs,
       search needs,
       search needs,
-      λ b firsts H O L.
-          all-turn (stateRight b) (l .loop .state) (l .loop .inv .7 b firsts H O L)
-          (v .state-right .ensures b firsts (entry l .args .states) H O L (turn v .loop-test .taken)) (c .if1 .left),
+      λ b begins H O L.
+          all-turn (stateRight b) (l .loop .state) (l .loop .inv .7 b begins H O L)
+          (v .state-right .ensures b begins (entry l .args .states) H O L (turn v .loop-test .taken)) (c .if1 .left),
     )
 
 same-length-7 : tie.Need-same-length-7 Inv-loop μ-loop
@@ -120,10 +120,10 @@ same-length-12 : tie.Need-same-length-12 Inv-loop μ-loop
 same-length-12 c = c .before .loop .inv .6
 
 returns-2 : tie.Need-returns-2 Inv-loop μ-loop
-returns-2 c = λ b firsts H O L.
+returns-2 c = λ b begins H O L.
     let at = c .before .loop in
     let end : at .state ≡ b .states = omega (arith, at .inv .0, c .loop-test .left, H .formulas-held .states-are) in
-    sym (rw end at (at .inv .7 b firsts H O L))
+    sym (rw end at (at .inv .7 b begins H O L))
 
 pub states-right-spec : {M : Type 1} → statement M
 states-right-spec =

@@ -30,7 +30,7 @@ lines-apart-requires c κs =
     let s = c .before .before .before .before .before .before .before .before .before in
     let g = s .pre in
     let range = state-range (g .3 .states-in) (s .args .state) (g .5) in (
-      (g .0, g .1, s .args .starts .now, g .3 .states-in, omega (arith, c .word2 .ensures, range .within), g .6),
+      (g .0, g .1, s .args .bounds .now, g .3 .states-in, omega (arith, c .word2 .ensures, range .within), g .6),
       omega (arith, c .before .word .ensures, c .word2 .ensures, range .ordered),
     )
 

@@ -20,13 +20,13 @@ use Rattle.agreement.proofs.single.states_single.Statement.{statement}
 use Rattle.agreement.proofs.single.states_single.Tie as tie
 
 abbrev Inv-loop : tie.InvT-loop
-Inv-loop kernels starts fronts states given leaders state₀ state =
+Inv-loop kernels bounds fronts states given leaders state₀ state =
     (state ≤ states)
-    × ((b : Book) (rules closures : List ℕ) → Ordered b → ItemsIn b (setsOf (b .rules)) rules kernels starts closures
+    × ((b : Book) (rules closures : List ℕ) → Ordered b → ItemsIn b (setsOf (b .rules)) rules kernels bounds closures
     → FrontsIn b rules closures fronts → GivenIn b (grammar.definitions b) given leaders → states ≡ b .states → (S : ℕ) → S < state → Single b S)
 
 abbrev μ-loop : tie.MeasureT-loop
-μ-loop kernels starts fronts states given leaders state₀ state = states - state
+μ-loop kernels bounds fronts states given leaders state₀ state = states - state
 
 loop-holds : tie.Need-loop-holds Inv-loop μ-loop
 loop-holds c = (omega arith, λ b rules closures o I W G e S l. absurd (omega arith))

@@ -28,7 +28,7 @@ shared-slice-read-own : tie.Need-shared-slice-read-own
 shared-slice-read-own c = omega (arith, left (c .before), c .before .before .before .before .before .before .pre .1)
 
 returns : tie.Need-returns
-returns c = λ G F R firsts L H p N T.
+returns c = λ G F R begins L H p N T.
     let w = c .before .before in
     front-none H (w .before .before .before .before .before .args .rule) p F R (w .word .ensures) (c .if1 .taken)
 
@@ -36,10 +36,10 @@ reach-with-requires : tie.Need-reach-with-requires
 reach-with-requires c κs = search needs
 
 returns-2 : tie.Need-returns-2
-returns-2 c = λ G F R firsts L H p N T.
+returns-2 c = λ G F R begins L H p N T.
     let e = c .before in
     let w = e .before .before in
-    c .reach-with .ensures G F R firsts N T p (omega arith)
+    c .reach-with .ensures G F R begins N T p (omega arith)
     ∙ front-some H (w .before .before .before .before .before .args .rule) p F R (w .word .ensures) (e .if1 .left)
 
 pub front-set-spec : {M : Type 1} → statement M

@@ -64,7 +64,7 @@ same-length : tie.Need-same-length
 same-length c = search needs
 
 returns : tie.Need-returns
-returns c = λ b F R firsts owned cleared L C H l N T M.
+returns c = λ b F R begins owned cleared L C H l N T M.
     let w = c .before in
     fronts-more C l (sym (place-is C l (w .before .word .ensures) (w .word2 .ensures)))
     (front-behind (b .rules) F R L _ _ (λ z. c .if1 .taken (omega (arith, w .word2 .ensures, position-word C l, position-low C l)))) M
@@ -75,7 +75,7 @@ front-set-requires c κs =
     let g = entry w .pre in
     let (b, owned, cleared, L, C, H, l, room) = g .0 in
     let there : w .before .word .result < length (b .rules) = omega (arith, w .before .word .ensures, rule-there C l) in
-    ((b .rules, L, H, there), g .1, omega (arith, room .nulls-long), omega (arith, room .reaches-long))
+    ((b .rules, L, H, there), g .1, omega (arith, room .nullables-long), omega (arith, room .reaches-long))
 
 mul-masks-3 : tie.Need-mul-masks-3
 mul-masks-3 c = omega (arith, rule (c .before .before))
@@ -90,12 +90,12 @@ same-length-2 : tie.Need-same-length-2
 same-length-2 c = search needs
 
 returns-2 : tie.Need-returns-2
-returns-2 c = λ b F R firsts owned cleared L C H l N T M.
+returns-2 c = λ b F R begins owned cleared L C H l N T M.
     let v = c .before in
     let w = v .before in
     let there : w .before .word .result < length (b .rules) = omega (arith, w .before .word .ensures, rule-there C l) in
     fronts-more C l (omega (arith, v .if1 .left, w .before .word .ensures, w .word2 .ensures, rule-word C l, position-word C l))
-    (c .front-set .ensures (b .rules) F R firsts L H there N T
+    (c .front-set .ensures (b .rules) F R begins L H there N T
     ∙ front-first (b .rules) F R L (w .before .word .ensures ∙ rule-word C l)
     (omega (arith, v .if1 .left, w .word2 .ensures, position-word C l))) M
 

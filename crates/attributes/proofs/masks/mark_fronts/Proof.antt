@@ -17,17 +17,17 @@ use Rattle.attributes.proofs.masks.mark_fronts.Statement.{statement}
 use Rattle.attributes.proofs.masks.mark_fronts.Tie as tie
 
 abbrev Inv-loop : tie.InvT-loop
-Inv-loop definitions lines rules looks first nulls reaches masks₀ i₀ masks i =
+Inv-loop definitions lines rules closures first nullables reaches masks₀ i₀ masks i =
     (i ≤ lines) × (length masks ≡ length masks₀)
-    × ((b : Book) (F : Sets) (R firsts owned cleared L : List ℕ) → CheckHeld b definitions rules owned cleared → LooksIn (b .rules) rules L looks first
-    → lines ≡ grammar.definitions b → SuffixesIn (b .rules) F nulls firsts → ReachesIn (b .rules) F R reaches
+    × ((b : Book) (F : Sets) (R begins owned cleared L : List ℕ) → CheckHeld b definitions rules owned cleared → LooksIn (b .rules) rules L closures first
+    → lines ≡ grammar.definitions b → SuffixesIn (b .rules) F nullables begins → ReachesIn (b .rules) F R reaches
     → 9 * length (b .rules) ≤ length masks₀ → FrontsMarked b F R L i masks)
 
 abbrev μ-loop : tie.MeasureT-loop
-μ-loop definitions lines rules looks first nulls reaches masks₀ i₀ masks i = lines - i
+μ-loop definitions lines rules closures first nullables reaches masks₀ i₀ masks i = lines - i
 
 loop-holds : tie.Need-loop-holds Inv-loop μ-loop
-loop-holds c = (omega arith, refl, λ b F R firsts owned cleared L C H e N T M. fronts-start b F R L M)
+loop-holds c = (omega arith, refl, λ b F R begins owned cleared L C H e N T M. fronts-start b F R L M)
 
 mark-front-requires : tie.Need-mark-front-requires Inv-loop μ-loop
 mark-front-requires c κs =
@@ -49,18 +49,18 @@ loop-again c =
     let at = t .before .loop in (
       omega (arith, t .loop-test .taken),
       search needs,
-      λ b F R firsts owned cleared L C H e N T M.
-          v .mark-front .ensures b F R firsts owned cleared L C H (omega (arith, t .loop-test .taken, e)) N T (at .inv .2 b F R firsts owned cleared L C H e N T M),
+      λ b F R begins owned cleared L C H e N T M.
+          v .mark-front .ensures b F R begins owned cleared L C H (omega (arith, t .loop-test .taken, e)) N T (at .inv .2 b F R begins owned cleared L C H e N T M),
     )
 
 same-length : tie.Need-same-length Inv-loop μ-loop
 same-length c = c .before .loop .inv .1
 
 returns : tie.Need-returns Inv-loop μ-loop
-returns c = λ b F R firsts owned cleared L C H e N T M.
+returns c = λ b F R begins owned cleared L C H e N T M.
     let at = c .before .loop in
     let end : at .i ≡ c .before .before .before .before .before .before .before .before .args .lines = omega (arith, at .inv .0, c .loop-test .left) in
-    rw end at (at .inv .2 b F R firsts owned cleared L C H e N T M)
+    rw end at (at .inv .2 b F R begins owned cleared L C H e N T M)
 
 pub mark-fronts-spec : {M : Type 1} → statement M
 mark-fronts-spec =

@@ -32,7 +32,7 @@ same-length : tie.Need-same-length
 same-length c = search needs
 
 returns : tie.Need-returns
-returns c = λ G F R firsts N H p d. rw (c .union .ensures, c .before .before .reach-with .ensures G F R firsts N H p d)
+returns c = λ G F R begins N H p d. rw (c .union .ensures, c .before .before .reach-with .ensures G F R begins N H p d)
 
 pub mark-item-spec : {M : Type 1} → statement M
 mark-item-spec =

@@ -47,19 +47,19 @@ mark-item-requires c κs =
     let w = c .before .before in
     let s = w .before .before .before .before .before .before in
     let place = item-place (s .pre .1) (s .args .i) (s .pre .2) (w .before .word .ensures) (w .word2 .ensures) in
-    (omega (arith, place, s .pre .3 .nulls-long), omega (arith, place, s .pre .3 .reaches-long), omega (arith, place, s .pre .3 .masks-long))
+    (omega (arith, place, s .pre .3 .nullables-long), omega (arith, place, s .pre .3 .reaches-long), omega (arith, place, s .pre .3 .masks-long))
 
 same-length : tie.Need-same-length
 same-length c = search needs
 
 returns : tie.Need-returns
-returns c = λ b F R firsts items L l N T M.
+returns c = λ b F R begins items L l N T M.
     let v = c .before .before in
     let w = v .before .before .before in
     let i = w .before .before .before .before .before .before .args .i in
     let rule = w .before .word .ensures in
     let dot = w .word2 .ensures in
-    rw (v .mark-item .ensures (b .rules) F R firsts N T (item-rule L i l rule dot) (item-dot L i l rule dot)) (line-marks L i l rule dot M)
+    rw (v .mark-item .ensures (b .rules) F R begins N T (item-rule L i l rule dot) (item-dot L i l rule dot)) (line-marks L i l rule dot M)
 
 pub mark-line-spec : {M : Type 1} → statement M
 mark-line-spec =

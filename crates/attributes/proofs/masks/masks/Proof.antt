@@ -21,21 +21,21 @@ mul-mark-fronts c = search needs
 mark-fronts-requires : tie.Need-mark-fronts-requires
 mark-fronts-requires c κs =
     let s = entry c in
-    let (b, firsts, owned, H, C, e, l) = s .pre in
+    let (b, begins, owned, H, C, e, l) = s .pre in
     ((b, owned, _, closureSets b (setsOf (b .rules)) (s .args .state), C, state-looks H l, e, marks-room H C refl), looks-below H l)
 
 word-requires : tie.Need-word-requires
 word-requires c κs = search needs
 
 add-word : tie.Need-add-word
-add-word c = let (b, firsts, owned, H, C, e, l) = entry (c .before .before .before .before) .pre in omega (arith, starts-below H l)
+add-word c = let (b, begins, owned, H, C, e, l) = entry (c .before .before .before .before) .pre in omega (arith, starts-below H l)
 
 word-requires-2 : tie.Need-word-requires-2
 word-requires-2 c κs = let g = entry (c .before .before .before .before) .pre in starts-below (g .3) (g .6)
 
 mark-lines-requires : tie.Need-mark-lines-requires
 mark-lines-requires c κs =
-    let (b, firsts, owned, H, C, e, l) = entry (c .before .before .before .before .before .before) .pre in
+    let (b, begins, owned, H, C, e, l) = entry (c .before .before .before .before .before .before) .pre in
     let lines = range H l (c .before .before .word .ensures) (c .before .word2 .ensures) in
     ((b, item-lines H, lines .within, marks-room H C (search needs)), lines .ordered)
 
@@ -43,7 +43,7 @@ same-length : tie.Need-same-length
 same-length c = search needs
 
 returns : tie.Need-returns
-returns c = λ b firsts owned H C e l.
+returns c = λ b begins owned H C e l.
     let v = c .before .before in
     let w = v .before .before in
     let m = w .before .before .before .before in
@@ -53,12 +53,12 @@ returns c = λ b firsts owned H C e l.
     let R = reachSets G F in
     let N = H .rests-in .suffixes-in in
     let T = H .rests-in .reaches-in in
-    let looks = closureSets b F (s .args .state) in
+    let closures = closureSets b F (s .args .state) in
     let first = w .before .word .ensures in
     let last = w .word2 .ensures in
     marks-state H l first last
-    (v .mark-lines .ensures b F R firsts _ (item-lines H) (range H l first last .within) N T
-    (fronts-marked b looks F R C e (m .mark-fronts .ensures b F R firsts owned _ looks C (state-looks H l) e N T (C .masks-long))))
+    (v .mark-lines .ensures b F R begins _ (item-lines H) (range H l first last .within) N T
+    (fronts-marked b closures F R C e (m .mark-fronts .ensures b F R begins owned _ closures C (state-looks H l) e N T (C .masks-long))))
 
 pub masks-spec : {M : Type 1} → statement M
 masks-spec =

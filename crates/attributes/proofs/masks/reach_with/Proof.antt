@@ -27,7 +27,7 @@ shared-slice-read-if1 c = search needs
 returns : tie.Need-returns
 returns c =
     let a = c .before .before .before .before .before .args in
-    λ G F R firsts N H p d. sym (reach-full N H (a .rule) (a .dot) (a .own) p d (c .if1 .taken))
+    λ G F R begins N H p d. sym (reach-full N H (a .rule) (a .dot) (a .own) p d (c .if1 .taken))
 
 union-requires : tie.Need-union-requires
 union-requires c κs = search needs
@@ -35,7 +35,7 @@ union-requires c κs = search needs
 returns-2 : tie.Need-returns-2
 returns-2 c =
     let a = c .before .before .before .before .before .before .args in
-    λ G F R firsts N H p d. c .union .ensures ∙ sym (reach-null N H (a .rule) (a .dot) (a .own) p d (c .before .if1 .left))
+    λ G F R begins N H p d. c .union .ensures ∙ sym (reach-null N H (a .rule) (a .dot) (a .own) p d (c .before .if1 .left))
 
 pub reach-with-spec : {M : Type 1} → statement M
 reach-with-spec =

@@ -11,10 +11,10 @@ use Rattle.automaton.proofs.actions.kernels_act.Statement.{statement}
 use Rattle.automaton.proofs.actions.kernels_act.Tie as tie
 
 abbrev Inv-loop : tie.InvT-loop
-Inv-loop rules kernels starts actions₀ terminals state first i₀ actions i = KernelsActing rules kernels starts terminals state first actions₀ actions i
+Inv-loop rules kernels bounds actions₀ terminals state first i₀ actions i = KernelsActing rules kernels bounds terminals state first actions₀ actions i
 
 abbrev μ-loop : tie.MeasureT-loop
-μ-loop rules kernels starts actions₀ terminals state first i₀ actions i = i
+μ-loop rules kernels bounds actions₀ terminals state first i₀ actions i = i
 
 -- the words of the line before i
 low : (c : tie.In-loop Inv-loop μ-loop) → KernelLow (c .before .before .before .before .before .before .before .before .args .kernels .now)
@@ -42,7 +42,7 @@ loop-holds : tie.Need-loop-holds Inv-loop μ-loop
 loop-holds c =
     let s = c .before .before .before .before .before .before in
     let range = state-range (s .pre .1 .1) (s .args .state) (s .pre .1 .2) in
-    kernels-none (s .args .rules .now) (s .args .kernels .now) (s .args .starts .now) (s .args .terminals) (s .args .state) (s .args .actions .now)
+    kernels-none (s .args .rules .now) (s .args .kernels .now) (s .args .bounds .now) (s .args .terminals) (s .args .state) (s .args .actions .now)
     (c .before .word .ensures) (c .word2 .ensures) (omega (arith, range .ordered, c .before .word .ensures, c .word2 .ensures))
 
 sub-i : tie.Need-sub-i Inv-loop μ-loop

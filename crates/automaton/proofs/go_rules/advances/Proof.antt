@@ -33,7 +33,7 @@ place-low c =
 -- the target is a state
 target : (c : tie.Else2) → getD (c .before .before .before .before .before .before .before .before .before .args .table .now)
     (64 * c .before .before .before .before .before .before .before .before .before .args .state + c .before .before .word2 .result) 0 + 1 < length
-    (c .before .before .before .before .before .before .before .before .before .args .starts .now)
+    (c .before .before .before .before .before .before .before .before .before .args .bounds .now)
 target c =
     let s = c .before .before .before .before .before .before .before .before .before in
     omega (

@@ -9,15 +9,15 @@ use Rattle.automaton.proofs.go_rules.all_come.Statement.{statement}
 use Rattle.automaton.proofs.go_rules.all_come.Tie as tie
 
 abbrev Inv-loop : tie.InvT-loop
-Inv-loop rules kernels starts closures state symbol first last i₀ i = AllCome rules kernels starts closures state symbol first last i
+Inv-loop rules kernels bounds closures state symbol first last i₀ i = AllCome rules kernels bounds closures state symbol first last i
 
 abbrev μ-loop : tie.MeasureT-loop
-μ-loop rules kernels starts closures state symbol first last i₀ i = last - i
+μ-loop rules kernels bounds closures state symbol first last i₀ i = last - i
 
 loop-holds : tie.Need-loop-holds Inv-loop μ-loop
 loop-holds c =
     let s = c .before .before .before .before in
-    come-none (s .args .rules .now) (s .args .kernels .now) (s .args .starts .now) (s .args .closures .now) (s .args .state) (s .args .symbol)
+    come-none (s .args .rules .now) (s .args .kernels .now) (s .args .bounds .now) (s .args .closures .now) (s .args .state) (s .args .symbol)
     (s .args .first) (s .args .last) (s .pre .4)
 
 kernel-comes-requires : tie.Need-kernel-comes-requires Inv-loop μ-loop

@@ -10,10 +10,10 @@ use Rattle.automaton.proofs.go_rules.kernels_advance.Statement.{stateme
 use Rattle.automaton.proofs.go_rules.kernels_advance.Tie as tie
 
 abbrev Inv-loop : tie.InvT-loop
-Inv-loop rules kernels starts table state last i₀ i = KernelsAdvance rules kernels starts table state last i
+Inv-loop rules kernels bounds table state last i₀ i = KernelsAdvance rules kernels bounds table state last i
 
 abbrev μ-loop : tie.MeasureT-loop
-μ-loop rules kernels starts table state last i₀ i = last - i
+μ-loop rules kernels bounds table state last i₀ i = last - i
 
 add-word : tie.Need-add-word Inv-loop μ-loop
 add-word c =
@@ -34,7 +34,7 @@ loop-holds : tie.Need-loop-holds Inv-loop μ-loop
 loop-holds c =
     let s = c .before .before .before .before .before .before in
     let range = state-range (s .pre .1 .states-in) (s .args .state) (s .pre .2) in
-    kernels-none (s .args .rules .now) (s .args .kernels .now) (s .args .starts .now) (s .args .table .now) (s .args .state) (c .word2 .ensures)
+    kernels-none (s .args .rules .now) (s .args .kernels .now) (s .args .bounds .now) (s .args .table .now) (s .args .state) (c .word2 .ensures)
     (c .before .word .ensures)
     (omega (arith, range .ordered, c .word2 .ensures, c .before .word .ensures))
 

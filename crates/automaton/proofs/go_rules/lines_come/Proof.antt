@@ -9,15 +9,15 @@ use Rattle.automaton.proofs.go_rules.lines_come.Statement.{statement}
 use Rattle.automaton.proofs.go_rules.lines_come.Tie as tie
 
 abbrev Inv-loop : tie.InvT-loop
-Inv-loop rules kernels goes starts closures count i₀ i = LinesCome rules kernels goes starts closures count i
+Inv-loop rules kernels goes bounds closures count i₀ i = LinesCome rules kernels goes bounds closures count i
 
 abbrev μ-loop : tie.MeasureT-loop
-μ-loop rules kernels goes starts closures count i₀ i = count - i
+μ-loop rules kernels goes bounds closures count i₀ i = count - i
 
 loop-holds : tie.Need-loop-holds Inv-loop μ-loop
 loop-holds c =
     let start = c .before .before .before .before .before in
-    let a = start .args in lines-none (a .rules .now) (a .kernels .now) (a .goes .now) (a .starts .now) (a .closures .now) (a .count)
+    let a = start .args in lines-none (a .rules .now) (a .kernels .now) (a .goes .now) (a .bounds .now) (a .closures .now) (a .count)
 
 line-comes-requires : tie.Need-line-comes-requires Inv-loop μ-loop
 line-comes-requires c κs =

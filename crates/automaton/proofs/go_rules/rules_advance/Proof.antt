@@ -9,10 +9,10 @@ use Rattle.automaton.proofs.go_rules.rules_advance.Statement.{statement
 use Rattle.automaton.proofs.go_rules.rules_advance.Tie as tie
 
 abbrev Inv-loop : tie.InvT-loop
-Inv-loop rules kernels starts closures table fronts state rest₀ rule₀ rest rule = RulesAdvance rules kernels starts closures table fronts state rest rule
+Inv-loop rules kernels bounds closures table fronts state rest₀ rule₀ rest rule = RulesAdvance rules kernels bounds closures table fronts state rest rule
 
 abbrev μ-loop : tie.MeasureT-loop
-μ-loop rules kernels starts closures table fronts state rest₀ rule₀ rest rule = 64 - rule
+μ-loop rules kernels bounds closures table fronts state rest₀ rule₀ rest rule = 64 - rule
 
 -- the next rule is one of the book
 there : (c : tie.After-least Inv-loop μ-loop) → c .before .before .loop .rule + c .least .result < 64
@@ -30,7 +30,7 @@ shared-slice-read-rest c = let p = c .before .before .before .before .before .be
 loop-holds : tie.Need-loop-holds Inv-loop μ-loop
 loop-holds c =
     let a = c .before .before .before .before .before .before .before .args in
-    rules-none (a .rules .now) (a .kernels .now) (a .starts .now) (a .closures .now) (a .table .now) (a .fronts .now) (a .state)
+    rules-none (a .rules .now) (a .kernels .now) (a .bounds .now) (a .closures .now) (a .table .now) (a .fronts .now) (a .state)
 
 least-requires : tie.Need-least-requires Inv-loop μ-loop
 least-requires c κs = c .loop-test .taken

@@ -8,15 +8,15 @@ use Rattle.automaton.proofs.go_rules.states_advance.Statement.{statemen
 use Rattle.automaton.proofs.go_rules.states_advance.Tie as tie
 
 abbrev Inv-loop : tie.InvT-loop
-Inv-loop rules kernels starts closures table fronts states state₀ state = StatesAdvance rules kernels starts closures table fronts states state
+Inv-loop rules kernels bounds closures table fronts states state₀ state = StatesAdvance rules kernels bounds closures table fronts states state
 
 abbrev μ-loop : tie.MeasureT-loop
-μ-loop rules kernels starts closures table fronts states state₀ state = state
+μ-loop rules kernels bounds closures table fronts states state₀ state = state
 
 loop-holds : tie.Need-loop-holds Inv-loop μ-loop
 loop-holds c =
     let start = c .before .before .before .before .before .before in
-    let a = start .args in states-none (a .rules .now) (a .kernels .now) (a .starts .now) (a .closures .now) (a .table .now) (a .fronts .now) (a .states)
+    let a = start .args in states-none (a .rules .now) (a .kernels .now) (a .bounds .now) (a .closures .now) (a .table .now) (a .fronts .now) (a .states)
 
 sub-state : tie.Need-sub-state Inv-loop μ-loop
 sub-state c = search needs

@@ -34,9 +34,9 @@ some c H = omega (arith, H .counted, c .if1 .left)
 -- the first one is right
 walked : (c : tie.Else2) {b : Book}
     → RuledIn b (start (some-at c) .args .rules .now) (start (some-at c) .args .kernels .now) (start (some-at c) .args .count)
-    → start (some-at c) .args .states ≡ b .states → Walked b (set (set (start (some-at c) .args .starts .now) 0 0) 1 1) 1
+    → start (some-at c) .args .states ≡ b .states → Walked b (set (set (start (some-at c) .args .bounds .now) 0 0) 1 1) 1
 walked c {b} H s =
-    walked-start H (start (some-at c) .args .starts .now) (some-at c .if1 .left) s (start (some-at c) .pre .1)
+    walked-start H (start (some-at c) .args .bounds .now) (some-at c .if1 .left) s (start (some-at c) .pre .1)
     (c .before .start-line .ensures (b .kernels) (H .named-in .spelled-in) (some (some-at c) H)) (not-false _ (c .if2 .left))
 
 returns : tie.Need-returns
@@ -49,11 +49,11 @@ returns-2 : tie.Need-returns-2
 returns-2 c = λ b H s.
     ruled-first H (c .before .start-line .ensures (b .kernels) (H .named-in .spelled-in) (some (c .before .before) H)) (not-true _ (c .if2 .taken))
 
-slice-write-starts : tie.Need-slice-write-starts
-slice-write-starts c = omega (arith, start (some-at c) .pre .1)
+slice-write-bounds : tie.Need-slice-write-bounds
+slice-write-bounds c = omega (arith, start (some-at c) .pre .1)
 
-slice-write-starts-2 : tie.Need-slice-write-starts-2
-slice-write-starts-2 c =
+slice-write-bounds-2 : tie.Need-slice-write-bounds-2
+slice-write-bounds-2 c =
     let ((b, H, s), l) = start (some-at c) .pre in simp length-set (omega (arith, H .named-in .state-there 0 (some (some-at c) H)))
 
 lines-right-requires : tie.Need-lines-right-requires
@@ -100,8 +100,8 @@ kernel-rules-spec =
     returns
     start-line-requires
     returns-2
-    slice-write-starts
-    slice-write-starts-2
+    slice-write-bounds
+    slice-write-bounds-2
     lines-right-requires
     same-length
     returns-3

@@ -12,11 +12,11 @@ use Rattle.automaton.proofs.kernel_rules.lines_right.Statement.{stateme
 use Rattle.automaton.proofs.kernel_rules.lines_right.Tie as tie
 
 abbrev Inv-loop : tie.InvT-loop
-Inv-loop rules kernels count starts₀ i₀ starts i =
-    (length starts ≡ length starts₀) × ((b : Book) → RuledIn b rules kernels count → Walked b starts₀ 1 → Walked b starts i)
+Inv-loop rules kernels count bounds₀ i₀ bounds i =
+    (length bounds ≡ length bounds₀) × ((b : Book) → RuledIn b rules kernels count → Walked b bounds₀ 1 → Walked b bounds i)
 
 abbrev μ-loop : tie.MeasureT-loop
-μ-loop rules kernels count starts₀ i₀ starts i = count - i
+μ-loop rules kernels count bounds₀ i₀ bounds i = count - i
 
 loop-holds : tie.Need-loop-holds Inv-loop μ-loop
 loop-holds c = (refl, λ b H W. W)
@@ -27,7 +27,7 @@ line-right-requires c κs =
     (b, H .named-in, c .before .loop .inv .1 b H W .some, omega (arith, H .counted))
 
 -- the place of the state behind the line's
-place : (c : tie.After-word Inv-loop μ-loop) → c .word .result + 1 < length (c .before .before .before .before .loop .starts)
+place : (c : tie.After-word Inv-loop μ-loop) → c .word .result + 1 < length (c .before .before .before .before .loop .bounds)
 place c =
     let (b, H, W) = c .before .before .before .before .before .before .before .before .pre in
     walked-place H (c .before .before .before .before .loop .inv .1 b H W) (c .before .before .before .loop-test .taken) (c .word .ensures)
@@ -48,20 +48,20 @@ mul-word c = search needs
 word-requires : tie.Need-word-requires Inv-loop μ-loop
 word-requires c κs = search needs
 
-add-starts : tie.Need-add-starts Inv-loop μ-loop
-add-starts c = search needs
+add-bounds : tie.Need-add-bounds Inv-loop μ-loop
+add-bounds c = search needs
 
-cast-starts : tie.Need-cast-starts Inv-loop μ-loop
-cast-starts c = search needs
+cast-bounds : tie.Need-cast-bounds Inv-loop μ-loop
+cast-bounds c = search needs
 
-add-starts-2 : tie.Need-add-starts-2 Inv-loop μ-loop
-add-starts-2 c = omega (arith, place c)
+add-bounds-2 : tie.Need-add-bounds-2 Inv-loop μ-loop
+add-bounds-2 c = omega (arith, place c)
 
-mul-starts : tie.Need-mul-starts Inv-loop μ-loop
-mul-starts c = omega (arith, place c)
+mul-bounds : tie.Need-mul-bounds Inv-loop μ-loop
+mul-bounds c = omega (arith, place c)
 
-slice-write-starts : tie.Need-slice-write-starts Inv-loop μ-loop
-slice-write-starts c = place c
+slice-write-bounds : tie.Need-slice-write-bounds Inv-loop μ-loop
+slice-write-bounds c = place c
 
 add-i : tie.Need-add-i Inv-loop μ-loop
 add-i c = search needs
@@ -97,11 +97,11 @@ lines-right-spec =
     returns
     mul-word
     word-requires
-    add-starts
-    cast-starts
-    add-starts-2
-    mul-starts
-    slice-write-starts
+    add-bounds
+    cast-bounds
+    add-bounds-2
+    mul-bounds
+    slice-write-bounds
     add-i
     loop-less
     loop-again

@@ -10,8 +10,8 @@ rests-requires c κs =
     let s = c .before .before .before .before .before .before .before .before .before .before in
     ((s .pre .0 .0 .rules, held-grammar (s .pre .0 .1) (s .pre .0 .2)), (s .pre .1 .0, s .pre .1 .1, s .pre .1 .2))
 
-closures-requires : tie.Need-closures-requires
-closures-requires c κs =
+fill-closures-requires : tie.Need-fill-closures-requires
+fill-closures-requires c κs =
     let s = c .before .before .before .before .before .before .before .before .before .before
     .before .before .before .before .before .before .before .before .before .before in
     let b = s .pre .0 .0 in
@@ -34,14 +34,14 @@ same-length-4 c = search needs
 returns : tie.Need-returns
 returns c = λ b h e T.
     let R = c .before .before .before .before .before .before .before .before .before .before .before .before .rests .ensures (b .rules) (held-grammar h e) in
-    record { rests-in = R; closures-in = c .before .before .closures .ensures b (setsOf (b .rules)) (held-items h T e (R .suffixes-in)) }
+    record { rests-in = R; closures-in = c .before .before .fill-closures .ensures b (setsOf (b .rules)) (held-items h T e (R .suffixes-in)) }
 
 pub fill-items-spec : {M : Type 1} → statement M
 fill-items-spec =
     tie.close
     (tie.spec
     rests-requires
-    closures-requires
+    fill-closures-requires
     same-length
     same-length-2
     same-length-3

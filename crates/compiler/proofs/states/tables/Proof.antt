@@ -40,7 +40,7 @@ items-at c = c .before .before .before .before .before .before .before .before .
 abbrev fronts-at : tie.After-moves → tie.After-fill-fronts
 fronts-at c = c .before .before .before .before .before .before .before
 
-abbrev moves-at : tie.After-actions → tie.After-moves
+abbrev moves-at : tie.After-fill-actions → tie.After-moves
 moves-at c = c .before .before .before .before .before .before .before .before
 
 kernel-rules-requires : tie.Need-kernel-rules-requires
@@ -66,7 +66,7 @@ fill-items-requires c κs =
     let R = s .kernel-rules .ensures b (held-rules (H .kernels-held) (H .kernels-counted)) (H .kernels-held .states-are) in
     let T = R .starts-in (not-false _ (c .before .before .before .before .before .if1 .left)) in (
       (b, H .kernels-held, H .rules-counted, T),
-      (room .vanishes-long low, room .begins-long low, room .reached-long low, room .closures-blank (few H)),
+      (room .nullables-long low, room .begins-long low, room .reaches-long low, room .closures-blank (few H)),
     )
 
 fill-fronts-requires : tie.Need-fill-fronts-requires
@@ -122,8 +122,8 @@ returns-2 c = λ b H.
     let (g, G) = m .moves .ensures b (H .kernels-held) (H .goes-in) (H .goes-counted) T (I .closures-in) W in
     tabled-goes (R .told) (rules-right i) g (not-true _ (c .if2 .taken))
 
-actions-requires : tie.Need-actions-requires
-actions-requires c κs =
+fill-actions-requires : tie.Need-fill-actions-requires
+fill-actions-requires c κs =
     let f = fronts-at (c .before .before .before .before .before .before .before) in
     let i = items-at f in
     let (b, H) = start (kernels-at i) .pre .0 in
@@ -169,7 +169,7 @@ returns-3 c = λ b H.
     let W = held-fronts (H .kernels-held) (H .rules-counted) (f .fill-fronts .ensures) in
     let (g, G) = m .moves .ensures b (H .kernels-held) (H .goes-in) (H .goes-counted) T (I .closures-in) W in
     let K = held-closures (H .kernels-held) T (I .closures-in) in
-    let A = c .before .before .before .actions .ensures b (setsOf (b .rules)) K (H .terminals-are) (H .kernels-held .states-are) W in
+    let A = c .before .before .before .fill-actions .ensures b (setsOf (b .rules)) K (H .terminals-are) (H .kernels-held .states-are) W in
     tabled-acts (R .told) (rules-right i)
     g (not-false _ (c .before .before .before .before .before .before .before .before .if2 .left)) A
     (not-true _ (c .if3 .taken))
@@ -209,7 +209,7 @@ returns-4 c = λ b H.
     let W = held-fronts (H .kernels-held) (H .rules-counted) (f .fill-fronts .ensures) in
     let (g, G) = m .moves .ensures b (H .kernels-held) (H .goes-in) (H .goes-counted) T (I .closures-in) W in
     let K = held-closures (H .kernels-held) T (I .closures-in) in
-    let A = c .before .before .before .actions .ensures b (setsOf (b .rules)) K (H .terminals-are) (H .kernels-held .states-are) W in
+    let A = c .before .before .before .fill-actions .ensures b (setsOf (b .rules)) K (H .terminals-are) (H .kernels-held .states-are) W in
     tabled-all (R .told) (rules-right i)
     g (not-false _ (c .before .before .before .before .before .before .before .before .if2 .left)) A
     (not-false _ (c .if3 .left)) I T G W
@@ -232,7 +232,7 @@ tables-spec =
     same-length-7
     same-length-8
     returns-2
-    actions-requires
+    fill-actions-requires
     same-length-9
     same-length-10
     same-length-11

@@ -9,11 +9,11 @@ use Rattle.items.proofs.closure.begin.Statement.{statement}
 use Rattle.items.proofs.closure.begin.Tie as tie
 
 abbrev Inv-loop : tie.InvT-loop
-Inv-loop rules kernels from to nulls firsts looks₀ given₀ i₀ looks given i =
-    Beginning rules kernels nulls firsts from to looks₀ looks given i
+Inv-loop rules kernels from to nullables begins looks₀ given₀ i₀ looks given i =
+    Beginning rules kernels nullables begins from to looks₀ looks given i
 
 abbrev μ-loop : tie.MeasureT-loop
-μ-loop rules kernels from to nulls firsts looks₀ given₀ i₀ looks given i = to - i
+μ-loop rules kernels from to nullables begins looks₀ given₀ i₀ looks given i = to - i
 
 loop-holds : tie.Need-loop-holds Inv-loop μ-loop
 loop-holds c = begin-first

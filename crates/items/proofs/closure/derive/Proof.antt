@@ -74,7 +74,7 @@ first-with-requires : tie.Need-first-with-requires
 first-with-requires c κs =
     let h = rest (c .before .before .before .before) (c .before .before .before .if2 .left) in
     let R = c .before .before .before .before .before .before .before .before .before .before .pre .0 .2 .rests-in in
-    (omega (arith, R .nulls-long), omega (arith, R .firsts-long))
+    (omega (arith, R .nullables-long), omega (arith, R .begins-long))
 
 give-requires : tie.Need-give-requires
 give-requires c κs =

@@ -13,11 +13,11 @@ use Rattle.items.proofs.closure.pass.Statement.{statement}
 use Rattle.items.proofs.closure.pass.Tie as tie
 
 abbrev Inv-loop : tie.InvT-loop
-Inv-loop rules count leads nulls firsts looks₀ changed₀ rule₀ looks changed rule =
-    Sweeping rules nulls firsts count looks₀ looks changed rule
+Inv-loop rules count leads nullables begins looks₀ changed₀ rule₀ looks changed rule =
+    Sweeping rules nullables begins count looks₀ looks changed rule
 
 abbrev μ-loop : tie.MeasureT-loop
-μ-loop rules count leads nulls firsts looks₀ changed₀ rule₀ looks changed rule = count - rule
+μ-loop rules count leads nullables begins looks₀ changed₀ rule₀ looks changed rule = count - rule
 
 -- the words lent are sets
 family : (c : tie.After-slice-known Inv-loop μ-loop) → Family 32 (c .before .before .before .before .before .args .looks .now)

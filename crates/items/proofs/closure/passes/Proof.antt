@@ -8,10 +8,10 @@ use Rattle.items.proofs.closure.passes.Statement.{statement}
 use Rattle.items.proofs.closure.passes.Tie as tie
 
 abbrev Inv-loop : tie.InvT-loop
-Inv-loop rules count leads nulls firsts looks₀ looks = Settling rules nulls firsts count looks₀ looks
+Inv-loop rules count leads nullables begins looks₀ looks = Settling rules nullables begins count looks₀ looks
 
 abbrev μ-loop : tie.MeasureT-loop
-μ-loop rules count leads nulls firsts looks₀ looks = left looks
+μ-loop rules count leads nullables begins looks₀ looks = left looks
 
 -- the words lent are sets
 family : (c : tie.After-slice-known Inv-loop μ-loop) → Family 32 (c .before .before .before .before .before .args .looks .now)

@@ -1,4 +1,4 @@
--- `items::closures::closures` meets its contract: the states below s have their closures, the words behind them are 0.
+-- `items::closures::state_closures` meets its contract: the states below s have their closures, the words behind them are 0.
 -- Assumes nothing.
 use Prim.Native.Nat.{_-_}
 use mathlib.Core.Path.{_≡_, refl}
@@ -10,11 +10,11 @@ use Rattle.items.proofs.closures.state_closures.Statement.{statement}
 use Rattle.items.proofs.closures.state_closures.Tie as tie
 
 abbrev Inv-loop : tie.InvT-loop
-Inv-loop rules count leads kernels starts states nulls firsts closures₀ s₀ closures s =
-    (length closures ≡ length closures₀) × Closed rules count kernels starts states nulls firsts closures s
+Inv-loop rules count leads kernels bounds states nullables begins closures₀ s₀ closures s =
+    (length closures ≡ length closures₀) × Closed rules count kernels bounds states nullables begins closures s
 
 abbrev μ-loop : tie.MeasureT-loop
-μ-loop rules count leads kernels starts states nulls firsts closures₀ s₀ closures s = states - s
+μ-loop rules count leads kernels bounds states nullables begins closures₀ s₀ closures s = states - s
 
 loop-holds : tie.Need-loop-holds Inv-loop μ-loop
 loop-holds c = (refl, closed-none (c .before .before .before .before .before .before .before .pre .2))

@@ -12,11 +12,11 @@ use Rattle.items.proofs.reach.fill_reaches.Statement.{statement}
 use Rattle.items.proofs.reach.fill_reaches.Tie as tie
 
 abbrev Inv-loop : tie.InvT-loop
-Inv-loop rules count nulls vanishes begins reached reaches₀ rules-count p₀ reaches p =
+Inv-loop rules count nulls nullables begins reached reaches₀ rules-count p₀ reaches p =
     RestsFilled (reachIn (setsOf (grammarOf rules count)) reached) rules count reaches₀ reaches p
 
 abbrev μ-loop : tie.MeasureT-loop
-μ-loop rules count nulls vanishes begins reached reaches₀ rules-count p₀ reaches p = count - p
+μ-loop rules count nulls nullables begins reached reaches₀ rules-count p₀ reaches p = count - p
 
 loop-holds : tie.Need-loop-holds Inv-loop μ-loop
 loop-holds c = rests-begin _

@@ -16,11 +16,11 @@ use Rattle.items.proofs.reach.reach_pass.Statement.{statement}
 use Rattle.items.proofs.reach.reach_pass.Tie as tie
 
 abbrev Inv-loop : tie.InvT-loop
-Inv-loop rules count nulls vanishes begins reached₀ rules-count changed₀ p₀ reached changed p =
+Inv-loop rules count nulls nullables begins reached₀ rules-count changed₀ p₀ reached changed p =
     Passing (reachRule (grammarOf rules count) (setsOf (grammarOf rules count))) count reached₀ reached changed p
 
 abbrev μ-loop : tie.MeasureT-loop
-μ-loop rules count nulls vanishes begins reached₀ rules-count changed₀ p₀ reached changed p = count - p
+μ-loop rules count nulls nullables begins reached₀ rules-count changed₀ p₀ reached changed p = count - p
 
 -- the rules fit the laws of passes
 fits : (c : tie.After-slice-known Inv-loop μ-loop) → let a = c .before .before .before .before .args in

@@ -8,10 +8,10 @@ use Rattle.items.proofs.reach.reach_rests.Statement.{statement}
 use Rattle.items.proofs.reach.reach_rests.Tie as tie
 
 abbrev Inv-loop : tie.InvT-loop
-Inv-loop rules p nulls vanishes begins reached reaches₀ last d₀ reaches d = Reaching rules p nulls vanishes begins reached reaches₀ reaches d
+Inv-loop rules p nulls nullables begins reached reaches₀ last d₀ reaches d = Reaching rules p nulls nullables begins reached reaches₀ reaches d
 
 abbrev μ-loop : tie.MeasureT-loop
-μ-loop rules p nulls vanishes begins reached reaches₀ last d₀ reaches d = last + 1 - d
+μ-loop rules p nulls nullables begins reached reaches₀ last d₀ reaches d = last + 1 - d
 
 size-requires : tie.Need-size-requires Inv-loop μ-loop
 size-requires c κs = c .before .before .before .before .before .pre .0 .0

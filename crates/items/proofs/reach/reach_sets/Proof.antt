@@ -13,11 +13,11 @@ use Rattle.items.proofs.reach.reach_sets.Statement.{statement}
 use Rattle.items.proofs.reach.reach_sets.Tie as tie
 
 abbrev Inv-loop : tie.InvT-loop
-Inv-loop rules count nulls vanishes begins reached₀ reached =
+Inv-loop rules count nulls nullables begins reached₀ reached =
     Closing (reachRule (grammarOf rules count) (setsOf (grammarOf rules count))) count reached₀ reached
 
 abbrev μ-loop : tie.MeasureT-loop
-μ-loop rules count nulls vanishes begins reached₀ reached = left reached
+μ-loop rules count nulls nullables begins reached₀ reached = left reached
 
 -- the rules fit the laws of passes
 fits : (c : tie.After-slice-known Inv-loop μ-loop) → let a = c .before .before .before .before .args in

@@ -45,8 +45,8 @@ mul-copy c = search needs
 copy-requires : tie.Need-copy-requires
 copy-requires c κs = search needs
 
-reaches-requires : tie.Need-reaches-requires
-reaches-requires c κs = let filled = c .before .before .before .before .before .before .before .before in (prepared filled, start filled .pre .1 .2)
+reach-requires : tie.Need-reach-requires
+reach-requires c κs = let filled = c .before .before .before .before .before .before .before .before in (prepared filled, start filled .pre .1 .2)
 
 same-length : tie.Need-same-length
 same-length c = search needs
@@ -79,7 +79,7 @@ same-length-6 c = search needs
 returns-2 : tie.Need-returns-2
 returns-2 c =
     let filled = c .before .before .before .before .before .before .before .before .before .before .before in
-    rest-sets-in (prepared filled) (c .before .before .reaches .ensures)
+    rest-sets-in (prepared filled) (c .before .before .reach .ensures)
 
 pub rests-spec : {M : Type 1} → statement M
 rests-spec =
@@ -92,7 +92,7 @@ rests-spec =
     suffixes-requires
     mul-copy
     copy-requires
-    reaches-requires
+    reach-requires
     same-length
     same-length-2
     same-length-3

@@ -1,4 +1,4 @@
--- `items::suffixes::longer` meets its contract: a symbol that vanishes leaves it to the rest behind it, and adds to what begins that.
+-- `items::suffixes::longer` meets its contract: a nullable symbol leaves it to the rest behind it, and adds to what begins that.
 -- Assumes nothing.
 use borrow.Author.Needs.{needs}
 use Rattle.items.specs.Rests.{rest-past, rest-stops}

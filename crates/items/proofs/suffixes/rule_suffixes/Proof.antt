@@ -9,11 +9,11 @@ use Rattle.items.proofs.suffixes.rule_suffixes.Statement.{statement}
 use Rattle.items.proofs.suffixes.rule_suffixes.Tie as tie
 
 abbrev Inv-loop : tie.InvT-loop
-Inv-loop rules p nulls firsts vanishes₀ begins₀ d₀ rest₀ alive₀ vanishes begins d rest alive =
-    Suffixing rules p nulls firsts vanishes₀ vanishes begins₀ begins d (rest .vanishes) (rest .begins) alive
+Inv-loop rules p nulls firsts nullables₀ begins₀ d₀ rest₀ alive₀ nullables begins d rest alive =
+    Suffixing rules p nulls firsts nullables₀ nullables begins₀ begins d (rest .nullable) (rest .begins) alive
 
 abbrev μ-loop : tie.MeasureT-loop
-μ-loop rules p nulls firsts vanishes₀ begins₀ d₀ rest₀ alive₀ vanishes begins d rest alive = d
+μ-loop rules p nulls firsts nullables₀ begins₀ d₀ rest₀ alive₀ nullables begins d rest alive = d
 
 -- the function's start
 abbrev start : tie.At-loop Inv-loop μ-loop → tie.Start Inv-loop μ-loop
@@ -25,18 +25,18 @@ size-requires c κs = c .before .before .before .before .pre .0 .0
 loop-holds : tie.Need-loop-holds Inv-loop μ-loop
 loop-holds c = suffixing-begins (c .size .ensures)
 
-mul-vanishes : tie.Need-mul-vanishes Inv-loop μ-loop
-mul-vanishes c = search needs
+mul-nullables : tie.Need-mul-nullables Inv-loop μ-loop
+mul-nullables c = search needs
 
-add-vanishes : tie.Need-add-vanishes Inv-loop μ-loop
-add-vanishes c = search needs
+add-nullables : tie.Need-add-nullables Inv-loop μ-loop
+add-nullables c = search needs
 
-mul-vanishes-2 : tie.Need-mul-vanishes-2 Inv-loop μ-loop
-mul-vanishes-2 c = search needs
+mul-nullables-2 : tie.Need-mul-nullables-2 Inv-loop μ-loop
+mul-nullables-2 c = search needs
 
-slice-write-vanishes : tie.Need-slice-write-vanishes Inv-loop μ-loop
-slice-write-vanishes c =
-    let at = c .before .loop .inv .nulls-back in
+slice-write-nullables : tie.Need-slice-write-nullables Inv-loop μ-loop
+slice-write-nullables c =
+    let at = c .before .loop .inv .nullables-back in
     let fits = start (c .before) .pre .0 .0 in
     omega (arith, at .filled .long, at .within, start (c .before) .pre .1 .0, fits .below, fits .size-low)
 
@@ -51,7 +51,7 @@ mul-begins-2 c = search needs
 
 slice-write-begins : tie.Need-slice-write-begins Inv-loop μ-loop
 slice-write-begins c =
-    let at = c .before .loop .inv .firsts-back in
+    let at = c .before .loop .inv .begins-back in
     let fits = start (c .before) .pre .0 .0 in
     omega (arith, at .filled .long, at .within, start (c .before) .pre .1 .1, fits .below, fits .size-low)
 
@@ -59,12 +59,12 @@ sub-d : tie.Need-sub-d Inv-loop μ-loop
 sub-d c = search needs
 
 symbol-requires : tie.Need-symbol-requires Inv-loop μ-loop
-symbol-requires c κs = (start (c .before) .pre .0 .0, omega (arith, c .before .loop .inv .nulls-back .within))
+symbol-requires c κs = (start (c .before) .pre .0 .0, omega (arith, c .before .loop .inv .nullables-back .within))
 
 longer-requires : tie.Need-longer-requires Inv-loop μ-loop
 longer-requires c κs =
     let at = c .before .before in (
-      rw (c .symbol .ensures) (start at .pre .0 .0 .symbol-low (at .loop .d - 1) (omega (arith, at .loop .inv .nulls-back .within))),
+      rw (c .symbol .ensures) (start at .pre .0 .0 .symbol-low (at .loop .d - 1) (omega (arith, at .loop .inv .nullables-back .within))),
       start at .pre .0 .1,
     )
 
@@ -81,16 +81,16 @@ loop-again c =
     suffixing-turn (pre .0 .0) (pre .1 .0) (pre .1 .1) (at .loop .inv) (c .before .before .before .loop-test .taken) (c .before .before .symbol .ensures)
     (c .before .longer .ensures) (c .dead-end .ensures) refl
 
-mul-vanishes-3 : tie.Need-mul-vanishes-3 Inv-loop μ-loop
-mul-vanishes-3 c = search needs
+mul-nullables-3 : tie.Need-mul-nullables-3 Inv-loop μ-loop
+mul-nullables-3 c = search needs
 
-mul-vanishes-4 : tie.Need-mul-vanishes-4 Inv-loop μ-loop
-mul-vanishes-4 c = search needs
+mul-nullables-4 : tie.Need-mul-nullables-4 Inv-loop μ-loop
+mul-nullables-4 c = search needs
 
-slice-write-vanishes-2 : tie.Need-slice-write-vanishes-2 Inv-loop μ-loop
-slice-write-vanishes-2 c =
+slice-write-nullables-2 : tie.Need-slice-write-nullables-2 Inv-loop μ-loop
+slice-write-nullables-2 c =
     let pre = start (c .before) .pre in
-    omega (arith, c .before .loop .inv .nulls-back .filled .long, pre .1 .0, pre .0 .0 .below)
+    omega (arith, c .before .loop .inv .nullables-back .filled .long, pre .1 .0, pre .0 .0 .below)
 
 mul-begins-3 : tie.Need-mul-begins-3 Inv-loop μ-loop
 mul-begins-3 c = search needs
@@ -101,7 +101,7 @@ mul-begins-4 c = search needs
 slice-write-begins-2 : tie.Need-slice-write-begins-2 Inv-loop μ-loop
 slice-write-begins-2 c =
     let pre = start (c .before) .pre in
-    omega (arith, c .before .loop .inv .firsts-back .filled .long, pre .1 .1, pre .0 .0 .below)
+    omega (arith, c .before .loop .inv .begins-back .filled .long, pre .1 .1, pre .0 .0 .below)
 
 same-length : tie.Need-same-length Inv-loop μ-loop
 same-length c =
@@ -124,10 +124,10 @@ rule-suffixes-spec =
     μ-loop
     size-requires
     loop-holds
-    mul-vanishes
-    add-vanishes
-    mul-vanishes-2
-    slice-write-vanishes
+    mul-nullables
+    add-nullables
+    mul-nullables-2
+    slice-write-nullables
     mul-begins
     add-begins
     mul-begins-2
@@ -138,9 +138,9 @@ rule-suffixes-spec =
     dead-end-requires
     loop-less
     loop-again
-    mul-vanishes-3
-    mul-vanishes-4
-    slice-write-vanishes-2
+    mul-nullables-3
+    mul-nullables-4
+    slice-write-nullables-2
     mul-begins-3
     mul-begins-4
     slice-write-begins-2

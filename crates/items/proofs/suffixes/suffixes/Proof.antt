@@ -9,11 +9,11 @@ use Rattle.items.proofs.suffixes.suffixes.Statement.{statement}
 use Rattle.items.proofs.suffixes.suffixes.Tie as tie
 
 abbrev Inv-loop : tie.InvT-loop
-Inv-loop rules count nulls firsts vanishes₀ begins₀ rules-count alive₀ p₀ vanishes begins alive p =
-    SuffixesFilled rules count nulls firsts vanishes₀ vanishes begins₀ begins alive p
+Inv-loop rules count nulls firsts nullables₀ begins₀ rules-count alive₀ p₀ nullables begins alive p =
+    SuffixesFilled rules count nulls firsts nullables₀ nullables begins₀ begins alive p
 
 abbrev μ-loop : tie.MeasureT-loop
-μ-loop rules count nulls firsts vanishes₀ begins₀ rules-count alive₀ p₀ vanishes begins alive p = count - p
+μ-loop rules count nulls firsts nullables₀ begins₀ rules-count alive₀ p₀ nullables begins alive p = count - p
 
 -- the function's start
 abbrev start : tie.At-loop Inv-loop μ-loop → tie.Start Inv-loop μ-loop
@@ -29,8 +29,8 @@ rule-suffixes-requires c κs =
     let pre = start at .pre in (
       (pre .0 .0 .rule-fits (at .loop .p) (c .before .before .loop-test .taken), pre .0 .1),
       (
-        omega (arith, inv .nulls-filled .rules .long, pre .1 .0, c .before .before .loop-test .taken),
-        omega (arith, inv .firsts-filled .rules .long, pre .1 .1, c .before .before .loop-test .taken),
+        omega (arith, inv .nullables-filled .rules .long, pre .1 .0, c .before .before .loop-test .taken),
+        omega (arith, inv .begins-filled .rules .long, pre .1 .1, c .before .before .loop-test .taken),
       ),
     )
 
@@ -47,10 +47,10 @@ loop-again c =
     suffixes-turn (at .loop .inv) (start at .pre .0 .0) (told .before .before .before .loop-test .taken) (told .rule-suffixes .ensures) refl
 
 same-length : tie.Need-same-length Inv-loop μ-loop
-same-length c = c .before .loop .inv .nulls-filled .rules .long
+same-length c = c .before .loop .inv .nullables-filled .rules .long
 
 same-length-2 : tie.Need-same-length-2 Inv-loop μ-loop
-same-length-2 c = c .before .loop .inv .firsts-filled .rules .long
+same-length-2 c = c .before .loop .inv .begins-filled .rules .long
 
 returns : tie.Need-returns Inv-loop μ-loop
 returns c =

@@ -1,6 +1,6 @@
 -- `machine::moves::shift` meets its contract: the tests refuse where the machine does, and the push is the machine's. Assumes nothing.
 use Prim.Native.Nat.{_+_, _*_}
-use mathlib.Core.Path.{refl, _∙_}
+use mathlib.Core.Path.{refl}
 use native.Mathlib.Omega.{arith}
 use Rattle.machine.specs.Moving.{told-on, told-refused}
 use Rattle.machine.specs.MovingLaws.{shift-rows, shift-symbols, room-left}
@@ -24,11 +24,11 @@ low : (c : tie.Start) → ShiftLow (c .pre .1 .0) (c .args .starts .now) (c .arg
 low c = let s = c .pre .1 in shift-low (s .6) (s .7) (s .8)
 
 returns : tie.Need-returns
-returns c = λ b ks k rules definitions inherited B H X. told-refused (λ f. shift-rows B (H .config-in) (X .action-is) (c .if1 .taken)) refl
+returns c = λ b ks k rules definitions inherited B H X. told-refused (shift-rows B (H .config-in) (X .action-is) (c .if1 .taken)) refl
 
 returns-2 : tie.Need-returns-2
 returns-2 c = λ b ks k rules definitions inherited B H X.
-    told-refused (λ f. shift-symbols B (H .config-in) (X .action-is) (c .before .before .if1 .left) (c .if2 .taken ∙ f refl)) refl
+    told-refused (shift-symbols B (H .config-in) (X .action-is) (c .before .before .if1 .left) (c .if2 .taken)) refl
 
 mul-target : tie.Need-mul-target
 mul-target c = omega (arith, low (start c) .state-low)
@@ -54,7 +54,7 @@ push-token-requires c κs =
     let l = low s in
     let (b, ks, k, rules, definitions, inherited, B, H, X) = s .pre .1 in
     let rows = room-left B (H .config-in) (t .before .before .if1 .left) in
-    (s .pre .0, (omega (arith, l .depth-low, t .if2 .left), rows, l .position-low, l .kind-low))
+    (s .pre .0, (omega (arith, l .depth-low, t .if2 .left, s .pre .0 .starts-long), rows, l .position-low, l .kind-low))
 
 same-length : tie.Need-same-length
 same-length c = pushed c .push-token .kept .1 .1 .1 .1 .0

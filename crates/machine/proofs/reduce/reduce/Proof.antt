@@ -26,7 +26,7 @@ low : (c : tie.Start) → ReduceLow (c .pre .1 .0) (c .args .starts .now) (c .ar
 low c = let s = c .pre .1 in reduce-low (s .3) (s .5) (s .6)
 
 returns : tie.Need-returns
-returns c = λ b ks k B F H X. told-refused (λ f. reduce-rows B _ (H .config-in) (X .action-is) (c .if1 .taken)) refl
+returns c = λ b ks k B F H X. told-refused (reduce-rows B _ (H .config-in) (X .action-is) (c .if1 .taken)) refl
 
 mul-word : tie.Need-mul-word
 mul-word c = omega (arith, low (start c) .rule-low)
@@ -43,7 +43,7 @@ sub-below c = let p = start (c .before .before) .pre .1 in reduce-deep (p .3) (p
 returns-2 : tie.Need-returns-2
 returns-2 c = λ b ks k B F H X.
     let w = c .before .before in
-    told-refused (λ f. reduce-full B H X (w .word .ensures) (w .before .if1 .left) (c .if2 .taken) (f refl)) refl
+    told-refused (reduce-full B H X (w .word .ensures) (start (w .before) .pre .0 .0 .starts-long) (w .before .if1 .left) (c .if2 .taken)) refl
 
 put-left-requires : tie.Need-put-left-requires
 put-left-requires c κs =
@@ -51,7 +51,7 @@ put-left-requires c κs =
     let w = sized t in
     let s = start (w .before) in
     let (b, ks, k, B, F, H, X) = s .pre .1 in
-    (s .pre .0, (b, ks, k, reduce-left B H X (w .word .ensures) F (w .before .if1 .left) (t .if2 .left)))
+    (s .pre .0, (b, ks, k, reduce-left B H X (w .word .ensures) F (start (w .before) .pre .0 .0 .starts-long) (w .before .if1 .left) (t .if2 .left)))
 
 same-length : tie.Need-same-length
 same-length c = pushed c .put-left .kept .1 .1 .1 .1 .1 .1 .1 .1 .0
@@ -70,7 +70,7 @@ returns-3 c = λ b ks k B F H X.
     let p = pushed c in
     let t = tests-at p in
     let w = sized t in
-    told-on (p .put-left .ensures b ks k (reduce-left B H X (w .word .ensures) F (w .before .if1 .left) (t .if2 .left)))
+    told-on (p .put-left .ensures b ks k (reduce-left B H X (w .word .ensures) F (start (w .before) .pre .0 .0 .starts-long) (w .before .if1 .left) (t .if2 .left)))
 
 pub reduce-spec : {M : Type 1} → statement M
 reduce-spec =

@@ -16,15 +16,15 @@ use Rattle.machine.proofs.run.run.Statement.{statement}
 use Rattle.machine.proofs.run.run.Tie as tie
 
 abbrev Inv-loop : tie.InvT-loop
-Inv-loop rules definitions lines owned kernels heads closures nulls reaches places firsts down up table actions tokens =
+Inv-loop rules definitions lines owned kernels bounds closures nullables reaches places spans down up table actions tokens =
     λ slots₀ lists₀ states₀ inherited₀ synthesized₀ starts₀ rows₀ top₀ slots lists states inherited synthesized starts rows top.
-    RoomsLeft (length slots₀) (length lists₀) (length starts₀) states inherited synthesized starts rows slots lists
+    RoomsLeft (length slots₀) (length lists₀) states inherited synthesized starts rows slots lists
     × ((b : Book) (ks : List Token)
-    → RunIn b ks rules definitions lines owned kernels heads closures nulls reaches places firsts down up table actions tokens → Message b ks
+    → RunIn b ks rules definitions lines owned kernels bounds closures nullables reaches places spans down up table actions tokens → Message b ks
     → PlansIn b slots₀ lists₀ → Underway b ks states inherited synthesized starts rows slots lists top)
 
 abbrev μ-loop : tie.MeasureT-loop
-μ-loop rules definitions lines owned kernels heads closures nulls reaches places firsts down up table actions tokens =
+μ-loop rules definitions lines owned kernels bounds closures nullables reaches places spans down up table actions tokens =
     λ slots₀ lists₀ states₀ inherited₀ synthesized₀ starts₀ rows₀ top₀ slots lists states inherited synthesized starts rows top. 512 - top .rows
 
 -- from each place back to the one before
@@ -60,9 +60,9 @@ loop-holds : tie.Need-loop-holds Inv-loop μ-loop
 loop-holds c =
     let s = entry (c .before) in
     let (b, ks, R, M, P) = s .pre .1 in
-    let lent : RoomsLeft (length (s .args .slots .now)) (length (s .args .lists .now)) (length (s .args .starts .now)) (s .args .states .now)
+    let lent : RoomsLeft (length (s .args .slots .now)) (length (s .args .lists .now)) (s .args .states .now)
     (s .args .inherited .now) (s .args .synthesized .now) (s .args .starts .now) (s .args .rows .now) (s .args .slots .now) (s .args .lists .now) =
-    record { rooms = s .pre .0; starts-long = refl; slots-long = refl; lists-long = refl } in
+    record { rooms = s .pre .0; slots-long = refl; lists-long = refl } in
     let e = c .empty .ensures in (
       rooms-kept lent (length-set (s .args .states .now) 0 0) refl refl refl refl refl refl,
       λ b ks R M P. underway-start (s .args .states .now) P (omega (arith, s .pre .0 .stacks .states-long)) (e .0) (e .1) (e .2),
@@ -122,7 +122,8 @@ same-length-3 c =
       arith,
       a .step .kept .1 .1 .1 .1 .1 .1 .1 .1 .1 .1 .1 .1 .1 .1 .1 .1 .1 .1 .1 .0,
       l .loop .inv .0 .rooms .stacks .states-long,
-      l .loop .inv .0 .starts-long,
+      l .loop .inv .0 .rooms .stacks .starts-long,
+      start l .pre .0 .stacks .starts-long,
       start l .pre .0 .stacks .states-long,
     )
 
@@ -134,7 +135,8 @@ same-length-4 c =
       arith,
       a .step .kept .1 .1 .1 .1 .1 .1 .1 .1 .1 .1 .1 .1 .1 .1 .1 .1 .1 .1 .1 .1 .0,
       l .loop .inv .0 .rooms .cells-long,
-      l .loop .inv .0 .starts-long,
+      l .loop .inv .0 .rooms .stacks .starts-long,
+      start l .pre .0 .stacks .starts-long,
       start l .pre .0 .cells-long,
     )
 
@@ -146,7 +148,8 @@ same-length-5 c =
       arith,
       a .step .kept .1 .1 .1 .1 .1 .1 .1 .1 .1 .1 .1 .1 .1 .1 .1 .1 .1 .1 .1 .1 .1 .0,
       l .loop .inv .0 .rooms .stacks .synthesized-long,
-      l .loop .inv .0 .starts-long,
+      l .loop .inv .0 .rooms .stacks .starts-long,
+      start l .pre .0 .stacks .starts-long,
       start l .pre .0 .stacks .synthesized-long,
     )
 
@@ -154,7 +157,8 @@ same-length-6 : tie.Need-same-length-6 Inv-loop μ-loop
 same-length-6 c =
     let a = stopped-at c in
     let l = loop-at a in
-    a .step .kept .1 .1 .1 .1 .1 .1 .1 .1 .1 .1 .1 .1 .1 .1 .1 .1 .1 .1 .1 .1 .1 .1 .0 ∙ l .loop .inv .0 .starts-long
+    a .step .kept .1 .1 .1 .1 .1 .1 .1 .1 .1 .1 .1 .1 .1 .1 .1 .1 .1 .1 .1 .1 .1 .1 .0
+    ∙ l .loop .inv .0 .rooms .stacks .starts-long ∙ sym (start l .pre .0 .stacks .starts-long)
 
 same-length-7 : tie.Need-same-length-7 Inv-loop μ-loop
 same-length-7 c =
@@ -164,11 +168,10 @@ same-length-7 c =
     ∙ l .loop .inv .0 .rooms .stacks .rows-long ∙ sym (start l .pre .0 .stacks .rows-long)
 
 returns : tie.Need-returns Inv-loop μ-loop
-returns c = λ b ks R M P final.
+returns c = λ b ks R M P.
     let a = stopped-at c in
     let l = loop-at a in
-    let same = a .step .kept .1 .1 .1 .1 .1 .1 .1 .1 .1 .1 .1 .1 .1 .1 .1 .1 .1 .1 .1 .1 .1 .1 .0 ∙ l .loop .inv .0 .starts-long in
-    step-answers (a .step .ensures b ks R M (l .loop .inv .1 b ks R M P)) (c .before .moved2 .given .1) (λ e. same ∙ final e)
+    step-answers (a .step .ensures b ks R M (l .loop .inv .1 b ks R M P)) (c .before .moved2 .given .1)
 
 pub run-spec : {M : Type 1} → statement M
 run-spec =

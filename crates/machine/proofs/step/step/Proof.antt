@@ -1,45 +1,36 @@
--- `machine::step::step` meets its contract: a cell that the move reads is the machine's, and the move is told as it is made. Assumes nothing.
-use mathlib.Core.Path.{_≡_, refl, sym, ap, _∙_}
-use mathlib.Core.Logic.{⊎-elim}
+-- `machine::step::step` meets its contract: none is due, or the cell is set and the move that is due is told as it is made. Assumes nothing.
+use mathlib.Core.Path.{_≡_, refl, _∙_}
 use native.Mathlib.Omega.{arith}
-use lib.ListN.{length}
 use borrow.Author.Needs.{needs}
-use Rattle.machine.specs.RunningLaws.{run-low, run-moves, run-facing, run-asked, run-names, run-sized, run-set, run-unread, run-stepped}
+use Rattle.machine.specs.RunningLaws.{run-low, run-moves, run-facing, run-asked, run-set, run-none, run-due, run-stepped}
 use Rattle.machine.proofs.step.step.Statement.{statement}
 use Rattle.machine.proofs.step.step.Tie as tie
 
 -- from each place back to the one before
 
 abbrev start : tie.After-struct-known → tie.Start
-start c =
-    c .before .before .before .before .before .before .before .before .before .before .before
-    .before .before .before .before .before .before .before .before .before .before .before .before
+start c = c .before .before .before .before .before .before .before .before .before .before .before .before .before .before .before .before .before .before .before .before .before .before .before
 
 abbrev entry : tie.After-number → tie.Start
 entry c = start (c .before .before .before)
 
-abbrev number-at : tie.Joined1 → tie.After-number
-number-at c = c .before .before .before
+abbrev number-at : tie.After-action-of → tie.After-number
+number-at c = c .before .before
+
+abbrev action-at : tie.After-known-told → tie.After-action-of
+action-at c = c .before .before .before
+
+abbrev due-at : tie.After-set-top → tie.After-known-told
+due-at c = c .before .before .before .before .before
+
+abbrev set-at : tie.After-number2 → tie.After-set-top
+set-at c = c .before .before .before .before .before .before .before
 
 abbrev advanced : tie.After-slice-known14 → tie.After-advance
 advanced c = c .before .before .before .before .before .before .before .before
 
 abbrev value-at : tie.After-advance → tie.After-number2
 value-at c = c .before .before .before .before .before .before
-
-abbrev joined : tie.After-slice-known14 → tie.Joined1
-joined c = value-at (advanced c) .before
-
--- no length is changed where the cell may be set
-
-slots-kept : (c : tie.Joined1) → length (c .if1 .slots) ≡ length (entry (number-at c) .args .slots .now)
-slots-kept c = ⊎-elim (λ w. ap length (w .12) ∙ w .5 .kept .1 .1 .1 .1 .1 .1 .1 .1 .1 .1 .1 .1 .1 .0) (λ w. ap length (w .1)) (c .if1 .came)
-
-lists-kept : (c : tie.Joined1) → length (c .if1 .lists) ≡ length (entry (number-at c) .args .lists .now)
-lists-kept c = ⊎-elim (λ w. ap length (w .13) ∙ w .5 .kept .1 .1 .1 .1 .1 .1 .1 .1 .1 .1 .1 .1 .1 .1 .0) (λ w. ap length (w .2)) (c .if1 .came)
-
-inherited-kept : (c : tie.Joined1) → length (c .if1 .inherited) ≡ length (entry (number-at c) .args .inherited .now)
-inherited-kept c = ⊎-elim (λ w. ap length (w .14) ∙ w .5 .kept .1 .1 .1 .1 .1 .1 .1 .1 .1 .1 .1 .1 .1 .1 .1 .0) (λ w. ap length (w .3)) (c .if1 .came)
 
 mul-at : tie.Need-mul-at
 mul-at c = let (b, ks, R, M, U) = start c .pre .1 in omega (arith, run-low R M U .position-low)
@@ -53,36 +44,48 @@ word-requires c κs =
 number-requires : tie.Need-number-requires
 number-requires c κs = search needs
 
-mul-code : tie.Need-mul-code
-mul-code c =
+mul-action-of : tie.Need-mul-action-of
+mul-action-of c =
     let (b, ks, R, M, U) = entry c .pre .1 in
     omega (arith, run-facing R M U (c .before .word .ensures) (c .number .ensures) refl .state-low)
 
-cast-code : tie.Need-cast-code
-cast-code c = search needs
+cast-action-of : tie.Need-cast-action-of
+cast-action-of c = search needs
 
-add-code : tie.Need-add-code
-add-code c =
+add-action-of : tie.Need-add-action-of
+add-action-of c =
     let (b, ks, R, M, U) = entry c .pre .1 in
     let F = run-facing R M U (c .before .word .ensures) (c .number .ensures) refl in
     omega (arith, F .state-low, F .kind-low)
 
-shared-slice-read-code : tie.Need-shared-slice-read-code
-shared-slice-read-code c =
+shared-slice-read-action-of : tie.Need-shared-slice-read-action-of
+shared-slice-read-action-of c =
     let n = c .before in
     let (b, ks, R, M, U) = entry n .pre .1 in
     let F = run-facing R M U (n .before .word .ensures) (n .number .ensures) refl in
     omega (arith, F .state-there, F .kind-low, R .actions-in .long)
 
-reads-cell-requires : tie.Need-reads-cell-requires
-reads-cell-requires c κs =
-    let n = c .before in
-    let (b, ks, R, M, U) = entry n .pre .1 in
-    run-sized R M U (n .before .word .ensures) (n .number .ensures) refl
+action-of-requires : tie.Need-action-of-requires
+action-of-requires c κs = search needs
+
+enum-known-action : tie.Need-enum-known-action
+enum-known-action c = search needs
+
+enum-told : tie.Need-enum-told
+enum-told c = search needs
+
+same-length : tie.Need-same-length
+same-length c = search needs
+
+returns : tie.Need-returns
+returns c = λ b ks R M U.
+    let a = c .before .before in
+    let n = number-at a in
+    run-none R M U (n .before .word .ensures) (n .number .ensures) (a .action-of .ensures) (c .enum-told .given .1) refl refl
 
 set-top-requires : tie.Need-set-top-requires
 set-top-requires c κs =
-    let n = c .before .before .before .before .before .before .before in
+    let n = number-at (action-at (c .before .before .before .before)) in
     let L = entry n .pre .0 in
     let (b, ks, R, M, U) = entry n .pre .1 in
     let s = n .before .word .ensures in
@@ -99,7 +102,7 @@ set-top-requires c κs =
 
 add-number : tie.Need-add-number
 add-number c =
-    let (b, ks, R, M, U) = entry (number-at c) .pre .1 in
+    let (b, ks, R, M, U) = entry (number-at (action-at (due-at (c .before .before .before .before .before .before)))) .pre .1 in
     omega (arith, run-low R M U .position-low)
 
 number-requires-2 : tie.Need-number-requires-2
@@ -108,52 +111,59 @@ number-requires-2 c κs = search needs
 advance-requires : tie.Need-advance-requires
 advance-requires c κs =
     let v = c .before .before .before .before .before in
-    let j = v .before in
-    let n = number-at j in
+    let t = set-at v in
+    let d = due-at t in
+    let a = action-at d in
+    let n = number-at a in
     let L = entry n .pre .0 in
     let (b, ks, R, M, U) = entry n .pre .1 in
     let s = n .before .word .ensures in
     let k = n .number .ensures in
-    let Q =
-    ⊎-elim (λ w. run-set R M U s k (w .5 .ensures) (w .12) (w .13) (w .14))
-    (λ w. run-unread R M U s k refl (sym (j .before .reads-cell .ensures) ∙ w .0 .left) (w .1) (w .2) (w .3)) (j .if1 .came) in (
-      (L .stacks, inherited-kept j ∙ L .cells-long),
-      (b, ks, U .at, run-moves R M U, Q .poised, run-facing R M U s k (v .number2 .ensures), run-names R M U s k refl),
+    let Q = run-set R M U s k (t .set-top .ensures) in (
+      (L .stacks, t .set-top .kept .1 .1 .1 .1 .1 .1 .1 .1 .1 .1 .1 .1 .1 .1 .1 .0 ∙ L .cells-long),
+      (
+        b,
+        ks,
+        U .at,
+        run-moves R M U,
+        Q .poised,
+        run-facing R M U s k (v .number2 .ensures),
+        run-due R M U s k (a .action-of .ensures) (d .before .action .given .1) (v .number2 .ensures) Q,
+      ),
     )
 
-same-length : tie.Need-same-length
-same-length c = slots-kept (joined c)
-
 same-length-2 : tie.Need-same-length-2
-same-length-2 c = lists-kept (joined c)
+same-length-2 c = set-at (value-at (advanced c)) .set-top .kept .1 .1 .1 .1 .1 .1 .1 .1 .1 .1 .1 .1 .1 .0
 
 same-length-3 : tie.Need-same-length-3
-same-length-3 c = advanced c .advance .kept .1 .1 .1 .1 .1 .1 .1 .1 .1 .1 .1 .0
+same-length-3 c = set-at (value-at (advanced c)) .set-top .kept .1 .1 .1 .1 .1 .1 .1 .1 .1 .1 .1 .1 .1 .1 .0
 
 same-length-4 : tie.Need-same-length-4
-same-length-4 c = inherited-kept (joined c)
+same-length-4 c = advanced c .advance .kept .1 .1 .1 .1 .1 .1 .1 .1 .1 .1 .1 .0
 
 same-length-5 : tie.Need-same-length-5
-same-length-5 c = advanced c .advance .kept .1 .1 .1 .1 .1 .1 .1 .1 .1 .1 .1 .1 .1 .0
+same-length-5 c = set-at (value-at (advanced c)) .set-top .kept .1 .1 .1 .1 .1 .1 .1 .1 .1 .1 .1 .1 .1 .1 .1 .0
 
 same-length-6 : tie.Need-same-length-6
-same-length-6 c = advanced c .advance .kept .1 .1 .1 .1 .1 .1 .1 .1 .1 .1 .1 .1 .1 .1 .0
+same-length-6 c = advanced c .advance .kept .1 .1 .1 .1 .1 .1 .1 .1 .1 .1 .1 .1 .1 .0
 
 same-length-7 : tie.Need-same-length-7
-same-length-7 c = advanced c .advance .kept .1 .1 .1 .1 .1 .1 .1 .1 .1 .1 .1 .1 .1 .1 .1 .0
+same-length-7 c = advanced c .advance .kept .1 .1 .1 .1 .1 .1 .1 .1 .1 .1 .1 .1 .1 .1 .0
 
-returns : tie.Need-returns
-returns c = λ b ks R M U.
-    let a = advanced c in
-    let v = value-at a in
-    let j = v .before in
-    let n = number-at j in
+same-length-8 : tie.Need-same-length-8
+same-length-8 c = advanced c .advance .kept .1 .1 .1 .1 .1 .1 .1 .1 .1 .1 .1 .1 .1 .1 .1 .0
+
+returns-2 : tie.Need-returns-2
+returns-2 c = λ b ks R M U.
+    let v = value-at (advanced c) in
+    let t = set-at v in
+    let d = due-at t in
+    let a = action-at d in
+    let n = number-at a in
     let s = n .before .word .ensures in
     let k = n .number .ensures in
-    let Q =
-    ⊎-elim (λ w. run-set R M U s k (w .5 .ensures) (w .12) (w .13) (w .14))
-    (λ w. run-unread R M U s k refl (sym (j .before .reads-cell .ensures) ∙ w .0 .left) (w .1) (w .2) (w .3)) (j .if1 .came) in
-    run-stepped R M U s k refl (v .number2 .ensures) Q (a .advance .ensures)
+    run-stepped R M U s k (a .action-of .ensures) (d .before .action .given .1) (v .number2 .ensures) (run-set R M U s k (t .set-top .ensures))
+    (advanced c .advance .ensures)
 
 pub step-spec : {M : Type 1} → statement M
 step-spec =
@@ -162,20 +172,24 @@ step-spec =
     mul-at
     word-requires
     number-requires
-    mul-code
-    cast-code
-    add-code
-    shared-slice-read-code
-    reads-cell-requires
+    mul-action-of
+    cast-action-of
+    add-action-of
+    shared-slice-read-action-of
+    action-of-requires
+    enum-known-action
+    enum-told
+    same-length
+    returns
     set-top-requires
     add-number
     number-requires-2
     advance-requires
-    same-length
     same-length-2
     same-length-3
     same-length-4
     same-length-5
     same-length-6
     same-length-7
-    returns)
+    same-length-8
+    returns-2)

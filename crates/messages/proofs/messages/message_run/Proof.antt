@@ -2,10 +2,9 @@
 -- places of the definitions. Assumes nothing.
 use mathlib.Core.Path.{refl}
 use native.Mathlib.Omega.{arith}
-use Rattle.grammar.specs.Limits.{MAX-STACK}
 use Rattle.compiler.specs.Compiling.{asked-formulas}
 use Rattle.plans.specs.PlansLaws.{none-listed}
-use Rattle.messages.specs.Zeros.{zeros, no-words}
+use Rattle.messages.specs.Zeros.{no-words}
 use Rattle.messages.specs.Sides.{asked-sides}
 use Rattle.messages.specs.Driving.{places-asked, places-room, run-in, tokens-of, plans-of, run-room}
 use borrow.Author.Needs.{needs}
@@ -122,7 +121,7 @@ returns c = λ b t m. let k = c .before .before .before .before .before .before 
     let sides = o .fill-sides .ensures b (asked-sides (t .ready)) in
     let places = p .mark-places .ensures b _ _ (places-asked t sides) (asked-formulas (t .ready) .definitions-counted) (places-room t) (no-words 608) in
     k .run .ensures b (m .list) (run-in t sides places (m .tokens-are)) (tokens-of t m)
-    (plans-of t _ long (f .fill .ensures) (none-listed 255 (omega arith) (omega arith))) (λ e. zeros MAX-STACK)
+    (plans-of t _ long (f .fill .ensures) (none-listed 255 (omega arith) (omega arith)))
 
 pub message-run-spec : {M : Type 1} → statement M
 message-run-spec =

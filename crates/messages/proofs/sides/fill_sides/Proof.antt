@@ -11,7 +11,7 @@ use Rattle.messages.proofs.sides.fill_sides.Tie as tie
 abbrev owned-start : tie.After-owned → tie.Start
 owned-start c = c .before .before .before .before .before .before .before .before .before .before
 
-abbrev first-start : tie.After-first-lines-arg → tie.Start
+abbrev first-start : tie.After-fill-spans-arg → tie.Start
 first-start c = owned-start (c .before .before .before .before .before)
 
 abbrev down-start : tie.After-fill-lists-arg → tie.Start
@@ -36,8 +36,8 @@ add-to c = let a = owned-start (c .before .before .before .before) .pre .0 .1 .l
 cast-to : tie.Need-cast-to
 cast-to c = search needs
 
-first-lines-requires : tie.Need-first-lines-requires
-first-lines-requires c κs = let s = first-start c in
+fill-spans-requires : tie.Need-fill-spans-requires
+fill-spans-requires c κs = let s = first-start c in
     ((s .pre .0 .0, s .pre .0 .1 .lines-in), s .pre .1 .1)
 
 cast-fill-lists : tie.Need-cast-fill-lists
@@ -72,7 +72,7 @@ returns c = λ b a. let u = c .before .before in
     let f = d .before .before .before .before .before in
     let o = f .before .before .before .before .before .before in
     sides-in a (o .owned .ensures (b .inheritedOwners) (a .inherited-in .owners-in) (a .inherited-in .counted)) (record {
-      firsts-in = f .first-lines .ensures b (a .lines-in);
+      spans-in = f .fill-spans .ensures b (a .lines-in);
       down-in = d .fill-lists .ensures MAX-INHERITED (b .inheritedOwners) (a .inherited-in);
       up-in = u .fill-lists2 .ensures MAX-SYNTHESIZED (b .synthesizedOwners) (a .synthesized-in);
     })
@@ -86,7 +86,7 @@ fill-sides-spec =
     cast-from
     add-to
     cast-to
-    first-lines-requires
+    fill-spans-requires
     cast-fill-lists
     fill-lists-requires
     cast-fill-lists-2

@@ -28,7 +28,7 @@ word-requires : tie.Need-word-requires
 word-requires c κs = search needs
 
 returns : tie.Need-returns
-returns c = λ b F R firsts owned masks L C H l N T M.
+returns c = λ b F R begins owned masks L C H l N T M.
     let w = c .before in
     fronts-less b F R _ M (omega (arith, l, C .premises .definitions-limit))
     (no-bit (entry w .args .terminal)
@@ -45,20 +45,20 @@ front-set-requires c κs =
     let s = entry (c .before .before) in
     let (b, owned, masks, L, C, H, l, room) = s .pre .0 in
     let there : c .word2 .result < length (b .rules) = omega (arith, c .word2 .ensures, rule-there C l) in
-    ((b .rules, L, H, there), s .pre .1, omega (arith, room .nulls-long), omega (arith, room .reaches-long))
+    ((b .rules, L, H, there), s .pre .1, omega (arith, room .nullables-long), omega (arith, room .reaches-long))
 
 has-requires : tie.Need-has-requires
 has-requires c κs = search needs
 
 returns-2 : tie.Need-returns-2
-returns-2 c = λ b F R firsts owned masks L C H l N T M.
+returns-2 c = λ b F R begins owned masks L C H l N T M.
     let h = c .before in
     let f = h .before in
     let r = f .before in
     let w = r .before .before in
     let there : r .word2 .result < length (b .rules) = omega (arith, r .word2 .ensures, rule-there C l) in
     let d = entry w .args .line in
-    let is : f .front-set .result ≡ frontWord (b .rules) F R L (lineAt b d .rule) (dotOf (lineAt b d)) = f .front-set .ensures (b .rules) F R firsts L H there N T
+    let is : f .front-set .result ≡ frontWord (b .rules) F R L (lineAt b d .rule) (dotOf (lineAt b d)) = f .front-set .ensures (b .rules) F R begins L H there N T
     ∙ front-first (b .rules) F R L (r .word2 .ensures ∙ rule-word C l) (omega (arith, r .before .if1 .left, w .word .ensures, position-word C l)) in
     fronts-less b F R _ M (omega (arith, l, C .premises .definitions-limit))
     (ap (λ x. bit x (entry w .args .terminal)) (sym is) ∙ sym (h .has .ensures) ∙ not-true (h .has .result) (c .if2 .taken))
@@ -73,7 +73,7 @@ same-length : tie.Need-same-length
 same-length c = search needs
 
 returns-3 : tie.Need-returns-3
-returns-3 c = λ b F R firsts owned masks L C H l N T M.
+returns-3 c = λ b F R begins owned masks L C H l N T M.
     let v = c .before .before in
     let e = v .before .before in
     let h = e .before in
@@ -82,7 +82,7 @@ returns-3 c = λ b F R firsts owned masks L C H l N T M.
     let w = r .before .before in
     let there : r .word2 .result < length (b .rules) = omega (arith, r .word2 .ensures, rule-there C l) in
     let d = entry w .args .line in
-    let is : f .front-set .result ≡ frontWord (b .rules) F R L (lineAt b d .rule) (dotOf (lineAt b d)) = f .front-set .ensures (b .rules) F R firsts L H there N T
+    let is : f .front-set .result ≡ frontWord (b .rules) F R L (lineAt b d .rule) (dotOf (lineAt b d)) = f .front-set .ensures (b .rules) F R begins L H there N T
     ∙ front-first (b .rules) F R L (r .word2 .ensures ∙ rule-word C l) (omega (arith, r .before .if1 .left, w .word .ensures, position-word C l)) in
     fronts-more b F R _ M (omega (arith, l, C .premises .definitions-limit)) (v .add .ensures)
     (ap (λ x. bit x (entry w .args .terminal)) (sym is) ∙ sym (h .has .ensures) ∙ not-false (h .has .result) (e .if2 .left))

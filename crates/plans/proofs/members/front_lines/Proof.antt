@@ -17,14 +17,14 @@ use Rattle.plans.proofs.members.front_lines.Statement.{statement}
 use Rattle.plans.proofs.members.front_lines.Tie as tie
 
 abbrev Inv-loop : tie.InvT-loop
-Inv-loop definitions lines rules closures first nulls reaches places terminal found₀ i₀ found i =
+Inv-loop definitions lines rules closures first nullables reaches places terminal found₀ i₀ found i =
     (i ≤ lines) × (length found ≡ length found₀)
-    × ((b : Book) (F : Sets) (R firsts owned masks L : List ℕ) → CheckHeld b definitions rules owned masks → LooksIn (b .rules) rules L closures first
-    → lines ≡ grammar.definitions b → SuffixesIn (b .rules) F nulls firsts → ReachesIn (b .rules) F R reaches
+    × ((b : Book) (F : Sets) (R begins owned masks L : List ℕ) → CheckHeld b definitions rules owned masks → LooksIn (b .rules) rules L closures first
+    → lines ≡ grammar.definitions b → SuffixesIn (b .rules) F nullables begins → ReachesIn (b .rules) F R reaches
     → FrontsFound b F R terminal L 0 found₀ → FrontsFound b F R terminal L i found)
 
 abbrev μ-loop : tie.MeasureT-loop
-μ-loop definitions lines rules closures first nulls reaches places terminal found₀ i₀ found i = lines - i
+μ-loop definitions lines rules closures first nullables reaches places terminal found₀ i₀ found i = lines - i
 
 front-free-requires : tie.Need-front-free-requires Inv-loop μ-loop
 front-free-requires c κs =
@@ -33,13 +33,13 @@ front-free-requires c κs =
     (g .1, omega (arith, P .long))
 
 returns : tie.Need-returns Inv-loop μ-loop
-returns c = λ b F R firsts owned masks L C H e N T P M.
+returns c = λ b F R begins owned masks L C H e N T P M.
     let v = c .before in
     let k = v .before .before .before .before .before in
     fronts-free b F R _ C H P (v .front-free .ensures (c .if1 .taken)) (λ i. k .shared-slice-known3 .given i .fits) e M
 
 loop-holds : tie.Need-loop-holds Inv-loop μ-loop
-loop-holds c = (omega arith, refl, λ b F R firsts owned masks L C H e N T M. M)
+loop-holds c = (omega arith, refl, λ b F R begins owned masks L C H e N T M. M)
 
 front-line-requires : tie.Need-front-line-requires Inv-loop μ-loop
 front-line-requires c κs =
@@ -62,19 +62,19 @@ loop-again c =
     let at = t .before .loop in (
       omega (arith, t .loop-test .taken),
       search needs,
-      λ b F R firsts owned masks L C H e N T M.
-          v .front-line .ensures b F R firsts owned masks L C H (omega (arith, t .loop-test .taken, e)) N T
-          (at .inv .2 b F R firsts owned masks L C H e N T M),
+      λ b F R begins owned masks L C H e N T M.
+          v .front-line .ensures b F R begins owned masks L C H (omega (arith, t .loop-test .taken, e)) N T
+          (at .inv .2 b F R begins owned masks L C H e N T M),
     )
 
 same-length : tie.Need-same-length Inv-loop μ-loop
 same-length c = c .before .loop .inv .1
 
 returns-2 : tie.Need-returns-2 Inv-loop μ-loop
-returns-2 c = λ b F R firsts owned masks L C H e N T P M.
+returns-2 c = λ b F R begins owned masks L C H e N T P M.
     let at = c .before .loop in
     let end : at .i ≡ c .before .before .before .before .before .before .before .before .before .before .before .args .lines = omega (arith, at .inv .0, c .loop-test .left) in
-    rw end at (at .inv .2 b F R firsts owned masks L C H e N T M)
+    rw end at (at .inv .2 b F R begins owned masks L C H e N T M)
 
 pub front-lines-spec : {M : Type 1} → statement M
 front-lines-spec =

@@ -68,7 +68,7 @@ word-requires-3 c κs =
     omega (arith, within c, P .long)
 
 returns : tie.Need-returns
-returns c = λ b F R firsts rules owned masks items ordered C e L h N T P M.
+returns c = λ b F R begins rules owned masks items ordered C e L h N T P M.
     let f = c .before in
     let w = f .before in
     line-none L (entry w .args .i) h (w .before .word .ensures) (w .word2 .ensures) P (f .word3 .ensures) M (c .if1 .taken)
@@ -90,13 +90,13 @@ reach-with-requires c κs =
     let w = c .before .before .before in
     let s = entry w in
     let (b, rules, owned, masks, C, e, L, h, room, P) = s .pre .0 in
-    (omega (arith, within w, room .nulls-long), omega (arith, within w, room .reaches-long))
+    (omega (arith, within w, room .nullables-long), omega (arith, within w, room .reaches-long))
 
 has-requires : tie.Need-has-requires
 has-requires c κs = search needs
 
 returns-2 : tie.Need-returns-2
-returns-2 c = λ b F R firsts rules owned masks items ordered C e L h N T P M.
+returns-2 c = λ b F R begins rules owned masks items ordered C e L h N T P M.
     let v = c .before in
     let r = v .before in
     let f = r .before .before .before in
@@ -105,7 +105,7 @@ returns-2 c = λ b F R firsts rules owned masks items ordered C e L h N T P M.
     let rule = w .before .word .ensures in
     let dot = w .word2 .ensures in
     line-idle L i h rule dot P (f .word3 .ensures) M
-    (r .reach-with .ensures (b .rules) F R firsts N T (item-rule L i h rule dot) (item-dot L i h rule dot))
+    (r .reach-with .ensures (b .rules) F R begins N T (item-rule L i h rule dot) (item-dot L i h rule dot))
     (sym (v .has .ensures) ∙ not-true (v .has .result) (c .if2 .taken))
 
 mul-item-lines : tie.Need-mul-item-lines
@@ -131,7 +131,7 @@ same-length : tie.Need-same-length
 same-length c = search needs
 
 returns-3 : tie.Need-returns-3
-returns-3 c = λ b F R firsts rules owned masks items ordered C e L h N T P M.
+returns-3 c = λ b F R begins rules owned masks items ordered C e L h N T P M.
     let q = c .before .before in
     let y = q .before .before in
     let v = y .before in
@@ -143,7 +143,7 @@ returns-3 c = λ b F R firsts rules owned masks items ordered C e L h N T P M.
     let rule = w .before .word .ensures in
     let dot = w .word2 .ensures in
     line-found L i h rule dot P (f .word3 .ensures) M
-    (r .reach-with .ensures (b .rules) F R firsts N T (item-rule L i h rule dot) (item-dot L i h rule dot))
+    (r .reach-with .ensures (b .rules) F R begins N T (item-rule L i h rule dot) (item-dot L i h rule dot))
     ordered C e (x .if1 .left) (sym (v .has .ensures) ∙ not-false (v .has .result) (y .if2 .left)) (q .item-lines .ensures b rules owned masks C e)
 
 pub kernel-line-spec : {M : Type 1} → statement M

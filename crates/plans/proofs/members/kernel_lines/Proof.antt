@@ -21,15 +21,15 @@ use Rattle.plans.proofs.members.kernel_lines.Statement.{statement}
 use Rattle.plans.proofs.members.kernel_lines.Tie as tie
 
 abbrev Inv-loop : tie.InvT-loop
-Inv-loop definitions lines kernels from to nulls reaches places terminal found₀ i₀ found i =
+Inv-loop definitions lines kernels from to nullables reaches places terminal found₀ i₀ found i =
     (from ≤ i) × (i ≤ to) × (length found ≡ length found₀)
-    × ((b : Book) (F : Sets) (R firsts rules owned masks : List ℕ) (items : List Core) → Ordered b → CheckHeld b definitions rules owned masks
-    → lines ≡ grammar.definitions b → ItemLinesIn b kernels → to ≤ length (b .kernels) → SuffixesIn (b .rules) F nulls firsts
+    × ((b : Book) (F : Sets) (R begins rules owned masks : List ℕ) (items : List Core) → Ordered b → CheckHeld b definitions rules owned masks
+    → lines ≡ grammar.definitions b → ItemLinesIn b kernels → to ≤ length (b .kernels) → SuffixesIn (b .rules) F nullables begins
     → ReachesIn (b .rules) F R reaches → PlacesIn b 0 places → FoundIn b F R terminal items found₀
     → FoundIn b F R terminal (ofKernels (slice i to (b .kernels)) ++ items) found)
 
 abbrev μ-loop : tie.MeasureT-loop
-μ-loop definitions lines kernels from to nulls reaches places terminal found₀ i₀ found i = i
+μ-loop definitions lines kernels from to nullables reaches places terminal found₀ i₀ found i = i
 
 loop-holds : tie.Need-loop-holds Inv-loop μ-loop
 loop-holds c =
@@ -37,7 +37,7 @@ loop-holds c =
       s .pre .1,
       omega arith,
       refl,
-      λ b F R firsts rules owned masks items ordered C e L l N T P M. found-start b F R _ (b .kernels) (s .args .to) M,
+      λ b F R begins rules owned masks items ordered C e L l N T P M. found-start b F R _ (b .kernels) (s .args .to) M,
     )
 
 sub-i : tie.Need-sub-i Inv-loop μ-loop
@@ -62,20 +62,20 @@ loop-again c =
       omega (arith, t .loop-test .taken),
       omega (arith, at .inv .1),
       search needs,
-      λ b F R firsts rules owned masks items ordered C e L l N T P M.
+      λ b F R begins rules owned masks items ordered C e L l N T P M.
           found-turn b F R _ (b .kernels) (at .i) (t .before .before .before .before .before .before .before .before .args .to) items (omega (arith, t .loop-test .taken)) (at .inv .1) l
-          (v .kernel-line .ensures b F R firsts rules owned masks _ ordered C e L (omega (arith, t .loop-test .taken, at .inv .1)) N T P
-          (at .inv .3 b F R firsts rules owned masks items ordered C e L l N T P M)),
+          (v .kernel-line .ensures b F R begins rules owned masks _ ordered C e L (omega (arith, t .loop-test .taken, at .inv .1)) N T P
+          (at .inv .3 b F R begins rules owned masks items ordered C e L l N T P M)),
     )
 
 same-length : tie.Need-same-length Inv-loop μ-loop
 same-length c = c .before .loop .inv .2
 
 returns : tie.Need-returns Inv-loop μ-loop
-returns c = λ b F R firsts rules owned masks items ordered C e L l N T P M.
+returns c = λ b F R begins rules owned masks items ordered C e L l N T P M.
     let at = c .before .loop in
     let end : at .i ≡ c .before .before .before .before .before .before .before .before .args .from = omega (arith, at .inv .0, c .loop-test .left) in
-    rw end at (at .inv .3 b F R firsts rules owned masks items ordered C e L l N T P M)
+    rw end at (at .inv .3 b F R begins rules owned masks items ordered C e L l N T P M)
 
 pub kernel-lines-spec : {M : Type 1} → statement M
 kernel-lines-spec =

@@ -97,7 +97,7 @@ returns c = λ b owned H l.
     let N = K .rests-in .suffixes-in in
     let T = K .rests-in .reaches-in in
     let C = plans-check H in
-    let looks = closureSets b F (s .args .state) in
+    let closures = closureSets b F (s .args .state) in
     let a = s .args .terminal in
     let first = w .before .word .ensures in
     let last = w .word2 .ensures in
@@ -106,9 +106,9 @@ returns c = λ b owned H l.
     let declared = OneFormula.declared held in
     found-lines limits declared (held .ordered)
     (found-state K l first last
-    (v .kernel-lines .ensures b F R (H .firsts) _ owned _ _ (held .ordered) C e (item-lines K) (range K l first last .within) N T (H .places-in)
+    (v .kernel-lines .ensures b F R (H .begins) _ owned _ _ (held .ordered) C e (item-lines K) (range K l first last .within) N T (H .places-in)
     (fronts-found b F R a C e
-    (m .front-lines .ensures b F R (H .firsts) owned _ looks C (state-looks K l) e N T (H .places-in) (none-found b F R a looks (s .pre .2))))))
+    (m .front-lines .ensures b F R (H .begins) owned _ closures C (state-looks K l) e N T (H .places-in) (none-found b F R a closures (s .pre .2))))))
     (listed-tell (held .ordered) limits declared (s .args .state) a)
 
 pub members-spec : {M : Type 1} → statement M

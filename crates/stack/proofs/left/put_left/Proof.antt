@@ -72,7 +72,7 @@ sub-below c = omega (arith, deep (c .before))
 cast-node-values : tie.Need-cast-node-values
 cast-node-values c =
     let p = start (c .before) .pre in
-    omega (arith, deep (c .before), left-ready (p .1 .3) .depth-low, p .0 .0 .starts-low)
+    omega (arith, deep (c .before), left-ready (p .1 .3) .depth-low, p .0 .0 .starts-long)
 
 slice-aggregate-node-values : tie.Need-slice-aggregate-node-values
 slice-aggregate-node-values c = search needs

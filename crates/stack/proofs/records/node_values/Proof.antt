@@ -5,19 +5,19 @@ use native.Mathlib.Omega.{arith}
 use lib.ListN.{length, getD, length-set}
 use Rattle.grammar.specs.Limits.{MAX-OWNED}
 use Rattle.grammar.specs.Data.Book.{Book}
-use Rattle.stack.specs.Firsts.{lineCount}
+use Rattle.stack.specs.Spans.{lineCount}
 use Rattle.stack.specs.LeftLines.{line-in, lines-few, LeftBefore, left-none, left-turn, left-end}
 use Rattle.stack.specs.NodeValues.{NodeAsked, LineOf, rule-lines}
 use Rattle.stack.proofs.records.node_values.Statement.{statement}
 use Rattle.stack.proofs.records.node_values.Tie as tie
 
 abbrev Inv-loop : tie.InvT-loop
-Inv-loop definitions firsts rule size height inherited synthesized values₀ first count i₀ values i =
-    (i ≤ lineCount firsts rule) × (length values ≡ MAX-OWNED)
-    × ((b : Book) → NodeAsked b definitions firsts rule size → LeftBefore b rule (height - size) inherited synthesized definitions firsts values i)
+Inv-loop definitions spans rule size height inherited synthesized values₀ first count i₀ values i =
+    (i ≤ lineCount spans rule) × (length values ≡ MAX-OWNED)
+    × ((b : Book) → NodeAsked b definitions spans rule size → LeftBefore b rule (height - size) inherited synthesized definitions spans values i)
 
 abbrev μ-loop : tie.MeasureT-loop
-μ-loop definitions firsts rule size height inherited synthesized values₀ first count i₀ values i = count - i
+μ-loop definitions spans rule size height inherited synthesized values₀ first count i₀ values i = count - i
 
 abbrev start : tie.After-word2 Inv-loop μ-loop → tie.Start Inv-loop μ-loop
 start c = c .before .before .before .before .before .before .before
@@ -30,13 +30,13 @@ module _ (c : tie.In-loop Inv-loop μ-loop) where
   abbrev s : tie.Start Inv-loop μ-loop
   s = start words
 
-  turn : c .before .loop .i < lineCount (s .args .firsts .now) (s .args .rule)
+  turn : c .before .loop .i < lineCount (s .args .spans .now) (s .args .rule)
   turn = omega (arith, c .loop-test .taken, words .word2 .ensures, words .before .word .ensures)
 
   room : c .before .loop .i < 4
   room = omega (arith, turn, lines-few (s .pre .1 .1))
 
-  line-is : words .before .word .result + c .before .loop .i ≡ getD (s .args .firsts .now) (s .args .rule) 0 + c .before .loop .i
+  line-is : words .before .word .result + c .before .loop .i ≡ getD (s .args .spans .now) (s .args .rule) 0 + c .before .loop .i
   line-is = omega (arith, words .before .word .ensures)
 
   line-there : LineOf (s .pre .1 .0) (s .args .definitions .now) (s .args .rule) (s .args .size) (words .before .word .result + c .before .loop .i)
@@ -90,7 +90,7 @@ same-length c = omega (arith, c .before .loop .inv .1, start (c .before .before)
 returns : tie.Need-returns Inv-loop μ-loop
 returns c =
     let w = c .before .before in
-    let end : c .before .loop .i ≡ lineCount (start w .args .firsts .now) (start w .args .rule) =
+    let end : c .before .loop .i ≡ lineCount (start w .args .spans .now) (start w .args .rule) =
     omega (arith, c .before .loop .inv .0, c .loop-test .left, w .word2 .ensures, w .before .word .ensures) in
     λ b A. left-end A (c .before .loop .values) (rw end at (c .before .loop .inv .2 b A))
 

@@ -4,17 +4,17 @@ use mathlib.Core.Path.{_≡_, ap, _∙_}
 use native.Mathlib.Omega.{arith}
 use lib.ListN.{length, getD}
 use borrow.Author.Needs.{needs}
-use Rattle.stack.specs.Firsts.{attributeWord, lineCount}
+use Rattle.stack.specs.Spans.{attributeWord, lineCount}
 use Rattle.stack.specs.PutValues.{PuttingLines, putting-start, putting-long, putting-turn, putting-end}
 use Rattle.stack.proofs.records.put_values.Statement.{statement}
 use Rattle.stack.proofs.records.put_values.Tie as tie
 
 abbrev Inv-loop : tie.InvT-loop
-Inv-loop definitions firsts rule values synthesized₀ height place first count i₀ synthesized i =
-    PuttingLines definitions firsts values rule (33 * height + 1) synthesized₀ i synthesized
+Inv-loop definitions spans rule values synthesized₀ height place first count i₀ synthesized i =
+    PuttingLines definitions spans values rule (33 * height + 1) synthesized₀ i synthesized
 
 abbrev μ-loop : tie.MeasureT-loop
-μ-loop definitions firsts rule values synthesized₀ height place first count i₀ synthesized i = count - i
+μ-loop definitions spans rule values synthesized₀ height place first count i₀ synthesized i = count - i
 
 abbrev start : tie.After-word2 Inv-loop μ-loop → tie.Start Inv-loop μ-loop
 start c = c .before .before .before .before .before .before
@@ -27,7 +27,7 @@ module _ (c : tie.In-loop Inv-loop μ-loop) where
   abbrev s : tie.Start Inv-loop μ-loop
   s = start words
 
-  turn : c .before .loop .i < lineCount (s .args .firsts .now) (s .args .rule)
+  turn : c .before .loop .i < lineCount (s .args .spans .now) (s .args .rule)
   turn = omega (arith, c .loop-test .taken, words .word2 .ensures, words .before .word .ensures)
 
   line-low : words .before .word .result + c .before .loop .i < 128
@@ -44,7 +44,7 @@ module _ (c : tie.After-word3 Inv-loop μ-loop) where
   abbrev line : ℕ → ℕ
   line first = first + c .before .before .loop .i
 
-  attribute : c .word3 .result ≡ attributeWord (entry .args .definitions .now) (line (getD (entry .args .firsts .now) (entry .args .rule) 0))
+  attribute : c .word3 .result ≡ attributeWord (entry .args .definitions .now) (line (getD (entry .args .spans .now) (entry .args .rule) 0))
   attribute = c .word3 .ensures ∙ ap (λ n. attributeWord (entry .args .definitions .now) (line n)) (words (c .before) .before .word .ensures)
 
   attribute-low : c .word3 .result < 32

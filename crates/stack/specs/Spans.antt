@@ -31,20 +31,20 @@ pub record Cut (definitions : List ℕ) (from to P at : ℕ) : Type 0 where
   pub upper : (i : ℕ) → at ≤ i → i < to → P ≤ ruleWord definitions i
 
 -- the lines of rule P stand from word P up to word P + 1
-pub record FirstsIn (b : Book) (definitions firsts : List ℕ) : Type 0 where
-  pub long : length firsts ≡ MAX-RULES + 1
+pub record SpansIn (b : Book) (definitions spans : List ℕ) : Type 0 where
+  pub long : length spans ≡ MAX-RULES + 1
   pub cut : (P : ℕ) → P ≤ length (b .rules)
-      → Cut definitions (length (b .inheritedDefinitions)) (length (b .inheritedDefinitions) + length (b .synthesizedDefinitions)) P (getD firsts P 0)
+      → Cut definitions (length (b .inheritedDefinitions)) (length (b .inheritedDefinitions) + length (b .synthesizedDefinitions)) P (getD spans P 0)
 
 -- the lines of rule P, one after the other, and how many they are
-pub record RuleLines (definitions firsts : List ℕ) (P : ℕ) : Type 0 where
-  pub there : P + 1 < length firsts
-  pub ascend : getD firsts P 0 ≤ getD firsts (P + 1) 0
-  pub low : getD firsts (P + 1) 0 ≤ MAX-DEFINITIONS
-  pub inside : 49 * getD firsts (P + 1) 0 ≤ length definitions
+pub record RuleLines (definitions spans : List ℕ) (P : ℕ) : Type 0 where
+  pub there : P + 1 < length spans
+  pub ascend : getD spans P 0 ≤ getD spans (P + 1) 0
+  pub low : getD spans (P + 1) 0 ≤ MAX-DEFINITIONS
+  pub inside : 49 * getD spans (P + 1) 0 ≤ length definitions
 
 abbrev pub lineCount : List ℕ → ℕ → ℕ
-lineCount firsts P = getD firsts (P + 1) 0 - getD firsts P 0
+lineCount spans P = getD spans (P + 1) 0 - getD spans P 0
 
 -- the definitions of a book: the synthesized attributes' lines are those from `from` up to `to`
 pub record LinesIn (b : Book) (definitions : List ℕ) (from to rules : ℕ) : Type 0 where
@@ -85,28 +85,28 @@ pub record Sorted (definitions : List ℕ) (from to : ℕ) : Type 0 where
   pub room : 49 * to ≤ length definitions
   pub ascend : (i j : ℕ) → from ≤ i → i ≤ j → j < to → ruleWord definitions i ≤ ruleWord definitions j
 
-pub record Starting (definitions : List ℕ) (from to rules : ℕ) (firsts : List ℕ) (at p : ℕ) : Type 0 where
+pub record Starting (definitions : List ℕ) (from to rules : ℕ) (spans : List ℕ) (at p : ℕ) : Type 0 where
   pub within : p ≤ rules
-  pub long : length firsts ≡ MAX-RULES + 1
-  pub here : getD firsts p 0 ≡ at
-  pub cuts : (P : ℕ) → P ≤ p → Cut definitions from to P (getD firsts P 0)
+  pub long : length spans ≡ MAX-RULES + 1
+  pub here : getD spans p 0 ≡ at
+  pub cuts : (P : ℕ) → P ≤ p → Cut definitions from to P (getD spans P 0)
 
-pub starting-none : {definitions : List ℕ} {from to rules : ℕ} (firsts : List ℕ) → length firsts ≡ MAX-RULES + 1 → from ≤ to
-    → Starting definitions from to rules (set firsts 0 from) from 0
-starting-none {definitions} {from} {to} firsts long h = record {
+pub starting-none : {definitions : List ℕ} {from to rules : ℕ} (spans : List ℕ) → length spans ≡ MAX-RULES + 1 → from ≤ to
+    → Starting definitions from to rules (set spans 0 from) from 0
+starting-none {definitions} {from} {to} spans long h = record {
   within = omega arith;
-  long = length-set firsts 0 from ∙ long;
+  long = length-set spans 0 from ∙ long;
   here = first;
   cuts = λ P l.
       let z : P ≡ 0 = omega arith in
       rw (z, first) (record { above = omega arith; within = h; lower = λ i p q. absurd (omega arith); upper = λ i p q. omega arith });
 }
   where
-    first : getD (set firsts 0 from) 0 0 ≡ from
-    first = getD-set-same firsts 0 from 0 (omega arith)
+    first : getD (set spans 0 from) 0 0 ≡ from
+    first = getD-set-same spans 0 from 0 (omega arith)
 
-module _ {definitions firsts : List ℕ} {from to rules at p : ℕ} (W : Sorted definitions from to) (few : rules ≤ MAX-RULES)
-    (D : Starting definitions from to rules firsts at p) where
+module _ {definitions spans : List ℕ} {from to rules at p : ℕ} (W : Sorted definitions from to) (few : rules ≤ MAX-RULES)
+    (D : Starting definitions from to rules spans at p) where
   pub starting-at : (from ≤ at) × (at ≤ to)
   starting-at = let c = D .cuts p (omega arith) in (omega (arith, D .here, c .above), omega (arith, D .here, c .within))
 
@@ -126,19 +126,19 @@ module _ {definitions firsts : List ℕ} {from to rules at p : ℕ} (W : Sorted 
       by i l h (no b) = omega (arith, R .run .all i h (omega arith))
 
   -- a rule more
-  pub starting-more : {next : ℕ} → p < rules → Passes definitions to p at next → Starting definitions from to rules (set firsts (p + 1) next) next (p + 1)
+  pub starting-more : {next : ℕ} → p < rules → Passes definitions to p at next → Starting definitions from to rules (set spans (p + 1) next) next (p + 1)
   starting-more {next} h R = record {
     within = omega arith;
-    long = length-set firsts (p + 1) next ∙ D .long;
+    long = length-set spans (p + 1) next ∙ D .long;
     here = last;
     cuts = λ P l. by P l (decLt P (p + 1));
   }
     where
-      last : getD (set firsts (p + 1) next) (p + 1) 0 ≡ next
-      last = getD-set-same firsts (p + 1) next 0 (omega (arith, D .long))
+      last : getD (set spans (p + 1) next) (p + 1) 0 ≡ next
+      last = getD-set-same spans (p + 1) next 0 (omega (arith, D .long))
 
-      by : (P : ℕ) → P ≤ p + 1 → Dec (P < p + 1) → Cut definitions from to P (getD (set firsts (p + 1) next) P 0)
-      by P l (yes b) = rw (getD-set-other firsts (p + 1) P next 0 (λ e. omega arith)) (D .cuts P (omega arith))
+      by : (P : ℕ) → P ≤ p + 1 → Dec (P < p + 1) → Cut definitions from to P (getD (set spans (p + 1) next) P 0)
+      by P l (yes b) = rw (getD-set-other spans (p + 1) P next 0 (λ e. omega arith)) (D .cuts P (omega arith))
       by P l (no b) =
           let e : P ≡ p + 1 = omega arith in
           rw (e, last) (cut-next (rw (D .here) at (D .cuts p (omega arith))) R)
@@ -191,7 +191,7 @@ module _ {b : Book} {definitions : List ℕ} {from to rules : ℕ} (L : LinesIn 
   lines-room =
       (omega (arith, L .from-is, L .to-is), omega (arith, L .to-is, L .definitions-in .fits), omega (arith, L .rules-are, L .limits .rules-limit .high))
 
-  pub starting-done : {firsts : List ℕ} {at p : ℕ} → Starting definitions from to rules firsts at p → rules ≤ p → FirstsIn b definitions firsts
+  pub starting-done : {spans : List ℕ} {at p : ℕ} → Starting definitions from to rules spans at p → rules ≤ p → SpansIn b definitions spans
   starting-done D h = record {
     long = D .long;
     cut = λ P l. rw (← L .to-is, ← L .from-is) (D .cuts P (omega (arith, L .rules-are)));

@@ -1,10 +1,10 @@
--- `stack::firsts::past` meets its contract: up to the line looked at, all lines are of the rule. Assumes nothing.
+-- `stack::spans::past` meets its contract: up to the line looked at, all lines are of the rule. Assumes nothing.
 use Prim.Native.Nat.{_-_}
 use native.Mathlib.Omega.{arith}
 use borrow.Author.Needs.{needs}
-use Rattle.stack.specs.Firsts.{Run, run-none, run-more}
-use Rattle.stack.proofs.firsts.past.Statement.{statement}
-use Rattle.stack.proofs.firsts.past.Tie as tie
+use Rattle.stack.specs.Spans.{Run, run-none, run-more}
+use Rattle.stack.proofs.spans.past.Statement.{statement}
+use Rattle.stack.proofs.spans.past.Tie as tie
 
 abbrev Inv-loop : tie.InvT-loop
 Inv-loop definitions to rule first i₀ i = Run definitions to rule first i

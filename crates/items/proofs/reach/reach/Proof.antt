@@ -1,7 +1,7 @@
--- `items::reach::reaches` meets its contract: by the reached sets. Assumes nothing.
+-- `items::reach::reach` meets its contract: by the reached sets. Assumes nothing.
 use borrow.Author.Needs.{needs}
-use Rattle.items.proofs.reach.reaches.Statement.{statement}
-use Rattle.items.proofs.reach.reaches.Tie as tie
+use Rattle.items.proofs.reach.reach.Statement.{statement}
+use Rattle.items.proofs.reach.reach.Tie as tie
 
 slice-aggregate-reach-sets : tie.Need-slice-aggregate-reach-sets
 slice-aggregate-reach-sets c = search needs
@@ -21,8 +21,8 @@ same-length c = search needs
 returns : tie.Need-returns
 returns c = rw (c .before .before .before .before .before .before .reach-sets .ensures) at (c .before .before .fill-reaches .ensures)
 
-pub reaches-spec : {M : Type 1} → statement M
-reaches-spec =
+pub reach-spec : {M : Type 1} → statement M
+reach-spec =
     tie.close
     (tie.spec
     slice-aggregate-reach-sets

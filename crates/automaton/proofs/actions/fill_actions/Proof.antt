@@ -1,4 +1,4 @@
--- `actions::actions` meets its contract: the states below `state` have their actions. Assumes nothing.
+-- `automaton::actions::fill_actions` meets its contract: the states below `state` have their actions. Assumes nothing.
 use Prim.Native.Nat.{_-_}
 use mathlib.Core.Path.{refl, _≡_, _∙_}
 use lib.ListN.{length}
@@ -6,15 +6,15 @@ use native.Mathlib.Omega.{arith}
 use borrow.Author.Tests.{not-true, not-false}
 use Rattle.automaton.specs.ActionTable.{StatesActing, states-none, states-more, states-fail, states-all}
 use borrow.Author.Needs.{needs}
-use Rattle.automaton.proofs.actions.actions.Statement.{statement}
-use Rattle.automaton.proofs.actions.actions.Tie as tie
+use Rattle.automaton.proofs.actions.fill_actions.Statement.{statement}
+use Rattle.automaton.proofs.actions.fill_actions.Tie as tie
 
 abbrev Inv-loop : tie.InvT-loop
-Inv-loop rules kernels starts closures fronts terminals states actions₀ n state₀ actions state =
-    (length actions ≡ length actions₀) × StatesActing rules kernels starts closures fronts terminals states actions state
+Inv-loop rules kernels bounds closures fronts terminals states actions₀ n state₀ actions state =
+    (length actions ≡ length actions₀) × StatesActing rules kernels bounds closures fronts terminals states actions state
 
 abbrev μ-loop : tie.MeasureT-loop
-μ-loop rules kernels starts closures fronts terminals states actions₀ n state₀ actions state = states - state
+μ-loop rules kernels bounds closures fronts terminals states actions₀ n state₀ actions state = states - state
 
 mul-fill : tie.Need-mul-fill Inv-loop μ-loop
 mul-fill c =
@@ -31,7 +31,7 @@ loop-holds c =
     let s = c .before .before .before .before .before .before .before .before .before .before in (
       refl,
       rw (c .before .before .fill .ensures)
-          (states-none (s .args .rules .now) (s .args .kernels .now) (s .args .starts .now) (s .args .closures .now) (s .args .fronts .now)
+          (states-none (s .args .rules .now) (s .args .kernels .now) (s .args .bounds .now) (s .args .closures .now) (s .args .fronts .now)
           (s .args .terminals) (s .args .states) (s .args .actions .now) (s .pre .0)),
     )
 
@@ -77,8 +77,8 @@ same-length-2 c =
 returns-2 : tie.Need-returns-2 Inv-loop μ-loop
 returns-2 c = states-all (c .before .loop .inv .1) (c .loop-test .left)
 
-pub actions-spec : {M : Type 1} → statement M
-actions-spec =
+pub fill-actions-spec : {M : Type 1} → statement M
+fill-actions-spec =
     tie.close
     (tie.spec
     Inv-loop

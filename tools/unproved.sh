@@ -15,7 +15,7 @@ cp crates/desk/src/*.rt "$work/src"
 sed 's/^fn main() {/#[no_mangle]\npub extern "C" fn desk() {/' crates/desk/src/main.rt > "$work/src/lib.rt"
 rm "$work/src/main.rt"
 set --
-for crate in std $(sed -n 's/^desk: //p' crates.txt); do
+for crate in std $(sed 's/#.*//; s/^desk//; s/://' crates.txt | tr ' ' '\n' | awk 'NF && !met[$0]++'); do
     source=crates/$crate/src/lib.rt
     [ -f "$source" ] || source=$kit/libs/$crate/src/lib.rt
     set -- "$@" --lib "$crate=$source"

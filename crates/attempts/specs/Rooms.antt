@@ -32,7 +32,7 @@ pub record ArraysLent (room : Room) (rules definitions kernels goes nullables be
   pub nullables-long : length nullables ≡ 9 * room .rules
   pub begins-long : length begins ≡ 9 * room .rules
   pub reaches-long : length reaches ≡ 9 * room .rules
-  pub starts-long : length bounds ≡ room .states + 1
+  pub bounds-long : length bounds ≡ room .states + 1
   pub closures-none : closures ≡ replicate (32 * room .states) 0
   pub fronts-long : length fronts ≡ room .states
   pub table-unset : Unset (room .states) table
@@ -57,7 +57,7 @@ fresh-arrays room rules definitions kernels goes = record {
   nullables-long = zeros (9 * room .rules);
   begins-long = zeros (9 * room .rules);
   reaches-long = zeros (9 * room .rules);
-  starts-long = zeros (room .states + 1);
+  bounds-long = zeros (room .states + 1);
   closures-none = refl;
   fronts-long = zeros (room .states);
   table-unset = unset-all (room .states);
@@ -106,7 +106,7 @@ words-lent {room} words e lent = record {
   nullables-long = lent .nullables-long;
   begins-long = lent .begins-long;
   reaches-long = lent .reaches-long;
-  starts-long = lent .starts-long;
+  bounds-long = lent .bounds-long;
   closures-none = lent .closures-none;
   fronts-long = lent .fronts-long;
   table-unset = lent .table-unset;
@@ -138,7 +138,7 @@ module _ {room : Room} {rules definitions kernels goes nullables begins reaches 
     nullables-long = omega (arith, lent .nullables-long);
     begins-long = omega (arith, lent .begins-long);
     reaches-long = omega (arith, lent .reaches-long);
-    starts-long = omega (arith, lent .starts-long);
+    bounds-long = omega (arith, lent .bounds-long);
     closures-none = lent .closures-none;
     fronts-long = omega (arith, lent .fronts-long);
     table-unset = lent .table-unset;

@@ -18,7 +18,7 @@ use Rattle.grammar.specs.Formulas.FormulaCheck.{dotOf, lineAt}
 use Rattle.grammar.specs.Formulas.FormulaCheckAll.{CoreIn}
 use Rattle.book.specs.Held.{kernelAt}
 use Rattle.items.specs.RestSets.{RestSetsIn}
-use Rattle.automaton.specs.StatesIn.{ItemsIn, Range, kernel-there, state-range, state-starts}
+use Rattle.automaton.specs.StatesIn.{ItemsIn, Range, kernel-there, state-range, state-bounds}
 use Rattle.attributes.specs.Marks.{MarksIn, MarksRoom}
 use Rattle.attributes.specs.Checking.{CheckHeld}
 use Rattle.attributes.specs.MarkFronts.{LooksIn}
@@ -70,8 +70,8 @@ module _ {b : Book} {rules kernels bounds closures nullables begins reaches : Li
     pub looks-below : 32 * S + 32 ≤ length closures
     looks-below = omega (arith, H .items-in .closures-in .long, H .items-in .states-in .grammar-in .limits .states-limit .high)
 
-    pub starts-below : S + 1 < length bounds
-    starts-below = state-starts (H .items-in .states-in) S s
+    pub bounds-below : S + 1 < length bounds
+    bounds-below = state-bounds (H .items-in .states-in) S s
 
     module _ {first last : ℕ} (first-is : first ≡ getD bounds S 0) (last-is : last ≡ getD bounds (S + 1) 0) where
       pub range : Range b S first last

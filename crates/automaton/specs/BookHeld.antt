@@ -66,7 +66,7 @@ module _ {b : Book} (ordered : Ordered b) (limits : WithinLimits b) (declared : 
       pub state-items-in : {bounds : List ℕ} → BoundsIn (b .kernels) (b .states) bounds
           → StateItemsIn b (setsOf (b .rules)) rules (length (b .rules)) kernels bounds (b .states) nullables begins
       state-items-in T =
-          record { items-in = kernel-items-in; starts-in = T; counted = refl; states-are = refl; few = limits .states-limit .high }
+          record { items-in = kernel-items-in; bounds-in = T; counted = refl; states-are = refl; few = limits .states-limit .high }
 
   -- for the kernel rules
   pub ruled-in : {rules kernels : List ℕ} → RulesIn (b .rules) rules → KernelsIn (b .kernels) kernels → RuledIn b rules kernels (length (b .kernels))

@@ -24,7 +24,7 @@ use Rattle.book.specs.Held.{kernelAt, noKernel}
 use Rattle.items.specs.Arrays.{BoundsIn}
 use Rattle.items.specs.SymbolCodes.{code-same}
 use Rattle.automaton.specs.KernelWords.{NamedIn, StartAlone, wordBefore, front-word, behind-word, before-low, word-low, Follows}
-use Rattle.automaton.specs.KernelStarts.{Cut, cut-more, cut-all, cuts-done}
+use Rattle.automaton.specs.KernelBounds.{Cut, cut-more, cut-all, cuts-done}
 
 -- a book's rules and kernel lines in arrays, the lines in the order of their states
 pub record RuledIn (b : Book) (rules kernels : List ℕ) (count : ℕ) : Type 0 where
@@ -294,8 +294,8 @@ module _ {b : Book} {rules kernels : List ℕ} {count : ℕ} (H : RuledIn b rule
         }
 
     -- and it is known where the lines of each state begin
-    starts-known : lineAt (length (b .kernels) - 1) .state + 1 ≡ b .states → BoundsIn (b .kernels) (b .states) bounds
-    starts-known last = cuts-done (b .kernels) (b .states) bounds (W .long) (H .named-in .state-there) (λ S l. W .cuts S (omega arith))
+    bounds-known : lineAt (length (b .kernels) - 1) .state + 1 ≡ b .states → BoundsIn (b .kernels) (b .states) bounds
+    bounds-known last = cuts-done (b .kernels) (b .states) bounds (W .long) (H .named-in .state-there) (λ S l. W .cuts S (omega arith))
 
 -- ---- what the walk over all lines tells
 
@@ -306,7 +306,7 @@ pub record Walks (b : Book) (r : Bool) (bounds : List ℕ) : Type 0 where
 -- what the whole test tells
 pub record Ruled (b : Book) (r : Bool) (bounds : List ℕ) : Type 0 where
   pub told : r ≡ kernelRules b
-  pub starts-in : r ≡ true → BoundsIn (b .kernels) (b .states) bounds
+  pub bounds-in : r ≡ true → BoundsIn (b .kernels) (b .states) bounds
 
 module _ {b : Book} {rules kernels : List ℕ} {count : ℕ} (H : RuledIn b rules kernels count) {bounds : List ℕ} where
   pub walks-all : {i : ℕ} → Walked b bounds i → count ≤ i → Walks b true bounds
@@ -323,7 +323,7 @@ module _ {b : Book} {rules kernels : List ℕ} {count : ℕ} (H : RuledIn b rule
   }
 
   refused : (KernelRules b → ⊥) → Ruled b false bounds
-  refused n = record { told = sym (false-of (kernelRules-decides (H .well-named)) n); starts-in = λ z. absurd (false≢true z) }
+  refused n = record { told = sym (false-of (kernelRules-decides (H .well-named)) n); bounds-in = λ z. absurd (false≢true z) }
 
   -- there is no line
   pub ruled-none : count ≡ 0 → Ruled b false bounds
@@ -342,7 +342,7 @@ module _ {b : Book} {rules kernels : List ℕ} {count : ℕ} (H : RuledIn b rule
     told = decides-same
         (equivalent (λ q. rules-hold H W (known q)) (λ K. omega (arith, last-state, last-is H K)) (eq-decides (last + 1) states))
         (kernelRules-decides (H .well-named));
-    starts-in = λ q. starts-known H W (known (eqb-true (last + 1) states q));
+    bounds-in = λ q. bounds-known H W (known (eqb-true (last + 1) states q));
   }
     where
       W : Walked b bounds (length (b .kernels))

@@ -10,7 +10,7 @@ pub mod GoRules
 pub mod GoTable
 pub mod HoldsItem
 pub mod KernelRules
-pub mod KernelStarts
+pub mod KernelBounds
 pub mod KernelWords
 pub mod Lefts
 pub mod StatesIn

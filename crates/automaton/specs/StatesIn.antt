@@ -23,7 +23,7 @@ use Rattle.items.specs.GrammarIn.{GrammarIn}
 pub record StatesIn (b : Book) (rules kernels bounds : List ℕ) : Type 0 where
   pub grammar-in : GrammarIn b rules
   pub kernels-in : KernelsIn (b .kernels) kernels
-  pub starts-in : BoundsIn (b .kernels) (b .states) bounds
+  pub bounds-in : BoundsIn (b .kernels) (b .states) bounds
 
 -- with the go table
 pub record MovesIn (b : Book) (rules kernels bounds table : List ℕ) : Type 0 where
@@ -107,19 +107,19 @@ module _ {b : Book} {rules kernels bounds : List ℕ} (h : StatesIn b rules kern
 
   -- the bounds ascend to the number of lines
   start-within : (left S : ℕ) → S + left ≡ b .states → getD bounds S 0 ≤ length (b .kernels)
-  start-within zero S e = let z : S ≡ b .states = omega arith in rw z (omega (arith, h .starts-in .last-is))
-  start-within (suc left) S e = omega (arith, h .starts-in .ascend S (omega arith), start-within left (S + 1) (omega arith))
+  start-within zero S e = let z : S ≡ b .states = omega arith in rw z (omega (arith, h .bounds-in .last-is))
+  start-within (suc left) S e = omega (arith, h .bounds-in .ascend S (omega arith), start-within left (S + 1) (omega arith))
 
   pub state-range : (S : ℕ) → S < b .states → Range b S (getD bounds S 0) (getD bounds (S + 1) 0)
   state-range S s =
       let within : getD bounds (S + 1) 0 ≤ length (b .kernels) = start-within (b .states - (S + 1)) (S + 1) (omega arith) in
       record {
-        ordered = h .starts-in .ascend S s;
+        ordered = h .bounds-in .ascend S s;
         within = within;
         below = omega (arith, h .kernels-in .fits);
-        lines-are = h .starts-in .lines-are S s ∙ take-drop (getD bounds S 0) (getD bounds (S + 1) 0) (b .kernels);
+        lines-are = h .bounds-in .lines-are S s ∙ take-drop (getD bounds S 0) (getD bounds (S + 1) 0) (b .kernels);
       }
 
   -- both ends are words
-  pub state-starts : (S : ℕ) → S < b .states → S + 1 < length bounds
-  state-starts S s = omega (arith, h .starts-in .long, h .grammar-in .limits .states-limit .high)
+  pub state-bounds : (S : ℕ) → S < b .states → S + 1 < length bounds
+  state-bounds S s = omega (arith, h .bounds-in .long, h .grammar-in .limits .states-limit .high)

@@ -97,7 +97,7 @@ module _ {numbers : Book} {inherited synthesized rules definitions kernels goes 
             states-in = record {
               grammar-in = record { limits = h .conditions-met .limits; declared = h .conditions-met .names; rules-in = h .arrays-in .rules-in };
               kernels-in = h .arrays-in .kernels-in;
-              starts-in = h .tables-in .starts-in;
+              bounds-in = h .tables-in .bounds-in;
             };
             closures-in = h .tables-in .items-filled .closures-in;
           };

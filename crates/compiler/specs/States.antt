@@ -73,7 +73,7 @@ pub record ItemsFilled (b : Book) (nullables begins reaches closures : List ℕ)
 -- with where the kernel lines of each state begin, the go table and the actions
 pub record TablesIn (b : Book) (nullables begins reaches bounds closures table actions : List ℕ) : Type 0 where
   pub items-filled : ItemsFilled b nullables begins reaches closures
-  pub starts-in : BoundsIn (b .kernels) (b .states) bounds
+  pub bounds-in : BoundsIn (b .kernels) (b .states) bounds
   pub table-in : GoTableIn b table
   pub actions-in : ActionsIn b (setsOf (b .rules)) actions
 
@@ -82,7 +82,7 @@ pub record TablesRoom (rules states : ℕ) (nullables begins reaches bounds clos
   pub nullables-long : rules ≤ MAX-RULES → 9 * rules ≤ length nullables
   pub begins-long : rules ≤ MAX-RULES → 9 * rules ≤ length begins
   pub reaches-long : rules ≤ MAX-RULES → 9 * rules ≤ length reaches
-  pub starts-long : states ≤ MAX-STATES → states + 1 ≤ length bounds
+  pub bounds-long : states ≤ MAX-STATES → states + 1 ≤ length bounds
   pub closures-blank : states ≤ MAX-STATES → Blank states closures
   pub fronts-long : states ≤ MAX-STATES → states ≤ length fronts
   pub table-unset : states ≤ MAX-STATES → Unset states table
@@ -93,7 +93,7 @@ pub record TablesLent (room : Room) (nullables begins reaches bounds closures fr
   pub nullables-long : 9 * room .rules ≤ length nullables
   pub begins-long : 9 * room .rules ≤ length begins
   pub reaches-long : 9 * room .rules ≤ length reaches
-  pub starts-long : room .states + 1 ≤ length bounds
+  pub bounds-long : room .states + 1 ≤ length bounds
   pub closures-none : closures ≡ replicate (32 * room .states) 0
   pub fronts-long : room .states ≤ length fronts
   pub table-unset : Unset (room .states) table
@@ -107,7 +107,7 @@ actions-kept e t = record {
   nullables-long = t .nullables-long;
   begins-long = t .begins-long;
   reaches-long = t .reaches-long;
-  starts-long = t .starts-long;
+  bounds-long = t .bounds-long;
   closures-none = t .closures-none;
   fronts-long = t .fronts-long;
   table-unset = t .table-unset;
@@ -132,7 +132,7 @@ tables-room {room} {numbers} {closures = closures} fit t =
       nullables-long = λ few. omega (arith, t .nullables-long, rules-enough fit few);
       begins-long = λ few. omega (arith, t .begins-long, rules-enough fit few);
       reaches-long = λ few. omega (arith, t .reaches-long, rules-enough fit few);
-      starts-long = λ few. omega (arith, t .starts-long, enough few);
+      bounds-long = λ few. omega (arith, t .bounds-long, enough few);
       closures-blank = λ few. record {
         long = omega (arith, closures-long, enough few);
         none = t .closures-none ∙ ap (λ (n : ℕ). replicate n 0) (sym closures-long);
@@ -185,7 +185,7 @@ module _ {b : Book} {rules kernels : List ℕ} {states : ℕ} (h : KernelsHeld b
     held-items e S = rw (e, h .states-are) (state-items-in (h .ordered) (h .limits) (h .declared) (h .rules-in) S (h .kernels-in) T)
 
     pub held-states : StatesIn b rules kernels bounds
-    held-states = record { grammar-in = rules-held; kernels-in = h .kernels-in; starts-in = T }
+    held-states = record { grammar-in = rules-held; kernels-in = h .kernels-in; bounds-in = T }
 
     module _ {closures : List ℕ} (C : ClosuresIn b (setsOf (b .rules)) closures) where
       pub held-closures : ItemsIn b (setsOf (b .rules)) rules kernels bounds closures
@@ -241,7 +241,7 @@ module _ {b : Book} {rules nullables begins reaches bounds closures fronts table
           → FrontsIn b rules closures fronts → Tabled b 0 rules nullables begins reaches bounds closures fronts table actions
       tabled-all t I T G W = record {
         told = sym (none-refused b (sym k-is ∙ k-right) (sym g-is ∙ g-right) (sym (acted .told) ∙ t));
-        filled = λ z. record { items-filled = I; starts-in = T; table-in = G; actions-in = acted .table t };
+        filled = λ z. record { items-filled = I; bounds-in = T; table-in = G; actions-in = acted .table t };
         fronts-in = λ z. W;
       }
 

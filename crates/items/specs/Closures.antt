@@ -42,7 +42,7 @@ module _ {b : Book} {F : Sets} {rules kernels nullables begins : List ℕ} (H : 
 -- a book's items in arrays, and where the kernel lines of each state begin
 pub record StateItemsIn (b : Book) (F : Sets) (rules : List ℕ) (count : ℕ) (kernels bounds : List ℕ) (states : ℕ) (nullables begins : List ℕ) : Type 0 where
   pub items-in : KernelItemsIn b F rules kernels nullables begins
-  pub starts-in : BoundsIn (b .kernels) states bounds
+  pub bounds-in : BoundsIn (b .kernels) states bounds
   pub counted : length (b .rules) ≡ count
   pub states-are : b .states ≡ states
   pub few : states ≤ MAX-STATES

@@ -31,7 +31,7 @@ use Rattle.items.specs.Rests.{nullSymbol, beginsWith, first-past, first-
 use Rattle.items.specs.Searches.{first-lt}
 use Rattle.items.specs.Unions.{union-none, none-union, union-assoc}
 
--- ---- over a right side, up to a symbol that does not vanish: what was found, and what can begin the rest, can begin the whole
+-- ---- over a right side, up to a symbol that is not nullable: what was found, and what can begin the rest, can begin the whole
 
 pub record Beginning (words : List ℕ) (P nulls : ℕ) (firsts : List ℕ) (last found d : ℕ) : Type 0 where
   pub within : d ≤ last

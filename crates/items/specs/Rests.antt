@@ -96,9 +96,9 @@ module _ {F : Sets} {β : List Symbol} {nullable begins : ℕ} (R : RestIs F β 
       go true e = absurd (let z : ⊥ = omega (arith, told-null true e) in z)
       go false e = rw (e, dead) (eq-eqb (first F β) 0 (sym (R .first-is) ∙ b))
 
-  pub vanishing-end : (nullable ≡ 0 → ⊥) → dead F β ≡ false
+  pub nullable-end : (nullable ≡ 0 → ⊥) → dead F β ≡ false
   unfolding dead flag
-  vanishing-end v = go (null F β) refl
+  nullable-end v = go (null F β) refl
     where
       go : (t : Bool) → null F β ≡ t → dead F β ≡ false
       go true e = rw (e, dead)

@@ -7,7 +7,7 @@ use Rattle.grammar.specs.Automaton.ReachSets.{reachSets}
 use Rattle.grammar.specs.Automaton.ClosureSets.{closureSets}
 use borrow.Author.Needs.{needs}
 use Rattle.attributes.specs.MarkFronts.{fronts-marked}
-use Rattle.attributes.specs.StateMarks.{marks-room, item-lines, state-looks, looks-below, starts-below, range, marks-state}
+use Rattle.attributes.specs.StateMarks.{marks-room, item-lines, state-looks, looks-below, bounds-below, range, marks-state}
 use Rattle.attributes.proofs.masks.masks.Statement.{statement}
 use Rattle.attributes.proofs.masks.masks.Tie as tie
 
@@ -28,10 +28,10 @@ word-requires : tie.Need-word-requires
 word-requires c κs = search needs
 
 add-word : tie.Need-add-word
-add-word c = let (b, begins, owned, H, C, e, l) = entry (c .before .before .before .before) .pre in omega (arith, starts-below H l)
+add-word c = let (b, begins, owned, H, C, e, l) = entry (c .before .before .before .before) .pre in omega (arith, bounds-below H l)
 
 word-requires-2 : tie.Need-word-requires-2
-word-requires-2 c κs = let g = entry (c .before .before .before .before) .pre in starts-below (g .3) (g .6)
+word-requires-2 c κs = let g = entry (c .before .before .before .before) .pre in bounds-below (g .3) (g .6)
 
 mark-lines-requires : tie.Need-mark-lines-requires
 mark-lines-requires c κs =

@@ -3,7 +3,7 @@ use Prim.Native.Nat.{_-_}
 use mathlib.Core.Path.{_∙_}
 use native.Mathlib.Omega.{arith}
 use borrow.Author.Tests.{not-true, not-false}
-use Rattle.automaton.specs.StatesIn.{KernelLow, kernel-low, state-starts, state-range}
+use Rattle.automaton.specs.StatesIn.{KernelLow, kernel-low, state-bounds, state-range}
 use Rattle.automaton.specs.Advances.{kernel-stands}
 use Rattle.automaton.specs.ActionItems.{KernelsActing, kernels-none, kernels-more, kernels-fail, kernels-all, line-there}
 use borrow.Author.Needs.{needs}
@@ -25,18 +25,18 @@ low c =
     kernel-low (p .1 .1) (c .before .loop .i - 1) (line-there (c .before .loop .inv) (c .loop-test .taken) (p .1 .0) (p .1 .1) (p .1 .2))
 
 word-requires : tie.Need-word-requires Inv-loop μ-loop
-word-requires c κs = let s = c .before .before .before .before in omega (arith, state-starts (s .pre .1 .1) (s .args .state) (s .pre .1 .2))
+word-requires c κs = let s = c .before .before .before .before in omega (arith, state-bounds (s .pre .1 .1) (s .args .state) (s .pre .1 .2))
 
 add-word : tie.Need-add-word Inv-loop μ-loop
 add-word c =
     let s = c .before .before .before .before .before in omega (
       arith,
-      state-starts (s .pre .1 .1) (s .args .state) (s .pre .1 .2),
-      s .pre .1 .1 .starts-in .long,
+      state-bounds (s .pre .1 .1) (s .args .state) (s .pre .1 .2),
+      s .pre .1 .1 .bounds-in .long,
     )
 
 word-requires-2 : tie.Need-word-requires-2 Inv-loop μ-loop
-word-requires-2 c κs = let s = c .before .before .before .before .before in state-starts (s .pre .1 .1) (s .args .state) (s .pre .1 .2)
+word-requires-2 c κs = let s = c .before .before .before .before .before in state-bounds (s .pre .1 .1) (s .args .state) (s .pre .1 .2)
 
 loop-holds : tie.Need-loop-holds Inv-loop μ-loop
 loop-holds c =

@@ -39,7 +39,7 @@ target c =
     omega (
       arith,
       target-within (s .pre .1) (s .pre .2) (more (c .before .before .before)) (c .before .before .word2 .ensures) (c .if2 .left),
-      s .pre .1 .states-in .starts-in .long,
+      s .pre .1 .states-in .bounds-in .long,
     )
 
 mul-place : tie.Need-mul-place

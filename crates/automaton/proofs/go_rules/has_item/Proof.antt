@@ -2,7 +2,7 @@
 use mathlib.Core.Logic.{⊎-elim}
 use native.Mathlib.Omega.{arith}
 use Rattle.items.specs.GrammarIn.{RuleLow, rule-low, set-place}
-use Rattle.automaton.specs.StatesIn.{state-starts, state-range}
+use Rattle.automaton.specs.StatesIn.{state-bounds, state-range}
 use Rattle.automaton.specs.Comes.{searched, has-kernel, has-rule}
 use borrow.Author.Needs.{needs}
 use Rattle.automaton.proofs.go_rules.has_item.Statement.{statement}
@@ -45,20 +45,20 @@ returns c = λ b F h s. has-rule h s (c .before .before .before .if1 .taken) (c 
 word-requires-2 : tie.Need-word-requires-2
 word-requires-2 c κs =
     let s = c .before .before .before .before .before in
-    omega (arith, state-starts (s .pre .2 .states-in) (s .args .state) (s .pre .3 .state-there))
+    omega (arith, state-bounds (s .pre .2 .states-in) (s .args .state) (s .pre .3 .state-there))
 
 add-word : tie.Need-add-word
 add-word c =
     let s = c .before .before .before .before .before .before in omega (
       arith,
-      state-starts (s .pre .2 .states-in) (s .args .state) (s .pre .3 .state-there),
-      s .pre .2 .states-in .starts-in .long,
+      state-bounds (s .pre .2 .states-in) (s .args .state) (s .pre .3 .state-there),
+      s .pre .2 .states-in .bounds-in .long,
     )
 
 word-requires-3 : tie.Need-word-requires-3
 word-requires-3 c κs =
     let s = c .before .before .before .before .before .before in
-    state-starts (s .pre .2 .states-in) (s .args .state) (s .pre .3 .state-there)
+    state-bounds (s .pre .2 .states-in) (s .args .state) (s .pre .3 .state-there)
 
 empty-requires : tie.Need-empty-requires
 empty-requires c κs = search needs

@@ -3,7 +3,7 @@ use borrow.Author.Tests.{not-true, not-false}
 use Prim.Native.Nat.{_-_}
 use mathlib.Core.Path.{sym, _∙_}
 use native.Mathlib.Omega.{arith}
-use Rattle.automaton.specs.StatesIn.{state-range, state-starts}
+use Rattle.automaton.specs.StatesIn.{state-range, state-bounds}
 use Rattle.automaton.specs.Advances.{KernelsAdvance, kernels-none, kernels-more, kernels-fail, kernels-all}
 use borrow.Author.Needs.{needs}
 use Rattle.automaton.proofs.go_rules.kernels_advance.Statement.{statement}
@@ -18,17 +18,17 @@ abbrev μ-loop : tie.MeasureT-loop
 add-word : tie.Need-add-word Inv-loop μ-loop
 add-word c =
     let start = c .before .before .before .before in
-    omega (arith, state-starts (start .pre .1 .states-in) (start .args .state) (start .pre .2), start .pre .1 .states-in .starts-in .long)
+    omega (arith, state-bounds (start .pre .1 .states-in) (start .args .state) (start .pre .2), start .pre .1 .states-in .bounds-in .long)
 
 word-requires : tie.Need-word-requires Inv-loop μ-loop
 word-requires c κs =
     let start = c .before .before .before .before in
-    state-starts (start .pre .1 .states-in) (start .args .state) (start .pre .2)
+    state-bounds (start .pre .1 .states-in) (start .args .state) (start .pre .2)
 
 word-requires-2 : tie.Need-word-requires-2 Inv-loop μ-loop
 word-requires-2 c κs =
     let start = c .before .before .before .before .before in
-    omega (arith, state-starts (start .pre .1 .states-in) (start .args .state) (start .pre .2))
+    omega (arith, state-bounds (start .pre .1 .states-in) (start .args .state) (start .pre .2))
 
 loop-holds : tie.Need-loop-holds Inv-loop μ-loop
 loop-holds c =

@@ -43,7 +43,7 @@ word-requires-3 c κs = omega (arith, low (c .before .before .before .before .be
 word-requires-4 : tie.Need-word-requires-4
 word-requires-4 c κs =
     let start = c .before .before .before .before .before .before .before .before in
-    omega (arith, goal-there (start .pre .2 .states-in) (start .pre .3) (start .pre .4) (c .word3 .ensures), start .pre .2 .states-in .starts-in .long)
+    omega (arith, goal-there (start .pre .2 .states-in) (start .pre .3) (start .pre .4) (c .word3 .ensures), start .pre .2 .states-in .bounds-in .long)
 
 add-word-3 : tie.Need-add-word-3
 add-word-3 c = omega (arith, low (c .before .before .before .before .before .before .before .before .before) .target-low, c .before .word3 .ensures)
@@ -51,7 +51,7 @@ add-word-3 c = omega (arith, low (c .before .before .before .before .before .bef
 word-requires-5 : tie.Need-word-requires-5
 word-requires-5 c κs =
     let start = c .before .before .before .before .before .before .before .before .before in
-    omega (arith, goal-there (start .pre .2 .states-in) (start .pre .3) (start .pre .4) (c .before .word3 .ensures), start .pre .2 .states-in .starts-in .long)
+    omega (arith, goal-there (start .pre .2 .states-in) (start .pre .3) (start .pre .4) (c .before .word3 .ensures), start .pre .2 .states-in .bounds-in .long)
 
 returns : tie.Need-returns
 returns c =

@@ -47,7 +47,7 @@ kernel-rules-requires : tie.Need-kernel-rules-requires
 kernel-rules-requires c κs =
     let s = c .before .before .before .before .before .before .before .before .before .before .before .before in
     let (b, H) = s .pre .0 in
-    ((b, held-rules (H .kernels-held) (H .kernels-counted), H .kernels-held .states-are), s .pre .1 .starts-long (few H))
+    ((b, held-rules (H .kernels-held) (H .kernels-counted), H .kernels-held .states-are), s .pre .1 .bounds-long (few H))
 
 same-length : tie.Need-same-length
 same-length c = search needs
@@ -64,7 +64,7 @@ fill-items-requires c κs =
     let room = start s .pre .1 in
     let low = few-rules H in
     let R = s .kernel-rules .ensures b (held-rules (H .kernels-held) (H .kernels-counted)) (H .kernels-held .states-are) in
-    let T = R .starts-in (not-false _ (c .before .before .before .before .before .if1 .left)) in (
+    let T = R .bounds-in (not-false _ (c .before .before .before .before .before .if1 .left)) in (
       (b, H .kernels-held, H .rules-counted, T),
       (room .nullables-long low, room .begins-long low, room .reaches-long low, room .closures-blank (few H)),
     )
@@ -74,7 +74,7 @@ fill-fronts-requires c κs =
     let i = c .before .before .before .before .before .before .before .before .before .before in
     let (b, H) = start (kernels-at i) .pre .0 in
     let R = kernels-at i .kernel-rules .ensures b (held-rules (H .kernels-held) (H .kernels-counted)) (H .kernels-held .states-are) in
-    let T = R .starts-in (rules-right i) in
+    let T = R .bounds-in (rules-right i) in
     let I = i .fill-items .ensures b (H .kernels-held) (H .rules-counted) T in
     ask-fronts (H .kernels-held) (H .rules-counted) (I .closures-in) (start (kernels-at i) .args .fronts .now) (start (kernels-at i) .pre .1 .fronts-long (few H))
 
@@ -84,7 +84,7 @@ moves-requires c κs =
     let i = items-at f in
     let (b, H) = start (kernels-at i) .pre .0 in
     let R = kernels-at i .kernel-rules .ensures b (held-rules (H .kernels-held) (H .kernels-counted)) (H .kernels-held .states-are) in
-    let T = R .starts-in (rules-right i) in
+    let T = R .bounds-in (rules-right i) in
     let I = i .fill-items .ensures b (H .kernels-held) (H .rules-counted) T in
     let W = held-fronts (H .kernels-held) (H .rules-counted) (f .fill-fronts .ensures) in
     ((b, H .kernels-held, H .goes-in, H .goes-counted, T, I .closures-in, W), start (kernels-at i) .pre .1 .table-unset (few H))
@@ -116,7 +116,7 @@ returns-2 c = λ b H.
     let f = fronts-at m in
     let i = items-at f in
     let R = kernels-at i .kernel-rules .ensures b (held-rules (H .kernels-held) (H .kernels-counted)) (H .kernels-held .states-are) in
-    let T = R .starts-in (rules-right i) in
+    let T = R .bounds-in (rules-right i) in
     let I = i .fill-items .ensures b (H .kernels-held) (H .rules-counted) T in
     let W = held-fronts (H .kernels-held) (H .rules-counted) (f .fill-fronts .ensures) in
     let (g, G) = m .moves .ensures b (H .kernels-held) (H .goes-in) (H .goes-counted) T (I .closures-in) W in
@@ -128,7 +128,7 @@ fill-actions-requires c κs =
     let i = items-at f in
     let (b, H) = start (kernels-at i) .pre .0 in
     let R = kernels-at i .kernel-rules .ensures b (held-rules (H .kernels-held) (H .kernels-counted)) (H .kernels-held .states-are) in
-    let T = R .starts-in (rules-right i) in
+    let T = R .bounds-in (rules-right i) in
     let I = i .fill-items .ensures b (H .kernels-held) (H .rules-counted) T in
     let W = held-fronts (H .kernels-held) (H .rules-counted) (f .fill-fronts .ensures) in
     let K = held-closures (H .kernels-held) T (I .closures-in) in
@@ -164,7 +164,7 @@ returns-3 c = λ b H.
     let f = fronts-at m in
     let i = items-at f in
     let R = kernels-at i .kernel-rules .ensures b (held-rules (H .kernels-held) (H .kernels-counted)) (H .kernels-held .states-are) in
-    let T = R .starts-in (rules-right i) in
+    let T = R .bounds-in (rules-right i) in
     let I = i .fill-items .ensures b (H .kernels-held) (H .rules-counted) T in
     let W = held-fronts (H .kernels-held) (H .rules-counted) (f .fill-fronts .ensures) in
     let (g, G) = m .moves .ensures b (H .kernels-held) (H .goes-in) (H .goes-counted) T (I .closures-in) W in
@@ -204,7 +204,7 @@ returns-4 c = λ b H.
     let f = fronts-at m in
     let i = items-at f in
     let R = kernels-at i .kernel-rules .ensures b (held-rules (H .kernels-held) (H .kernels-counted)) (H .kernels-held .states-are) in
-    let T = R .starts-in (rules-right i) in
+    let T = R .bounds-in (rules-right i) in
     let I = i .fill-items .ensures b (H .kernels-held) (H .rules-counted) T in
     let W = held-fronts (H .kernels-held) (H .rules-counted) (f .fill-fronts .ensures) in
     let (g, G) = m .moves .ensures b (H .kernels-held) (H .goes-in) (H .goes-counted) T (I .closures-in) W in

@@ -51,7 +51,7 @@ closure-requires c κs =
     let g = c .before .before .before .before .before .before .before .before .before .before .before .before .pre .0 in
     let loop = c .before .before .before .before .loop in
     let h = c .before .before .before .loop-test .taken in
-    let here = state-words (g .2 .starts-in) (loop .s) h (c .before .before .word .ensures) (c .before .word2 .ensures) in
+    let here = state-words (g .2 .bounds-in) (loop .s) h (c .before .before .word .ensures) (c .before .word2 .ensures) in
     let leads = c .before .before .before .before .before .before .before .before .before .before .before .before .pre .1 in
     ((g .0, g .1, g .2 .items-in, g .2 .counted, here .within), leads, part-none (loop .inv .1) h (g .2 .few))
 
@@ -69,7 +69,7 @@ loop-again c =
       search (needs, loop .inv .0),
       closed-more (loop .inv .1) _
           (λ b F H. c .before .before .closure .ensures b F (loop .s) (H .items-in) (H .counted)
-          (state-words (H .starts-in) (loop .s) h (c .before .before .before .before .before .word .ensures) (c .before .before .before .before .word2 .ensures)))
+          (state-words (H .bounds-in) (loop .s) h (c .before .before .before .before .before .word .ensures) (c .before .before .before .before .word2 .ensures)))
           h (g .2 .few) (search needs),
     )
 

@@ -7,7 +7,7 @@ use borrow.Author.Needs.{needs}
 use Rattle.grammar.specs.Automaton.FirstSets.{setsOf}
 use Rattle.grammar.specs.Automaton.ReachSets.{reachSets}
 use Rattle.grammar.specs.Automaton.ClosureSets.{closureSets}
-use Rattle.attributes.specs.StateMarks.{item-lines, state-looks, looks-below, starts-below, range}
+use Rattle.attributes.specs.StateMarks.{item-lines, state-looks, looks-below, bounds-below, range}
 use Rattle.agreement.specs.OneFormula as OneFormula
 use Rattle.plans.specs.Found.{fronts-found, found-lines}
 use Rattle.plans.specs.FoundLines.{none-found, found-state}
@@ -51,12 +51,12 @@ word-requires c κs = search needs
 add-word : tie.Need-add-word
 add-word c =
     let (b, owned, H, l) = entry (c .before .before .before .before) .pre .0 in
-    omega (arith, starts-below (H .formulas-held .marks-held) l)
+    omega (arith, bounds-below (H .formulas-held .marks-held) l)
 
 word-requires-2 : tie.Need-word-requires-2
 word-requires-2 c κs =
     let (b, owned, H, l) = entry (c .before .before .before .before) .pre .0 in
-    starts-below (H .formulas-held .marks-held) l
+    bounds-below (H .formulas-held .marks-held) l
 
 kernel-lines-requires : tie.Need-kernel-lines-requires
 kernel-lines-requires c κs =

@@ -1,7 +1,6 @@
 pub mod Alike
 pub mod Apart
 pub mod CheckLaws
-pub mod DefinitionLines
 pub mod Given
 pub mod Givers
 pub mod OneFormula

@@ -1,34 +1,25 @@
 -- The one-formula check (10) of all states over a book in arrays, and that it answers what the tables' check answers. Assumes nothing.
-use Prim.Native.Nat.{ℕ, zero, suc, _*_, _<_, _≤_}
+use Prim.Native.Nat.{ℕ, zero, suc, _<_}
 use native.Mathlib.Omega.{arith}
 use mathlib.Core.Path.{_≡_, refl, sym, ap, _∙_}
 use mathlib.Core.Bool.{Bool, true, false}
 use mathlib.Core.List.{List}
-use lib.ListN.{length, replicate, length-replicate}
 use Rattle.grammar.specs.Conditions.Decides.{allBelow}
-use Rattle.grammar.specs.Data.Book.{Book, ownerAt}
-use Rattle.grammar.specs.Format.Ordered.{Ordered}
-use Rattle.grammar.specs.Conditions.Meaning.{WithinLimits, Declared, Owned, Defined}
+use Rattle.grammar.specs.Data.Book.{Book}
 use Rattle.grammar.specs.BookFacts.{small-book}
-use Rattle.grammar.specs.Automaton.States.{KernelRules}
 use Rattle.grammar.specs.Automaton.Items.{Closure}
 use Rattle.grammar.specs.Automaton.FirstSets.{setsOf}
 use Rattle.grammar.specs.Automaton.ReachSets.{reachSets}
 use Rattle.grammar.specs.Automaton.ItemsRightLaws.{book-items-right}
 use Rattle.grammar.specs.Automaton.Compiled.{itemsTable, partsTable, oneFormula}
-use Rattle.grammar.specs.Formulas.Slots.{attributes}
 use Rattle.grammar.specs.Formulas.PartialLaws.{partialAt, partial-items}
-use Rattle.grammar.specs.Formulas.FormulaCheck as grammar
 use Rattle.grammar.specs.Formulas.FormulaCheck.{check, checkAll, listed}
 use Rattle.grammar.specs.Formulas.FormulaCheckLaws.{Tells}
 use Rattle.grammar.specs.Formulas.FormulaCheckAll.{listed-tells, book-checkAll}
-use Rattle.grammar.specs.Data.ListLaws.{at-member}
-use Rattle.book.specs.Held.{DefinitionsIn}
 use Rattle.automaton.specs.Fronts.{FrontsIn}
-use Rattle.attributes.specs.Owned.{OwnedIn, owned-some}
-use Rattle.attributes.specs.Checking.{memberOf, CheckHeld}
-use Rattle.attributes.specs.CheckHeldLaws.{check-held}
-use Rattle.attributes.specs.StateMarks.{MarksHeld, StateMarksIn}
+use Rattle.attributes.specs.Checking.{memberOf}
+use Rattle.attributes.specs.FormulasHeld.{FormulasHeld, limits, declared, held-lines}
+use Rattle.attributes.specs.StateMarks.{StateMarksIn}
 use Rattle.attributes.specs.Telling.{check-told}
 use Rattle.attributes.specs.Wanted.{all-below}
 use Rattle.agreement.specs.Givers.{check-once}
@@ -46,29 +37,11 @@ listedIn b S a = listed (partialAt b (setsOf (b .rules)) (reachSets (b .rules) (
 abbrev pub stateRight : Book → ℕ → Bool
 stateRight b S = allBelow (suc (b .terminals)) (λ a. check b (listedIn b S a))
 
--- a book that conditions 2 to 7 let pass, in the arrays from which its formulas are worked out, and the number of the lines of each kind
-pub record FormulasHeld (b : Book) (rules : List ℕ) (count : ℕ) (definitions : List ℕ) (lines : ℕ) (kernels bounds closures nullables begins reaches : List ℕ)
-    (terminals states : ℕ) : Type 0 where
-  pub ordered : Ordered b
-  pub owned : Owned b
-  pub defined : Defined b
-  pub kernel-rules : KernelRules b
-  pub definitions-in : DefinitionsIn (b .inheritedDefinitions) (b .synthesizedDefinitions) definitions
-  pub marks-held : MarksHeld b rules kernels bounds closures nullables begins reaches
-  pub rules-counted : count ≡ length (b .rules)
-  pub definitions-counted : lines ≡ grammar.definitions b
-  pub terminals-are : terminals ≡ b .terminals
-  pub states-are : states ≡ b .states
-
--- the same, with the rules of each state's closure
+-- a book in the arrays from which its formulas are worked out, with the rules of each state's closure
 pub record FrontsHeld (b : Book) (rules : List ℕ) (count : ℕ) (definitions : List ℕ) (lines : ℕ)
     (kernels bounds closures fronts nullables begins reaches : List ℕ) (terminals states : ℕ) : Type 0 where
   pub formulas-held : FormulasHeld b rules count definitions lines kernels bounds closures nullables begins reaches terminals states
   pub fronts-in : FrontsIn b rules closures fronts
-
--- the sets of the attributes that are counted
-pub owned-all : {owners sets : List ℕ} {count : ℕ} → count ≡ length owners → OwnedIn owners count sets → OwnedIn owners (length owners) sets
-owned-all e O = rw e at O
 
 -- tests that agree
 same-below : (f g : ℕ → Bool) (n : ℕ) → ((i : ℕ) → i < n → f i ≡ g i) → allBelow n f ≡ allBelow n g
@@ -80,60 +53,27 @@ same-below f g (suc n) e =
 
 module _ {b : Book} {rules : List ℕ} {count : ℕ} {definitions : List ℕ} {lines : ℕ} {kernels bounds closures nullables begins reaches : List ℕ}
     {terminals states : ℕ} (H : FormulasHeld b rules count definitions lines kernels bounds closures nullables begins reaches terminals states) where
-  pub limits : WithinLimits b
-  limits = H .marks-held .items-in .states-in .grammar-in .limits
-
-  pub declared : Declared b
-  declared = H .marks-held .items-in .states-in .grammar-in .declared
-
-  pub terminals-low : terminals < 32
-  terminals-low = omega (arith, H .terminals-are, limits .terminals-limit .high)
-
-  pub states-low : states ≤ 128
-  states-low = omega (arith, H .states-are, limits .states-limit .high)
-
-  pub rules-low : 9 * length (b .rules) ≤ 576
-  rules-low = omega (arith, H .marks-held .items-in .states-in .grammar-in .rules-in .fits)
-
-  -- the owners of attributes
-  pub owner-low : (K : ℕ) → K < attributes b → ownerAt (b .inheritedOwners) K < 32
-  owner-low K l =
-      let m = declared .inherited-owners (ownerAt (b .inheritedOwners) K) (at-member (b .inheritedOwners) K 32 l) in
-      omega (arith, m .high, limits .nonterminals-limit .high)
-
-  -- for the check of a state
-  pub held-check : {sets masks : List ℕ} → OwnedIn (b .inheritedOwners) (attributes b) sets → 9 * length (b .rules) ≤ length masks
-      → CheckHeld b definitions rules sets masks
-  held-check O m =
-      check-held (H .ordered) limits declared (H .owned) (H .defined) (H .definitions-in) (H .marks-held .items-in .states-in .grammar-in .rules-in) O m
-
   listed-tell : (S a : ℕ) → Tells b S a (listedIn b S a)
-  listed-tell S a = listed-tells _ (partial-items (book-items-right b (small-book (H .ordered) limits declared)) S a)
+  listed-tell S a = listed-tells _ (partial-items (book-items-right b (small-book (H .ordered) (limits H) (declared H))) S a)
 
   -- the check by the sets of a state's items
   pub state-told : (S : ℕ) {masks : List ℕ} → StateMarksIn b S masks
       → allBelow (suc (b .terminals)) (λ a. check b (memberOf masks a)) ≡ stateRight b S
   state-told S {masks} M =
       same-below (λ a. check b (memberOf masks a)) (λ a. check b (listedIn b S a)) (suc (b .terminals)) λ a l.
-      check-told limits declared (H .ordered) S M a (omega (arith, limits .terminals-limit .high)) (listed-tell S a)
-
-  -- what the lines of the definitions are read by
-  pub held-lines : (sets : List ℕ) × CheckHeld b definitions rules sets (replicate (9 * length (b .rules)) 0)
-  held-lines =
-      let (sets, O) = owned-some (b .inheritedOwners) (attributes b) owner-low in
-      (sets, held-check O (omega (arith, length-replicate {A = ℕ} (9 * length (b .rules)) 0)))
+      check-told (limits H) (declared H) (H .ordered) S M a (omega (arith, limits H .terminals-limit .high)) (listed-tell S a)
 
   -- of a state where each attribute is given once
   pub state-single : (S : ℕ) → Single b S → true ≡ stateRight b S
   state-single S single = all-below (λ a. check b (listedIn b S a)) (suc (b .terminals)) λ a l.
       let in-closure : (P D : ℕ) → listedIn b S a P D ≡ true → (c : ℕ) × Closure b S P D c = λ P D m.
       let (c, there) = listed-tell S a P D .sound m in (c, there .0) in
-      check-once b (listedIn b S a) (held-lines .1 .premises) λ d e h k m n. single d e h k (in-closure _ _ m) (in-closure _ _ n)
+      check-once b (listedIn b S a) (held-lines H .1 .premises) λ d e h k m n. single d e h k (in-closure _ _ m) (in-closure _ _ n)
 
   -- of all states
   pub states-told : allBelow (b .states) (stateRight b) ≡ formulasRight b
   unfolding checkAll
-  states-told = book-checkAll (H .ordered) limits declared (H .owned) (H .defined) (H .kernel-rules) (listedIn b) (λ S a l m. listed-tell S a)
+  states-told = book-checkAll (H .ordered) (limits H) (declared H) (H .owned) (H .defined) (H .kernel-rules) (listedIn b) (λ S a l m. listed-tell S a)
 
   -- of all states, where that is so in each
   pub states-single : ((S : ℕ) → S < b .states → Single b S) → true ≡ formulasRight b

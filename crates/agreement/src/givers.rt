@@ -11,7 +11,7 @@ ghost use Rattle.book.specs.Held.{DefinitionsIn};
 ghost use Rattle.attributes.specs.Checking.{CheckHeld};
 ghost use Rattle.agreement.specs.Givers.{Copies};
 ghost use Rattle.agreement.specs.Given.{GivenIn};
-ghost use Rattle.agreement.specs.OneFormula.{FormulasHeld};
+ghost use Rattle.attributes.specs.FormulasHeld.{FormulasHeld};
 use attributes::masks::clear;
 use items::words::word;
 

@@ -9,8 +9,8 @@ pub mod Fronts
 pub mod GoRules
 pub mod GoTable
 pub mod HoldsItem
-pub mod KernelRules
 pub mod KernelBounds
+pub mod KernelRules
 pub mod KernelWords
 pub mod Lefts
 pub mod StatesIn

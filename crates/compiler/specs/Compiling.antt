@@ -21,7 +21,8 @@ use Rattle.book.specs.Spelling.{Arrays, Roomy, Spelling, Complete}
 use Rattle.conditions.specs.AskedLaws.{counted}
 use Rattle.conditions.specs.SpellingHeld.{spelled-got, misspelt-none, arrays-held}
 use Rattle.automaton.specs.Fronts.{FrontsIn}
-use Rattle.agreement.specs.OneFormula.{FormulasHeld, FrontsHeld, formulasRight}
+use Rattle.attributes.specs.FormulasHeld.{FormulasHeld}
+use Rattle.agreement.specs.OneFormula.{FrontsHeld, formulasRight}
 use Rattle.compiler.specs.States.{tablesRefusal}
 use Rattle.compiler.specs.StatesRefusal.{withFormulas, states-refusal}
 use Rattle.compiler.specs.Conditions.{

@@ -12,7 +12,7 @@ use Rattle.grammar.specs.Engine.{tokensOf}
 use Rattle.book.specs.declared.Book.{Book}
 use Rattle.conditions.specs.AskedLaws.{counted}
 use Rattle.attributes.specs.Checking.{CheckHeld}
-use Rattle.agreement.specs.OneFormula.{held-check, rules-low}
+use Rattle.attributes.specs.FormulasHeld.{held-check, rules-low}
 use Rattle.plans.specs.Places.{PlacesIn}
 use Rattle.plans.specs.Plans.{PlansIn, NoneNoted, NoneListed}
 use Rattle.plans.specs.PlansLaws.{plans-none, none-noted}

@@ -13,7 +13,7 @@ use Rattle.grammar.specs.Data.ListLaws.{at-member}
 use Rattle.book.specs.declared.Book.{Book}
 use Rattle.conditions.specs.AskedLaws.{counted}
 use Rattle.attributes.specs.Owned.{OwnedIn}
-use Rattle.agreement.specs.OneFormula.{owned-all}
+use Rattle.attributes.specs.FormulasHeld.{owned-all}
 use Rattle.stack.specs.Spans.{LinesIn}
 use Rattle.stack.specs.Lists.{Listable}
 use Rattle.stack.specs.Standing.{LeftIn}

@@ -29,7 +29,7 @@ use Rattle.attributes.specs.MarkLines.{itemOf, lines-start, lines-turn}
 use Rattle.attributes.specs.Telling.{core-decides}
 use Rattle.plans.specs.Lines.{lineBit, LinesIn}
 use Rattle.plans.specs.LinesAdded.{Added, Adding}
-use Rattle.agreement.specs.DefinitionLines.{itemAt, lines-ascend}
+use Rattle.plans.specs.DefinitionLines.{itemAt, lines-ascend}
 use Rattle.plans.specs.Places.{PlacesIn, FrontFree, front-empty}
 
 -- a word without terminals

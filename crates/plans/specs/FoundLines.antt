@@ -19,7 +19,7 @@ use Rattle.book.specs.Held.{kernelAt}
 use Rattle.attributes.specs.Checking.{CheckHeld}
 use Rattle.attributes.specs.MarkLines.{ItemLinesIn, itemOf}
 use Rattle.attributes.specs.StateMarks.{MarksHeld, range}
-use Rattle.agreement.specs.DefinitionLines.{itemAt, lines-ascend}
+use Rattle.plans.specs.DefinitionLines.{itemAt, lines-ascend}
 use Rattle.plans.specs.Places.{PlacesIn}
 use Rattle.plans.specs.Found.{FoundIn, FrontsFound, no-bit, found-item, joined-none, joined-idle, joined-lines, ItemLines}
 

@@ -1,3 +1,4 @@
+pub mod DefinitionLines
 pub mod DueLaws
 pub mod Following
 pub mod Found

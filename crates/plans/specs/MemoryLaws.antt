@@ -10,7 +10,7 @@ use Rattle.grammar.specs.Limits.{MAX-INHERITED}
 use Rattle.grammar.specs.Data.Book.{Book}
 use Rattle.attributes.specs.Checking.{CheckHeld}
 use Rattle.attributes.specs.Marks.{MarksRoom}
-use Rattle.agreement.specs.OneFormula.{held-check}
+use Rattle.attributes.specs.FormulasHeld.{held-check}
 use Rattle.plans.specs.Planning.{plan}
 use Rattle.plans.specs.PlanningLaws.{plan-short}
 use Rattle.plans.specs.PlanRows.{PlanRow, Elsewhere}

@@ -16,7 +16,7 @@ use Rattle.grammar.specs.Formulas.FormulaCheck as grammar
 use Rattle.grammar.specs.Formulas.FormulaCheck.{dotOf, lineAt}
 use Rattle.attributes.specs.Checking.{CheckHeld}
 use Rattle.attributes.specs.CheckingLaws.{rule-there, position-low, position-high, position-word, left-word, left-below, place-is}
-use Rattle.agreement.specs.DefinitionLines.{itemAt}
+use Rattle.plans.specs.DefinitionLines.{itemAt}
 
 -- the definitions from line n on
 pub record PlacesIn (b : Book) (n : ℕ) (places : List ℕ) : Type 0 where

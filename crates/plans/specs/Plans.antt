@@ -13,7 +13,7 @@ use Rattle.grammar.specs.Formulas.PartialLaws.{partialAt}
 use Rattle.grammar.specs.Formulas.FormulaCheck.{listed}
 use Rattle.grammar.specs.Formulas.Slots.{attributes}
 use Rattle.attributes.specs.Owned.{OwnedIn}
-use Rattle.agreement.specs.OneFormula.{FormulasHeld}
+use Rattle.attributes.specs.FormulasHeld.{FormulasHeld}
 use Rattle.plans.specs.Places.{PlacesIn}
 use Rattle.plans.specs.Planning.{plan}
 use Rattle.plans.specs.PlanRows.{PlanRow}

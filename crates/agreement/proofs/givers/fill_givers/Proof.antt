@@ -2,7 +2,7 @@
 -- Assumes nothing.
 use native.Mathlib.Omega.{arith}
 use borrow.Author.Needs.{needs}
-use Rattle.agreement.specs.OneFormula.{held-lines}
+use Rattle.attributes.specs.FormulasHeld.{held-lines}
 use Rattle.agreement.proofs.givers.fill_givers.Statement.{statement}
 use Rattle.agreement.proofs.givers.fill_givers.Tie as tie
 

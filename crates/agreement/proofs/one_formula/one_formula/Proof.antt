@@ -3,7 +3,8 @@
 use mathlib.Core.Path.{refl, sym, _∙_}
 use native.Mathlib.Omega.{arith}
 use borrow.Author.Needs.{needs}
-use Rattle.agreement.specs.OneFormula.{owned-all, owner-low, rules-low, states-told}
+use Rattle.attributes.specs.FormulasHeld.{owned-all, owner-low, rules-low}
+use Rattle.agreement.specs.OneFormula.{states-told}
 use Rattle.agreement.proofs.one_formula.one_formula.Statement.{statement}
 use Rattle.agreement.proofs.one_formula.one_formula.Tie as tie
 

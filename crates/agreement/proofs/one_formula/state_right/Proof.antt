@@ -3,7 +3,8 @@
 use native.Mathlib.Omega.{arith}
 use mathlib.Core.Path.{_∙_}
 use borrow.Author.Needs.{needs}
-use Rattle.agreement.specs.OneFormula.{terminals-low, held-check, state-told, state-single}
+use Rattle.attributes.specs.FormulasHeld.{terminals-low, held-check}
+use Rattle.agreement.specs.OneFormula.{state-told, state-single}
 use Rattle.agreement.proofs.one_formula.state_right.Statement.{statement}
 use Rattle.agreement.proofs.one_formula.state_right.Tie as tie
 

@@ -14,7 +14,8 @@ use Rattle.grammar.specs.Formulas.FormulaCheck as grammar
 use Rattle.attributes.specs.Owned.{OwnedIn}
 use Rattle.agreement.specs.Given.{GivenIn}
 use Rattle.agreement.specs.CheckLaws.{room-kept, all-start, all-turn, one-fails}
-use Rattle.agreement.specs.OneFormula.{FrontsHeld, stateRight, states-low}
+use Rattle.attributes.specs.FormulasHeld.{states-low}
+use Rattle.agreement.specs.OneFormula.{FrontsHeld, stateRight}
 use Rattle.agreement.proofs.one_formula.states_right.Statement.{statement}
 use Rattle.agreement.proofs.one_formula.states_right.Tie as tie
 

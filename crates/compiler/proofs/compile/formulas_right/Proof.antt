@@ -4,7 +4,7 @@
 use mathlib.Core.Path.{refl}
 use native.Mathlib.Omega.{arith}
 use borrow.Author.Needs.{needs}
-use Rattle.agreement.specs.OneFormula.{limits}
+use Rattle.attributes.specs.FormulasHeld.{limits}
 use Rattle.compiler.proofs.compile.formulas_right.Statement.{statement}
 use Rattle.compiler.proofs.compile.formulas_right.Tie as tie
 

@@ -10,7 +10,7 @@ use Rattle.grammar.specs.Formulas.FormulaCheck as grammar
 use Rattle.attributes.specs.Checking.{CheckHeld}
 use Rattle.attributes.specs.CheckingLaws.{rule-low, position-low, position-high, place-is}
 use Rattle.plans.specs.LinesAdded.{Adding, adding-none, adding-more}
-use Rattle.agreement.specs.DefinitionLines.{itemAt}
+use Rattle.plans.specs.DefinitionLines.{itemAt}
 use Rattle.plans.specs.Found.{each-more}
 use Rattle.plans.proofs.members.item_lines.Statement.{statement}
 use Rattle.plans.proofs.members.item_lines.Tie as tie

@@ -8,7 +8,7 @@ use Rattle.grammar.specs.Automaton.FirstSets.{setsOf}
 use Rattle.grammar.specs.Automaton.ReachSets.{reachSets}
 use Rattle.grammar.specs.Automaton.ClosureSets.{closureSets}
 use Rattle.attributes.specs.StateMarks.{item-lines, state-looks, looks-below, bounds-below, range}
-use Rattle.agreement.specs.OneFormula as OneFormula
+use Rattle.attributes.specs.FormulasHeld as FormulasHeld
 use Rattle.plans.specs.Found.{fronts-found, found-lines}
 use Rattle.plans.specs.FoundLines.{none-found, found-state}
 use Rattle.plans.specs.PlansLaws.{listed-tell}
@@ -102,8 +102,8 @@ returns c = λ b owned H l.
     let first = w .before .word .ensures in
     let last = w .word2 .ensures in
     let e = held .definitions-counted in
-    let limits = OneFormula.limits held in
-    let declared = OneFormula.declared held in
+    let limits = FormulasHeld.limits held in
+    let declared = FormulasHeld.declared held in
     found-lines limits declared (held .ordered)
     (found-state K l first last
     (v .kernel-lines .ensures b F R (H .begins) _ owned _ _ (held .ordered) C e (item-lines K) (range K l first last .within) N T (H .places-in)

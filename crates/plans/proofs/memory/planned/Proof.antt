@@ -4,7 +4,7 @@ use Prim.Native.Nat.{_+_, _*_}
 use native.Mathlib.Omega.{arith}
 use mathlib.Core.Path.{refl}
 use borrow.Author.Needs.{needs}
-use Rattle.agreement.specs.OneFormula as OneFormula
+use Rattle.attributes.specs.FormulasHeld as FormulasHeld
 use Rattle.plans.specs.PlansLaws.{plan-empty}
 use Rattle.plans.specs.MemoryLaws.{plans-check, told-known, told-empty}
 use Rattle.plans.proofs.memory.planned.Statement.{statement}
@@ -63,7 +63,7 @@ returns-2 c = λ b H l M.
     let s = start v in
     let F = H .formulas-held in
     told-empty (s .pre .1) M l
-    (plan-empty (F .ordered) (OneFormula.limits F) (OneFormula.declared F) (s .args .state) (s .args .terminal) (v .members .ensures b _ H l)
+    (plan-empty (F .ordered) (FormulasHeld.limits F) (FormulasHeld.declared F) (s .args .state) (s .args .terminal) (v .members .ensures b _ H l)
     (plans-check H .premises .definitions-limit) (c .if2 .taken))
 
 slice-aggregate-plan-next : tie.Need-slice-aggregate-plan-next
@@ -74,7 +74,7 @@ plan-next-requires c κs =
     let v = c .before .before .before .before .before in
     let s = start v in
     let (b, H, l, M) = s .pre .0 in
-    ((b, _, plans-check H, v .members .ensures b _ H l, l, M), omega (arith, l, OneFormula.limits (H .formulas-held) .states-limit .high), s .pre .1)
+    ((b, _, plans-check H, v .members .ensures b _ H l, l, M), omega (arith, l, FormulasHeld.limits (H .formulas-held) .states-limit .high), s .pre .1)
 
 same-length-2 : tie.Need-same-length-2
 same-length-2 c = search needs

@@ -70,7 +70,7 @@ module _ {b : Book} {ks : List Token} {c : Config} {rules definitions table stat
       book-in = B;
       left-in = F;
       config-in = H .config-in;
-      cell-in = λ e. H .cell-in;
+      cell-in = H .cell-in;
       action-is = X .action-is;
       few = H .message .few;
       rows-low = room-left B (H .config-in) m;

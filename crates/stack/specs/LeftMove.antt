@@ -1,4 +1,4 @@
--- The left side of a rule is pushed over the arrays, where the top cell is set if the rule is empty: what that asks of them, and that it is the machine's
+-- The left side of a rule is pushed over the arrays, where the top cell is set: what that asks of them, and that it is the machine's
 -- reduce. Assumes that the book is taken.
 use Prim.Native.Nat.{ℕ, _+_, _*_, _-_, _≤_, _<_}
 use mathlib.Core.Path.{_≡_, _∙_}
@@ -25,7 +25,7 @@ pub record LeftAsked (b : Book) (ks : List Token) (c : Config) (rules definition
   pub book-in : BookIn b rules definitions table
   pub left-in : LeftIn b definitions spans down up
   pub config-in : ConfigIn b ks states inherited synthesized starts rows top c
-  pub cell-in : length (rightOf (b .rules) P) ≡ 0 → CellIn b inherited c
+  pub cell-in : CellIn b inherited c
   pub action-is : actionOf b c ≡ some (reduce P)
   pub few : length ks ≤ MAX-TOKENS
   pub rows-low : top .rows < 512

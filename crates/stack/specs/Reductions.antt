@@ -80,7 +80,7 @@ module _ {b : Book} {rules definitions table spans down up : List ℕ} (B : Book
 
   module _ {ks : List Token} {states inherited synthesized starts rows : List ℕ} {top : Top} {st : List Frame} {S p : ℕ}
       {z : List Token} {rs : List Row} (C : Standing b ks states inherited synthesized starts rows top st S z p rs)
-      (e : tablesOf b .act S (kind z) ≡ some (reduce P)) (set-cell : size ≡ 0 → cell (tablesOf b) S (kind z) st ≡ cellValue inherited (length st)) where
+      (e : tablesOf b .act S (kind z) ≡ some (reduce P)) (set-cell : cell (tablesOf b) S (kind z) st ≡ cellValue inherited (length st)) where
     -- the rule is complete, and its right side stands on the stacks
     complete : Reduced (B .spelled) (B .sound) S (kind z) P
     complete = reduced (B .spelled) (B .sound) S (kind z) P e
@@ -96,7 +96,7 @@ module _ {b : Book} {rules definitions table spans down up : List ℕ} (B : Book
 
     taken-off : PoppedIn states inherited synthesized starts low size p (pop size S (cell (tablesOf b) S (kind z) st) p st [])
     unfolding low
-    taken-off = pops-in size low (C .frames-in) (omega (arith, reduce-deep)) (C .state-is) set-cell
+    taken-off = pops-in size low (C .frames-in) (omega (arith, reduce-deep)) (C .state-is) (λ empty. set-cell)
 
     path-off : Path (tablesOf b) (taken-off .state) (taken-off .below)
     path-off = rw (taken-off .popped-is) at (pop-path (tablesOf b) size (cell (tablesOf b) S (kind z) st) p [] (C .path))
@@ -229,7 +229,7 @@ module _ {b : Book} {rules definitions table spans down up : List ℕ} (B : Book
     pub asked : NodeAsked b definitions spans P (getD rules (10 * P + 1) 0)
 
   module _ {ks : List Token} {states inherited synthesized starts rows : List ℕ} {top : Top} where
-    pub rule-ready : {c : Config} → ConfigIn b ks states inherited synthesized starts rows top c → (size ≡ 0 → CellIn b inherited c)
+    pub rule-ready : {c : Config} → ConfigIn b ks states inherited synthesized starts rows top c → CellIn b inherited c
         → actionOf b c ≡ some (reduce P) → RuleReady ks states starts top
     unfolding low
     rule-ready (stands {S = S} {z = z} C) s e =
@@ -267,7 +267,7 @@ module _ {b : Book} {rules definitions table spans down up : List ℕ} (B : Book
       (owner-is : owner ≡ leftOf (b .rules) P) (start-of : StartOf starts (top .depth - size) size (top .position) start)
       (fresh-in : NodeValues b P (top .depth - size) inherited synthesized fresh)
       (target-is : target ≡ getD table (64 * getD states (top .depth - size) 0 + (32 + owner)) 0) where
-    pub reduce-on : {c : Config} → ConfigIn b ks states inherited synthesized starts rows top c → (size ≡ 0 → CellIn b inherited c)
+    pub reduce-on : {c : Config} → ConfigIn b ks states inherited synthesized starts rows top c → CellIn b inherited c
         → actionOf b c ≡ some (reduce P) → top .depth < length starts + size → top .rows < 512 → GoesOn b ks c states′ inherited synthesized′ starts′ rows′ next
     unfolding low
     reduce-on (stands {st = st} {S = S} {p = p} {z = z} {rs = rs} C) s e h l =

@@ -1,4 +1,4 @@
-// A reduce, where the top cell is set if the rule is empty: "work out the left side's synthesized values, pop, push it, follow go".
+// A reduce, where the top cell is set: "work out the left side's synthesized values, pop, push it, follow go".
 // The contract asks that the arrays hold some book and a configuration of its machine, and says its statement of all that they hold.
 ghost use mathlib.Core.Path.{_≡_};
 ghost use mathlib.Core.List.{List};

@@ -1,5 +1,7 @@
 // Sets of numbers below 32 as the bits of a `u32`. Their meaning is `bit`, of specs/Sets.antt; elsewhere a set is compared with the empty one, or the bits of
 // many are gathered to tell that all are empty.
+#![tactic(auto)]
+
 ghost use Rattle.std.specs.Prelude.{◌≡◌, not, ℕ, ◌<◌};
 ghost use Rattle.sets.specs.Sets.{bit, empty, single, union, with, subset, meets};
 

@@ -1,5 +1,7 @@
 // The bytes of a text: the class of each byte, and the readers of a byte, a number and a word. A position past the end of the text says
 // that it is misspelt; a reader that is given such a position, or that does not find what it looks for, hands one back.
+#![tactic(auto)]
+
 ghost use Rattle.std.specs.Prelude.{◌≡◌, ◌+◌, ◌≤◌, ◌<◌, length, drop};
 ghost use Rattle.text.specs.Class.{class_of};
 ghost use Rattle.text.specs.Table.{table};
@@ -36,7 +38,7 @@ pub fn class(t: &[u8; 256], b: u8) -> u8
 }
 
 // What was read last, and where reading goes on.
-#[derive(Drop)]
+#[derive(Clone, Copy)]
 pub struct Cursor {
     pub value: u32,
     pub at: usize,
@@ -94,7 +96,7 @@ pub fn require(t: &[u8; 256], text: &[u8], at: usize, fine: bool) -> usize
 pub const NUMBERS: u64 = 4294967296;
 
 // A way of writing numbers: the class of its digits, the byte of the digit 0, the base, and the largest number.
-#[derive(Drop)]
+#[derive(Clone, Copy)]
 pub struct Notation {
     pub class: u8,
     pub zero: u8,

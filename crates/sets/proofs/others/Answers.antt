@@ -1,0 +1,5 @@
+use Rattle.sets.specs.Operations.{bit-others}
+use Rattle.sets.proofs.others.Goals as goal
+
+pub returns : goal.returns
+returns c = λ i h. bit-others c.args.s i h

@@ -1,0 +1,6 @@
+use Rattle.text.proofs.Steps.{keyword-at}
+use borrow.Author.Rules.{rules}
+use Rattle.text.proofs.keyword.Goals as goal
+
+pub returns : goal.returns
+returns c = keyword-at _ _ _ _ _ _ c.word-c.ensures c.require.ensures

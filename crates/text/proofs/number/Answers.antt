@@ -1,0 +1,6 @@
+use Rattle.text.specs.Reading.{decimal-valid}
+use borrow.Author.Rules.{rules}
+use Rattle.text.proofs.number.Goals as goal
+
+pub numeral-requires : goal.numeral-requires
+numeral-requires c = (c.requires, decimal-valid)

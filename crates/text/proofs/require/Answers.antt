@@ -1,0 +1,11 @@
+use mathlib.Core.Path.{sym, ◌∙◌}
+use native.Mathlib.Omega.{arith}
+use Rattle.text.specs.RestLaws.{rest_out, must-true, must-false}
+use borrow.Author.Rules.{rules}
+use Rattle.text.proofs.require.Goals as goal
+
+pub returns-then-fine : goal.returns-then-fine
+returns-then-fine c = sym (must-true _ _ c.if-fine.true)
+
+pub returns : goal.returns
+returns c = rest_out _ _ (omega arith) ∙ sym (must-false _ _ c.if-fine.false)

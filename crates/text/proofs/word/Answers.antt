@@ -1,0 +1,6 @@
+use Rattle.text.specs.Reading.{letters-valid}
+use borrow.Author.Rules.{rules}
+use Rattle.text.proofs.word.Goals as goal
+
+pub numeral-requires : goal.numeral-requires
+numeral-requires c = (c.requires, letters-valid)

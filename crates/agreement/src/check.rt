@@ -24,7 +24,7 @@ use sets::ALL;
 
 // How far a check is: the nodes of the table, the set of the attributes that have a formula, the definitions that are done, and whether two formulas
 // of one attribute differ.
-#[derive(Drop)]
+#[derive(Clone, Copy)]
 pub struct Progress {
     pub used: u32,
     pub known: u32,

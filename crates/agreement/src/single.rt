@@ -48,7 +48,7 @@ fn lines_apart(kernels: &[u32], first: usize, last: usize, base: u32, given: &[u
 }
 
 // The attributes that are given at the fronts of a state, and whether each is given once there.
-#[derive(Drop)]
+#[derive(Clone, Copy)]
 struct FrontsGiven {
     apart: bool,
     bits: u32,

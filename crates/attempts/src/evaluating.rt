@@ -32,7 +32,7 @@ fn asked(tokens: &[u32], terminals: u32, lent: usize) -> u32
 }
 
 // The number that is answered; nothing is said where arrays have no room for what the book has.
-#[derive(Drop)]
+#[derive(Clone, Copy)]
 pub struct Answer {
     pub complete: bool,
     pub number: u32,

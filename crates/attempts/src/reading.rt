@@ -11,7 +11,7 @@ use definitions::definitions::WORDS;
 use text::classes;
 
 // The refusal of a text, or 0; nothing is said where arrays have no room for what the text has.
-#[derive(Drop)]
+#[derive(Clone, Copy)]
 pub struct Answer {
     pub complete: bool,
     pub refusal: u32,

@@ -14,7 +14,7 @@ use Rattle.grammar.specs.Automaton.ClosureSets.{kernels_in}
 use Rattle.grammar.specs.Automaton.CoreItems.{Core, core_items}
 use Rattle.grammar.specs.Automaton.StatesCheck.{all_advance, states_advance, all_come, some_kernel, go_lines, go_rules}
 use Rattle.grammar.specs.Automaton.Compiled.{items_table, items_at}
-use Rattle.grammar.specs.Automaton.CompiledTables.{items_at}
+use Rattle.grammar.specs.Automaton.CompiledTables.{items_table-at}
 
 both : {s t u v : Bool} → s ≡ t → u ≡ v → ◌≡◌ {A = Bool} (elim s [ true ↦ u | false ↦ false ]) (elim t [ true ↦ v | false ↦ false ])
 both {t = true} e f = rw (e, f)
@@ -39,7 +39,7 @@ module _ {b : Book} (d : Declared b) (F : Sets) where
   listed : go_rules b (core_items b F) ≡ go_rules b (items_at b (items_table b F))
   unfolding go_rules
   listed =
-      let same : (S : ℕ) → S < b.states → core_items b F S ≡ items_at b (items_table b F) S = λ S l. sym (items_at b F S l) in
+      let same : (S : ℕ) → S < b.states → core_items b F S ≡ items_at b (items_table b F) S = λ S l. sym (items_table-at b F S l) in
       rw (
         same-states b (core_items b F) (items_at b (items_table b F)) same b.states (omega arith),
         same_lines b (core_items b F) (items_at b (items_table b F)) same b.goes (λ g m. (d.goes_declared g m).state_there),

@@ -8,7 +8,7 @@ use super::spelling::{BOOK, closing};
 use lines::line_head;
 
 // How many terminals, nonterminals and states the book has, and where the text goes on.
-#[derive(Drop)]
+#[derive(Clone, Copy)]
 pub struct HeaderRead {
     pub terminals: u32,
     pub nonterminals: u32,

@@ -13,7 +13,7 @@ ghost use Rattle.std.specs.Prelude.{◌≡◌};
 ghost use Rattle.book.specs.Rooms.{full_room};
 
 // The lines of one kind: how many there are, and where the text goes on.
-#[derive(Drop)]
+#[derive(Clone, Copy)]
 pub struct Section {
     pub count: u32,
     pub at: usize,
@@ -21,7 +21,7 @@ pub struct Section {
 
 // How many lines of the kinds that may be many arrays have room for, and how many states tables have. Arrays are cleared when they are made, so a short book
 // is read into short ones.
-#[derive(Drop)]
+#[derive(Clone, Copy)]
 pub struct Room {
     pub definitions: usize,
     pub kernels: usize,
@@ -46,7 +46,7 @@ impl Room {
 }
 
 // The numbers of a book: what its first line says, and how many lines of each kind it has.
-#[derive(Drop)]
+#[derive(Clone, Copy)]
 pub struct Book {
     pub terminals: u32,
     pub nonterminals: u32,

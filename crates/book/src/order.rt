@@ -3,7 +3,7 @@ ghost use Rattle.std.specs.Prelude.{◌≡◌};
 ghost use Rattle.grammar.specs.Format.Parse.{is_before};
 ghost use Rattle.book.specs.Order.{key_of, last_key};
 
-#[derive(Drop)]
+#[derive(Clone, Copy)]
 pub struct Key {
     pub first: u32,
     pub second: u32,
@@ -22,7 +22,7 @@ impl Key {
 }
 
 // The key of a line, and where the text goes on.
-#[derive(Drop)]
+#[derive(Clone, Copy)]
 pub struct Keyed {
     pub key: Key,
     pub at: usize,

@@ -12,7 +12,7 @@ use super::short::short;
 use super::spelling::{N, T};
 
 // A symbol as it is written: its kind and its number, whether or not the book declares it; and where the text goes on.
-#[derive(Drop)]
+#[derive(Clone, Copy)]
 pub struct SymbolRead {
     pub terminal: bool,
     pub number: u32,

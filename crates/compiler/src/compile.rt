@@ -285,7 +285,7 @@ fn check(
 }
 
 // The refusal of a text, or 0, and the numbers of its book; nothing is said where the arrays have no room for what the text has.
-#[derive(Drop)]
+#[derive(Clone, Copy)]
 pub struct Compiled {
     pub complete: bool,
     pub refusal: u32,

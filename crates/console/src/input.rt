@@ -30,7 +30,7 @@ pub const KEPT_NUMBERS: usize = 2 * (KEPT_TOKENS as usize);
 pub const TEXT_ROOM: usize = Book::MAX_TEXT + TOKEN_BYTES;
 
 // What has been read.
-#[derive(Drop)]
+#[derive(Clone, Copy)]
 pub enum Progress {
     // The text of the book so far ends before `at`, and its last line begins at `line`.
     Book { line: usize, at: usize },
@@ -49,7 +49,7 @@ fn is_end(t: &[u8; 256], line: &[u8]) -> bool
 }
 
 // What stands in a token line, if it is spelled right.
-#[derive(Drop)]
+#[derive(Clone, Copy)]
 struct TokenRead {
     spelled: bool,
     kind: u32,

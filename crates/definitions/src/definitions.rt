@@ -292,7 +292,7 @@ fn synthesized_definitions(
 }
 
 // How many definitions of each kind there are, and where the text goes on.
-#[derive(Drop)]
+#[derive(Clone, Copy)]
 pub struct DefinitionsRead {
     pub inherited: u32,
     pub synthesized: u32,

@@ -51,7 +51,7 @@ const VAL_HEAD: u32 = 40 + 256 * (118 + 256 * (97 + 256 * 108));
 const OTHER: u8 = 255;
 
 // How an expression begins: with an operator's bracket, which stays open, or as one whole node of a kind and two numbers.
-#[derive(Drop)]
+#[derive(Clone, Copy)]
 struct Beginning {
     opens: bool,
     code: u8,
@@ -382,7 +382,7 @@ fn begun(t: &[u8; 256], text: &[u8], at: usize) -> Beginning
 }
 
 // How far an expression is read after an operand: how many operators wait, how many nodes it has, and where the text goes on.
-#[derive(Drop)]
+#[derive(Clone, Copy)]
 struct Progress {
     depth: usize,
     count: u32,

@@ -15,7 +15,7 @@ use engine::evaluating::evaluate;
 use engine::reading::read;
 
 // A refusal or 0, and the number of rows.
-#[derive(Drop)]
+#[derive(Clone, Copy)]
 struct Evaluated {
     number: u32,
     count: u32,

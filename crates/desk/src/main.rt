@@ -13,7 +13,7 @@ use console::input::{KEPT_NUMBERS, Progress, TEXT_ROOM, all_bytes};
 use console::output::OUTPUT_BYTES;
 
 // What was read, and whether that is all of the input.
-#[derive(Drop)]
+#[derive(Clone, Copy)]
 struct Taken {
     whole: bool,
     progress: Progress,

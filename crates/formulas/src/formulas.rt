@@ -13,7 +13,7 @@ use super::steps::{Step, operands, step_at};
 use book::Book;
 
 // What a step puts on the stack: the number of a formula, or a node that is still to be interned.
-#[derive(Drop)]
+#[derive(Clone, Copy)]
 pub enum Operand {
     Known(u32),
     New(Node),

@@ -6,7 +6,7 @@ ghost use Rattle.formulas.specs.Table.{HEADS, hash_of, stored, Table, Added, Sam
 use super::nodes::{Node, Row, row_of};
 
 // The number of a node, and how many nodes the table has then.
-#[derive(Drop)]
+#[derive(Clone, Copy)]
 pub struct Interned {
     pub number: u32,
     pub used: u32,

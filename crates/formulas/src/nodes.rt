@@ -2,7 +2,7 @@
 ghost use Rattle.std.specs.Prelude.{◌≡◌};
 ghost use Rattle.formulas.specs.Nodes.{shown, leaf_row, operator_kind, row_of};
 
-#[derive(Drop)]
+#[derive(Clone, Copy)]
 pub enum Stack {
     Inherited,
     Synthesized,
@@ -10,13 +10,13 @@ pub enum Stack {
 
 // "A formula leaf names a stack, and with it an offset and an attribute"; or the token's value in place of an attribute. The offset counts the
 // symbols below the top.
-#[derive(Drop)]
+#[derive(Clone, Copy)]
 pub enum Leaf {
     Attribute(Stack, u32, u32),
     TokenValue(Stack, u32),
 }
 
-#[derive(Drop)]
+#[derive(Clone, Copy)]
 pub enum Operator {
     Add,
     Sub,
@@ -25,7 +25,7 @@ pub enum Operator {
 }
 
 // The operands of a node are numbers of nodes.
-#[derive(Drop)]
+#[derive(Clone, Copy)]
 pub enum Node {
     Number(u32),
     Leaf(Leaf),
@@ -33,7 +33,7 @@ pub enum Node {
     Pick(u32, u32, u32),
 }
 
-#[derive(Drop)]
+#[derive(Clone, Copy)]
 pub struct Row {
     pub kind: u32,
     pub first: u32,

@@ -5,7 +5,7 @@ ghost use Rattle.formulas.specs.Steps.{step_of, step_with, step_in};
 
 use super::nodes::Operator;
 
-#[derive(Drop)]
+#[derive(Clone, Copy)]
 pub enum Step {
     Push(u32),
     Own(u32),

@@ -14,7 +14,7 @@ use super::reach::dead_end;
 use super::rules::{size, symbol};
 
 // What is told of a rest.
-#[derive(Drop)]
+#[derive(Clone, Copy)]
 pub struct Rest {
     pub nullable: u32,
     pub begins: u32,

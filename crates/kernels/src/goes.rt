@@ -36,7 +36,7 @@ fn key_of(state: u32, terminal: bool, number: u32) -> Key
 }
 
 // What a line says, and where the text goes on.
-#[derive(Drop)]
+#[derive(Clone, Copy)]
 struct GoRead {
     state: u32,
     terminal: bool,

@@ -18,14 +18,14 @@ use book::store::put_line;
 use lines::line_head;
 
 // The key of a line, and where the text goes on.
-#[derive(Drop)]
+#[derive(Clone, Copy)]
 struct KernelRead {
     key: Key,
     at: usize,
 }
 
 // The state, the rule and the dot of a line, and where the text goes on.
-#[derive(Drop)]
+#[derive(Clone, Copy)]
 struct ItemRead {
     state: u32,
     rule: u32,

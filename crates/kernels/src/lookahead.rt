@@ -7,7 +7,7 @@ use book::spelling::{T, naming};
 use text::Cursor;
 
 // Where the number begins, past the end if no lookahead stands there; the number, and where the text goes on.
-#[derive(Drop)]
+#[derive(Clone, Copy)]
 pub struct LookaheadRead {
     pub from: usize,
     pub number: u32,

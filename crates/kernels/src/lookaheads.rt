@@ -10,7 +10,7 @@ ghost use Rattle.kernels.specs.KernelLines.{Looks, Looking};
 use super::lookahead::{lookahead, short_lookahead};
 
 // The lookaheads of a line: how many there are, the largest, the set of those below 32, and where the text goes on.
-#[derive(Drop)]
+#[derive(Clone, Copy)]
 pub struct LookaheadsRead {
     pub count: u32,
     pub last: u32,

@@ -8,7 +8,7 @@ ghost use Rattle.text.specs.Reading.{Lent};
 ghost use Rattle.grammar.specs.Format.Reader.{opening};
 ghost use Rattle.lines.specs.Heads.{Head, Four, Same};
 
-#[derive(Drop)]
+#[derive(Clone, Copy)]
 pub struct LineReader<'a> {
     pub text: &'a [u8],
     pub at: usize,

@@ -15,7 +15,7 @@ use stack::pushes::push_token;
 use stack::top::Top;
 
 // "Each move hands back the machine's new top", or the run stops.
-#[derive(Drop)]
+#[derive(Clone, Copy)]
 pub enum Moved {
     On(Top),
     Stopped(Outcome),

@@ -16,7 +16,7 @@ use super::step::step;
 use stack::top::Top;
 
 // The answer: 0 or the refusal, and the number of rows.
-#[derive(Drop)]
+#[derive(Clone, Copy)]
 pub struct Outcome {
     pub number: u32,
     pub count: u32,

@@ -17,7 +17,7 @@ use kernels::goes::go_lines;
 use kernels::kernels::kernel_lines;
 
 // What the first line says, how many attributes of each kind and how many rules there are, and where the text goes on.
-#[derive(Drop)]
+#[derive(Clone, Copy)]
 struct DeclarationsRead {
     terminals: u32,
     nonterminals: u32,
@@ -59,7 +59,7 @@ fn declarations(
 }
 
 // Whether a text spells a book, and the numbers of that book.
-#[derive(Drop)]
+#[derive(Clone, Copy)]
 pub struct BookRead {
     pub spelled: bool,
     pub book: Book,

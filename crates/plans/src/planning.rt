@@ -19,7 +19,7 @@ use automaton::lefts::{behind, least};
 use items::words::word;
 
 // How far a plan is: the set of the attributes that it sets, and the number of its lines.
-#[derive(Drop)]
+#[derive(Clone, Copy)]
 pub struct Progress {
     pub known: u32,
     pub count: usize,

@@ -2,14 +2,14 @@
 ghost use Rattle.std.specs.Prelude.{◌≡◌};
 ghost use Rattle.stack.specs.Action.{action_at};
 
-#[derive(Drop)]
+#[derive(Clone, Copy)]
 pub enum Move {
     Shift,
     Reduce(u32),
     Accept,
 }
 
-#[derive(Drop)]
+#[derive(Clone, Copy)]
 pub enum Action {
     Due(Move),
     None,

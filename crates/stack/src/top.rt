@@ -2,7 +2,7 @@
 ghost use Rattle.std.specs.Prelude.{◌≡◌, ◌+◌, ◌-◌, ◌≤◌, ◌<◌};
 ghost use Rattle.grammar.specs.Limits.{MAX_TOKENS, MAX_ROWS, MAX_STACK};
 
-#[derive(Drop)]
+#[derive(Clone, Copy)]
 pub struct Top {
     pub depth: usize,
     pub rows: usize,

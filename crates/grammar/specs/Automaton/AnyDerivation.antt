@@ -40,7 +40,7 @@ module _ (G : List Rule) where
   before-step here (at_front p l e) = entered p l e here
   before-step here (behind r) = here
   before-step (expand q m f) (at_front p l e) = entered p l e (expand q m f)
-  before-step (expand {P = P} q m f) (behind r) = expand q m (before-step f (prefixed (right_of G P) r))
+  before-step (expand {P = P} q m f) (behind {α = α} r) = expand q m (before-step {α = right_of G P ++ α} f (prefixed (right_of G P) r))
 
   before-all : {α δ : List Symbol} {a : ℕ} (c : ℕ) → Derivation α (terminal a ∷ δ) → First G α c a
   before-all c no_step = here

@@ -36,9 +36,9 @@ module _ {A : Type 0} (f : ℕ → A) where
 -- ---- the items of each state
 
 module _ (b : Book) (F : Sets) where
-  pub items_at : (S : ℕ) → S < b.states → items_at b (items_table b F) S ≡ core_items b F S
+  pub items_table-at : (S : ℕ) → S < b.states → items_at b (items_table b F) S ≡ core_items b F S
   unfolding items_at items_table
-  items_at S h = tabulate-at (core_items b F) b.states S [] h
+  items_table-at S h = tabulate-at (core_items b F) b.states S [] h
 
   pub items-past : (S : ℕ) → b.states ≤ S → items_at b (items_table b F) S ≡ []
   unfolding items_at items_table

@@ -117,6 +117,7 @@ module _ (G : List Rule) where
 
   begins-cons : {B a : ℕ} {β : List Symbol} → Begins B a → Starts G (nonterminal B ∷ β) a
   begins-cons (inside p e s) = inside p e s
+  begins-cons (beyond _ _ _ s) = elim s [ ]
 
   vanish-starts : {B a : ℕ} {β : List Symbol} → Vanishes G B → Starts G β a → Starts G (nonterminal B ∷ β) a
   vanish-starts (null-rule p e n m) s = beyond p e n s

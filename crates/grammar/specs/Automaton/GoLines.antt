@@ -47,7 +47,7 @@ go-line {gs = g ∷ gs} {S} {X} {M} e = go (λ q. further (go-line q)) (eqb g.st
     go below false d e = below e
 
 -- some line is found, where there is one
-go-found : {gs : List Go} {g : Go} (S : ℕ) (X : Symbol) → Mem g gs → g.state ≡ S → g.symbol ≡ X → (M : ℕ) × (go_in gs S X ≡ some M)
+go-found : {g : Go} {gs : List Go} (S : ℕ) (X : Symbol) → Mem g gs → g.state ≡ S → g.symbol ≡ X → (M : ℕ) × (go_in gs S X ≡ some M)
 unfolding go_in
 go-found S X (in_head {x = h} q) e f = (h.target, rw ((matches S X h).complete (rw q at e, rw q at f), go_in))
 go-found S X (in_Tail {x = h} {xs = gs} m) e f = go (eqb h.state S && same_symbol h.symbol X) (go-found S X m e f)

@@ -17,7 +17,7 @@ use Rattle.grammar.specs.Automaton.CoreItems.{Core, core, core_items}
 use Rattle.grammar.specs.Automaton.StatesCheck.{holds_item, advances_to, advances, all_advance, states_advance}
 use Rattle.grammar.specs.Automaton.StatesCheck.{next_is, comes_from, all_come, some_kernel, go_lines, go_rules}
 use Rattle.grammar.specs.Automaton.Compiled.{items_table, items_at}
-use Rattle.grammar.specs.Automaton.CompiledTables.{items_at, items-past}
+use Rattle.grammar.specs.Automaton.CompiledTables.{items_table-at, items-past}
 use Rattle.grammar.specs.Automaton.ItemsRight.{ItemsRight}
 use Rattle.grammar.specs.Conditions.Decides.{Decides, true-decides, false-decides, equivalent, le-decides, eq-decides, and-decides}
 use Rattle.grammar.specs.Conditions.DecidesSteps.{All, Some, all_nil, all_cons, some-nil, some-cons, below-zero, below_suc}
@@ -287,7 +287,7 @@ module _ {b : Book} {F : Sets} {R : List ℕ} (w : WellNamed b) (right : ItemsRi
           absurd (omega arith)
 
       by : (t : Bool) → ltb S b.states ≡ t → items_at b (items_table b F) S ≡ core_items b F S
-      by true e = items_at b F S (ltb-true S b.states e)
+      by true e = items_table-at b F S (ltb-true S b.states e)
       by false e = let h : b.states ≤ S = ltb-false S b.states e in items-past b F S h ∙ nothing h (core_items b F S) refl
 
   -- 8, by the table of the listed items

@@ -29,10 +29,10 @@ line_of {ks = l ∷ ks} {S} {k} m = go (λ n. further (line_of n)) (eqb l.state 
     go below true e (in_Tail m) = below m
     go below false e m = below m
 
-pub in-state : {ks : List Kernel} {S : ℕ} {k : Kernel} → Mem k ks → k.state ≡ S → Mem k (kernels_in ks S)
+pub in-state : {k : Kernel} {ks : List Kernel} {S : ℕ} → Mem k ks → k.state ≡ S → Mem k (kernels_in ks S)
 unfolding kernels_in
 in-state {S = S} (in_head {x = l} q) e = rw (eq-eqb l.state S (rw q at e), kernels_in) (in_head q)
-in-state {S = S} {k = k} (in_Tail {x = l} {xs = ks} m) e = go (eqb l.state S) (in-state m e)
+in-state {k = k} {S = S} (in_Tail {x = l} {xs = ks} m) e = go (eqb l.state S) (in-state m e)
   where
     go : (t : Bool) → Mem k (kernels_in ks S) → Mem k (elim t [ true ↦ l ∷ kernels_in ks S | false ↦ kernels_in ks S ])
     go true m = in_Tail m

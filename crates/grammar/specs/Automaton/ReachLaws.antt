@@ -31,6 +31,7 @@ module _ (G : List Rule) where
 
   inside-cons : {B a b c : ℕ} {β : List Symbol} → First G β b c → Inside B a → Strict G (nonterminal B ∷ β) a
   inside-cons f (strict_inside g p e s) = strict_inside f p e s
+  inside-cons f (strict_beyond _ _ _ s) = elim s [ ]
 
   vanish-strict : {B a : ℕ} {β : List Symbol} → Null G (nonterminal B ∷ []) → Starts G β a → Strict G (nonterminal B ∷ β) a
   vanish-strict (null-rule p e n m) s = strict_beyond p e n s

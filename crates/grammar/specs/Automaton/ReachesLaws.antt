@@ -16,7 +16,7 @@ module _ (G : List Rule) where
     strict_beyond : {P B a : ℕ} {β : List Symbol} → P < length G → left_of G P ≡ B → Null G (right_of G P) → Starts G β a
         → Strict (nonterminal B ∷ β) a
 
-  pub reaches-shape : {P D a b : ℕ} → Reaches G a P D b → Strict (after G P D) a ⊎ ((a ≡ b) × Null G (after G P D))
+  pub reaches-shape : {a P D b : ℕ} → Reaches G a P D b → Strict (after G P D) a ⊎ ((a ≡ b) × Null G (after G P D))
   reaches-shape (before h) = rw h (inl strict_once)
   reaches-shape (complete h e) = rw h (inr (sym e, null_end))
   reaches-shape (further (derives h q e f) r) = rw h (through q e f (first-shape G f) (reaches-shape r))

@@ -13,6 +13,7 @@ use Rattle.grammar.specs.Conditions.Decides.{Decides}
 
 pub set_of-holds : (l : List ℕ) (a : ℕ) → a < 32 → Mem a l → bit (set_of l) a ≡ true
 unfolding set_of
+set_of-holds [] a h m = elim m [ ]
 set_of-holds (c ∷ l) a h (in_head e) = rw e (with-self (set_of l) c (rw e at h))
 set_of-holds (c ∷ l) a h (in_Tail m) = with-keeps (set_of l) c a h (set_of-holds l a h m)
 

@@ -35,5 +35,6 @@ at-member (x ∷ l) zero d h = in_head refl
 at-member (x ∷ l) (suc i) d h = in_Tail (at-member l i d (omega arith))
 
 pub member-at : {A : Type 0} (l : List A) (d : A) {x : A} → Mem x l → (i : ℕ) × (i < length l) × (get_or l i d ≡ x)
+member-at [] d m = elim m [ ]
 member-at (y ∷ l) d (in_head e) = (zero, omega arith, sym e)
 member-at (y ∷ l) d (in_Tail m) = let (i, h, e) = member-at l d m in (suc i, omega arith, e)

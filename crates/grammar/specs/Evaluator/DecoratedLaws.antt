@@ -7,7 +7,7 @@ use Rattle.grammar.specs.Data.TermLaws.{eval-same}
 use Rattle.grammar.specs.Data.Book.{Place, own, at, val, Book, inherited_owner}
 use Rattle.grammar.specs.Evaluator.Tree.{Stands}
 use Rattle.grammar.specs.Evaluator.Decorated.{Values, Result, child_at, place_value, inherited_from, synthesized_from, Decorated, erase, inherited_of, Inherits}
-use Rattle.grammar.specs.Evaluator.Decorated.{node_inherits}
+use Rattle.grammar.specs.Evaluator.Decorated.{leaf_inherits, node_inherits}
 use Rattle.grammar.specs.Evaluator.Machine.{Tables}
 use Rattle.grammar.specs.Evaluator.Premises.{MayRead, reads_own, reads_at, reads_val, Premises}
 use Rattle.grammar.specs.Evaluator.PremisesLaws.{inherited-leaves, synthesized-leaves}
@@ -26,6 +26,7 @@ module _ (b : Book) where
 
   -- a node's inherited values are those that it is given
   pub inherits-given : {f : Values} {d : Decorated} {B : ℕ} → Inherits f d → Stands b (erase d) (nonterminal B) → (K : ℕ) → f K ≡ inherited_of d K
+  inherits-given leaf_inherits s K = elim s [ ]
   inherits-given (node_inherits e) s K = rw e
 
 module _ (b : Book) (T : Tables) (H : Premises b T) where

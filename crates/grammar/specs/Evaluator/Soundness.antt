@@ -80,12 +80,12 @@ module _ (b : Book) (T : Tables) where
     unfolding pop
     unwind i p cs al zero c s = unwound al c s refl
     unwind i p cs bottom (suc D) c s = let e = (start_only b T H (dotted b c)).1 in absurd (omega arith)
-    unwind {P = P} {ts = ts} i p cs (above {p = q} {i = j} {c = r} {X = X} {t = t} al g st y) (suc D) c s =
+    unwind {P = P} {ts = ts} i p cs (above {S = S'} {p = q} {i = j} {c = r} {X = X} {t = t} al g st y) (suc D) c s =
         let (D', a, β, e, c', h') = go-back b T H g (dotted b c) in
         let d : D' ≡ D = omega arith in
         let h : after b.rules P D ≡ X ∷ β = rw d at h' in
         let ss : AllStand b (cons t ts) (after b.rules P D) = rw h (cons_stands st (rw (drop-step D (right_of b.rules P) h) at s)) in
-        rw (← y, append_assoc) (unwind j q (r ∷ cs) al D (rw d at c') ss)
+        rw (← y, append_assoc) (unwind {S = S'} j q (r ∷ cs) al D (rw d at c') ss)
 
     after-reduce : {ks : List Token} {P : ℕ} (v : List Token) (z : List Token) (p : ℕ) (rs : List Row) {c : Config} {q : Popped} → P ≢ 0 → v ++ z ≡ ks
         → Unwound P (v ++ []) q → push_left b T P q z p rs ≡ more c → Good ks c

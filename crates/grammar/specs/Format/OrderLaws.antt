@@ -61,11 +61,13 @@ before-first (before_same h) = omega arith
 
 module _ {A : Type 0} {key : A → List ℕ} where
   pub ascends-above : {last : List ℕ} {xs : List A} {x : A} → Ascends key last xs → Mem x xs → Before last (key x)
+  ascends-above ascends-[] m = elim m [ ]
   ascends-above (ascends-∷ b bs) (in_head e) = rw e b
   ascends-above (ascends-∷ b bs) (in_Tail m) = before-trans b (ascends-above bs m)
 
   -- one line for each key
   pub ascends-unique : {last : List ℕ} {xs : List A} {x y : A} → Ascends key last xs → Mem x xs → Mem y xs → key x ≡ key y → x ≡ y
+  ascends-unique ascends-[] m _ e = elim m [ ]
   ascends-unique (ascends-∷ b bs) (in_head p) (in_head q) e = p ∙ sym q
   ascends-unique (ascends-∷ b bs) (in_head p) (in_Tail n) e = absurd (before-differs (ascends-above bs n) (ap key (sym p) ∙ e))
   ascends-unique (ascends-∷ b bs) (in_Tail m) (in_head q) e = absurd (before-differs (ascends-above bs m) (ap key (sym q) ∙ sym e))

@@ -121,6 +121,7 @@ module _ (b : Book) (member : ℕ → ℕ → Bool) (L : DefinitionPremises b) (
           let there = stands slots d l h within in
           enter-by Inside slots (set done d true) _ _ (λ e. set-each _ slots _ _ (room b L slots d l s) within there) (λ e. within)
           (λ g e differ. differ (let here = within _ g e in cc))
+      by split _ within = elim within [ ]
 
   inside-unsplit : check b member ≡ true
   unfolding check ended

@@ -58,6 +58,7 @@ done-either done d e h = by (ℕ_discrete e d)
     by (no n) = inr (sym (get_or-set_other done d e true true n) ∙ h)
 
 pub none_done : (n e : ℕ) → e < n → get_or (replicate n false) e true ≡ true → ⊥
+none_done zero e l h = elim l [ ]
 none_done (suc n) zero l h = let z : ◌≡◌ {A = ℕ} 0 1 = cc in omega arith
 none_done (suc n) (suc e) l h = none_done n e (omega arith) h
 

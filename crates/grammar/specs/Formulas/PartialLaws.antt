@@ -31,6 +31,7 @@ module _ (G : List Rule) (F : Sets) (R : List ℕ) (a : ℕ) where
   partial-in : (P D M : ℕ) (items : List Core) → Mem (core P D M) items → bit (reach_with F R (after G P D) M) a ≡ true
       → Mem (core P D M) (partial_of G F R a items)
   unfolding partial_of
+  partial-in P D M [] m t = elim m [ ]
   partial-in P D M (core P' D' M' ∷ items) (in_head e) t =
       let here : bit (reach_with F R (after G P' D') M') a ≡ true = cc in
       rw (here, partial_of) (in_head e)

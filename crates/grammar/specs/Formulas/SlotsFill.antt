@@ -190,6 +190,7 @@ module _ (b : Book) where
 
   pass-rests : (items : List Core) (s : Slots) → fill_pass b items s ≡ s → (P D M : ℕ) → Mem (core P D M) items → fill_item b P D (after b.rules P D) s ≡ s
   unfolding fill_pass
+  pass-rests [] s e P' D' M' m = elim m [ ]
   pass-rests (core P D M ∷ items) s e P' D' M' (in_head q) =
       let same_rule : P' ≡ P = cc in
       let same_dot : D' ≡ D = cc in

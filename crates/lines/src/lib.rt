@@ -1,5 +1,7 @@
 // The line reader: it carries the lent text along with its position, and every line is opened through it. The functions over it are thin; the core, `past_head`,
 // is on slice and number.
+#![tactic(auto)]
+
 ghost use Rattle.std.specs.Prelude.{◌≡◌, true, ◌+◌, ◌*◌, ◌≤◌, length};
 ghost use Rattle.text.specs.Class.{open-bracket};
 ghost use Rattle.text.specs.Numeral.{keyword};

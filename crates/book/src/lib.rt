@@ -1,4 +1,6 @@
 // A book in arrays: its numbers, what its lines have in common, and the lines that declare: the first one, attributes and rules.
+#![tactic(auto)]
+
 pub mod header;
 pub mod order;
 pub mod owners;

@@ -1,0 +1,16 @@
+use mathlib.Core.Path.{refl}
+use Rattle.text.specs.Class.{space}
+use Rattle.text.specs.Rest.{rest, size, mark}
+use Rattle.grammar.specs.Limits.{MAX_RIGHT}
+use Rattle.grammar.specs.Format.Parse.{symbol, symbols}
+use Rattle.book.specs.Sections.{puts_of, Filling, filling-start, filling-turn, filling-less, filling-done}
+use Rattle.book.specs.Lines.{symbol_words, symbols-shrink}
+use borrow.Author.Rules.{rules}
+use Rattle.book.proofs.rules.right_side.Given as goal
+
+abbrev pub invariant-loop-at : goal.invariant-loop-at
+invariant-loop-at l = Filling (mark space) (λ (s : Unit {0}). symbol) (λ s X. s) symbol_words MAX_RIGHT
+    l.text (symbols (rest l.text l.at)) l.initial.out tt l.m l.p l.out
+
+abbrev pub decreases-loop-at : goal.decreases-loop-at
+decreases-loop-at l = size (rest l.text l.p)

@@ -1,0 +1,6 @@
+use Rattle.book.specs.Lines.{rule-steps}
+use borrow.Author.Rules.{rules}
+use Rattle.book.proofs.rules.rule_line.Goals as goal
+
+pub returns : goal.returns
+returns c = rule-steps _ _ c.left_side-left.ensures c.right_side-symbols.ensures c.closing.ensures c.put_line.ensures

@@ -1,0 +1,7 @@
+use Rattle.grammar.specs.Format.Reader.{naming}
+use borrow.Author.Rules.{rules}
+use Rattle.book.proofs.spelling.naming.Goals as goal
+
+pub returns : goal.returns
+unfolding naming
+returns c = cc

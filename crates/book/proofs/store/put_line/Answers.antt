@@ -1,0 +1,12 @@
+use mathlib.Core.Path.{sym, ◌∙◌}
+use native.Mathlib.Omega.{arith}
+use lib.ListN.{length}
+use Rattle.book.specs.LayoutLaws.{put_in, put-out, room_for}
+use borrow.Author.Rules.{rules}
+use Rattle.book.proofs.store.put_line.Goals as goal
+
+pub returns-then-i-room : goal.returns-then-i-room
+returns-then-i-room c = c.write_at.ensures ∙ sym (put_in _ _ _ _ c.if-i-room.true)
+
+pub returns-else-i-room : goal.returns-else-i-room
+returns-else-i-room c = sym (put-out _ _ _ _ c.if-i-room.false)

@@ -1,4 +1,6 @@
 // The items of the states: what the rests of rules begin with and reach, whether they are nullable, and the closures.
+#![tactic(auto)]
+
 pub mod closure;
 pub mod closures;
 pub mod first;

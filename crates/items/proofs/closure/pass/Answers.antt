@@ -1,0 +1,34 @@
+use Prim.Native.Nat.{◌+◌, ◌-◌, ◌<◌}
+use mathlib.Core.Logic.{⊎_elim}
+use native.Mathlib.Omega.{arith}
+use lib.ListN.{length}
+use borrow.Author.Rules.{rules}
+use Rattle.grammar.specs.Automaton.LeastLaws.{Family}
+use Rattle.items.specs.Passes.{pass-begins, pass-ends, turn_more, turn-same}
+use Rattle.items.specs.ClosurePasses.{Sweeping, closure-fits}
+use Rattle.items.specs.Leads.{lead-on}
+use Rattle.items.proofs.closure.pass.Goals as goal
+use Rattle.items.proofs.closure.pass.Goals.{else-visit, then-visit}
+
+pub loop-rule-init : goal.loop-rule-init
+loop-rule-init c =
+    let family : Family 32 c.args.looks.now = record { long = c.requires.2; low = λ i. (c.slice_known-1.given i).fits } in
+    let sets = family in
+    λ b F H e. lead-on H c.requires.1 e sets (pass-begins (closure-fits H e sets))
+
+pub loop-rule-preserved : goal.loop-rule-preserved
+loop-rule-preserved c =
+    let family : Family 32 c.args.looks.now = record { long = c.requires.2; low = λ i. (c.slice_known-1.given i).fits } in
+    let h = c.loop-rule-test.true in
+    let told = c.visit.ensures in
+    let sets = family in
+    let leads = c.requires.1 in
+    λ b F H e.
+    let fits = closure-fits H e sets in
+    let inv = c.loop-rule.invariant b F H e in
+    let p : c.loop-rule.rule < length b.rules = omega arith in
+    lead-on H leads e sets
+    (elim c.if-visit.branch [
+      | then-visit w ↦ rw w.changed-is (turn_more fits inv h (told b F H p) w.if-visit.true)
+      | else-visit w ↦ rw w.changed-is (turn-same fits inv h (told b F H p) w.if-visit.false)
+    ])

@@ -1,0 +1,11 @@
+use native.Mathlib.Omega.{arith}
+use Rattle.grammar.specs.Automaton.LeastLaws.{Family}
+use Rattle.items.specs.Passes.{left, closing-begins, closing-turn, closing-ends, closing-less}
+use Rattle.items.specs.ClosurePasses.{Settling, closure-fits}
+use Rattle.items.proofs.closure.passes.Given as goal
+
+abbrev pub invariant-loop : goal.invariant-loop
+invariant-loop l = Settling l.rules l.nullables l.begins l.count l.initial.looks l.looks
+
+abbrev pub decreases-loop : goal.decreases-loop
+decreases-loop l = left l.looks

@@ -1,0 +1,35 @@
+use Prim.Native.Nat.{◌-◌}
+use mathlib.Core.Path.{◌∙◌}
+use native.Mathlib.Omega.{arith}
+use borrow.Author.Rules.{rules}
+use Rattle.grammar.specs.Automaton.FirstSets.{first_rule}
+use Rattle.grammar.specs.Automaton.LeastLaws.{Fits}
+use Rattle.items.specs.FirstLoops.{first-told}
+use Rattle.items.specs.GrammarOf.{grammar_of}
+use Rattle.items.specs.Searches.{first_fits}
+use Rattle.items.specs.Turned.{Descending, descent-begins, descent-more, descent-same, descent-ends}
+use Rattle.items.proofs.first.first_pass.Goals as goal
+
+pub loop-p-init : goal.loop-p-init
+loop-p-init c =
+    let fits : Fits (first_rule (grammar_of c.args.rules.now c.args.count) c.args.nulls)
+    c.args.count c.args.firsts.now = first_fits c.requires.0 _ (record { long = c.requires.1; low = λ i. (c.slice_known-1.given i).fits }) in
+    descent-begins (fits)
+
+pub loop-p-preserved-then-give : goal.loop-p-preserved-then-give
+loop-p-preserved-then-give c =
+    let fits : Fits (first_rule (grammar_of c.args.rules.now c.args.count) c.args.nulls)
+    c.args.count c.args.firsts.now = first_fits c.requires.0 _ (record { long = c.requires.1; low = λ i. (c.slice_known-1.given i).fits }) in
+    let a = c.args in
+    descent-more (fits) c.loop-p.invariant c.loop-p-test.true
+    (first-told a.rules.now a.count a.nulls (omega (arith, c.loop-p.invariant.within)) c.left.ensures
+    c.first_right-more.ensures c.give.ensures) c.if-give.true
+
+pub loop-p-preserved : goal.loop-p-preserved
+loop-p-preserved c =
+    let fits : Fits (first_rule (grammar_of c.args.rules.now c.args.count) c.args.nulls)
+    c.args.count c.args.firsts.now = first_fits c.requires.0 _ (record { long = c.requires.1; low = λ i. (c.slice_known-1.given i).fits }) in
+    let a = c.args in
+    descent-same (fits) c.loop-p.invariant c.loop-p-test.true
+    (first-told a.rules.now a.count a.nulls (omega (arith, c.loop-p.invariant.within)) c.left.ensures
+    c.first_right-more.ensures c.give.ensures) c.if-give.false

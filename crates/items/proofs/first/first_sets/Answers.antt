@@ -1,0 +1,33 @@
+use mathlib.Core.Path.{◌∙◌, ap}
+use lib.ListN.{length}
+use Rattle.grammar.specs.Automaton.FirstSets.{first_rule}
+use Rattle.grammar.specs.Automaton.LeastLaws.{Fits}
+use Rattle.items.specs.FirstLoops.{first-all}
+use Rattle.items.specs.GrammarOf.{grammar_of}
+use Rattle.items.specs.Passes.{Closing, left, closing-begins, closing-turn, closing-less, closing-ends}
+use Rattle.items.specs.Searches.{first_fits, first-rising}
+use Rattle.items.specs.Turned.{turned, turned-fits, turned-least}
+use Rattle.items.proofs.first.first_sets.Goals as goal
+
+pub loop-smaller : goal.loop-smaller
+loop-smaller c =
+    let fits : Fits (first_rule (grammar_of c.args.rules.now c.args.count) c.args.nulls)
+    c.args.count c.args.firsts.now = first_fits c.requires.0 _ (record { long = ap length c.requires.1; low = λ i. (c.slice_known-1.given i).fits }) in
+    closing-less (turned-fits (fits)) c.loop.invariant c.first_pass.ensures
+    c.loop-test.true
+
+pub loop-preserved : goal.loop-preserved
+loop-preserved c =
+    let fits : Fits (first_rule (grammar_of c.args.rules.now c.args.count) c.args.nulls)
+    c.args.count c.args.firsts.now = first_fits c.requires.0 _ (record { long = ap length c.requires.1; low = λ i. (c.slice_known-1.given i).fits }) in
+    closing-turn (turned-fits (fits)) c.loop.invariant c.first_pass.ensures
+
+pub returns : goal.returns
+returns c =
+    let fits : Fits (first_rule (grammar_of c.args.rules.now c.args.count) c.args.nulls)
+    c.args.count c.args.firsts.now = first_fits c.requires.0 _ (record { long = ap length c.requires.1; low = λ i. (c.slice_known-1.given i).fits }) in
+    let a = c.args in
+    closing-ends (turned-fits (fits)) c.loop.invariant c.first_pass.ensures
+    c.loop-test.false
+    ∙ turned-least (fits) (first-rising _ _ _)
+    ∙ first-all a.rules.now a.count a.nulls c.requires.1

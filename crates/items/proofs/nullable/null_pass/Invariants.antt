@@ -1,0 +1,13 @@
+use Prim.Native.Nat.{◌-◌}
+use mathlib.Core.Path.{ap, ◌∙◌}
+use native.Mathlib.Omega.{arith}
+use borrow.Author.Rules.{rules}
+use Rattle.sets.specs.Sets.{with}
+use Rattle.items.specs.NullableLoops.{NullPassing, null-passing, null-found, null-left, null-visited}
+use Rattle.items.proofs.nullable.null_pass.Given as goal
+
+abbrev pub invariant-loop-p : goal.invariant-loop-p
+invariant-loop-p l = NullPassing l.rules l.count l.nulls l.found l.p
+
+abbrev pub decreases-loop-p : goal.decreases-loop-p
+decreases-loop-p l = l.p

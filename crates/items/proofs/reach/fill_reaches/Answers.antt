@@ -1,0 +1,20 @@
+use Prim.Native.Nat.{◌-◌}
+use native.Mathlib.Omega.{arith}
+use borrow.Author.Rules.{rules}
+use Rattle.grammar.specs.Automaton.FirstSets.{sets_of}
+use Rattle.grammar.specs.Automaton.ReachSets.{reach_in}
+use Rattle.items.specs.GrammarOf.{grammar_of}
+use Rattle.items.specs.ReachLoops.{nulls-of, rests_in, rests-there, reaches-done}
+use Rattle.items.specs.Filling.{RestsFilled, rests-begin, rests-turn}
+use Rattle.items.proofs.reach.fill_reaches.Goals as goal
+
+pub reach_rests-requires : goal.reach_rests-requires
+reach_rests-requires c = let S = c.requires.0 in record { rule_fits = (S.fits.rule_fits c.loop-p.p c.loop-p-test.true, c.requires.1, omega (arith, c.loop-p.invariant.rules.long, c.requires.2, c.loop-p-test.true)); p_in_bounds = rests-there S c.loop-p.p c.loop-p-test.true }
+
+pub loop-p-preserved : goal.loop-p-preserved
+loop-p-preserved c = let S = c.requires.0 in
+    let h = c.loop-p-test.true in
+    rests-turn _ c.loop-p.invariant S.fits h (c.reach_rests.ensures _ (nulls-of S) (rests_in S c.loop-p.p h))
+
+pub returns : goal.returns
+returns c = reaches-done c.loop-p.invariant c.loop-p-test.false c.requires.2

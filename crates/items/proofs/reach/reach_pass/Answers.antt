@@ -1,0 +1,38 @@
+use Prim.Native.Nat.{◌-◌}
+use mathlib.Core.Path.{◌∙◌}
+use mathlib.Core.Logic.{⊎_elim}
+use native.Mathlib.Omega.{arith}
+use borrow.Author.Rules.{rules}
+use Rattle.grammar.specs.Automaton.FirstSets.{sets_of}
+use Rattle.grammar.specs.Automaton.ReachSets.{reach_rule}
+use Rattle.grammar.specs.Automaton.LeastLaws.{Fits}
+use Rattle.items.specs.GrammarOf.{grammar_of}
+use Rattle.items.specs.Passes.{Passing, pass-begins, turn_more, turn-same, pass-ends}
+use Rattle.items.specs.ReachLoops.{nulls-of, rests_in, rests-there, reach-told}
+use Rattle.items.specs.Searches.{reach-fits}
+use Rattle.items.proofs.reach.reach_pass.Goals as goal
+use Rattle.items.proofs.reach.reach_pass.Goals.{else-give, then-give}
+
+pub loop-p-init : goal.loop-p-init
+loop-p-init c =
+    let fits : let a = c.args in
+    Fits (reach_rule (grammar_of a.rules.now a.count) (sets_of (grammar_of a.rules.now a.count))) a.count a.reached.now = reach-fits c.requires.0.fits _ (record { long = c.requires.1; low = λ i. (c.slice_known-1.given i).fits }) in
+    pass-begins (fits)
+
+pub reach_rest-more-requires : goal.reach_rest-more-requires
+reach_rest-more-requires c = let S = c.requires.0 in record { rule_fits = (S.fits.rule_fits c.loop-p.p c.loop-p-test.true, omega arith, c.loop-p.invariant.family.long ∙ c.requires.1); p_in_bounds = rests-there S c.loop-p.p c.loop-p-test.true }
+
+pub loop-p-preserved : goal.loop-p-preserved
+loop-p-preserved c =
+    let fits : let a = c.args in
+    Fits (reach_rule (grammar_of a.rules.now a.count) (sets_of (grammar_of a.rules.now a.count))) a.count a.reached.now = reach-fits c.requires.0.fits _ (record { long = c.requires.1; low = λ i. (c.slice_known-1.given i).fits }) in
+    let F = fits in
+    let S = c.requires.0 in
+    let h = c.loop-p-test.true in
+    let told = reach-told S h c.left.ensures
+    (c.reach_rest-more.ensures _ (nulls-of S) (rests_in S c.loop-p.p h))
+    c.give.ensures in
+    elim c.if-give.branch [
+      | then-give w ↦ rw w.changed-is (turn_more F c.loop-p.invariant h told w.if-give.true)
+      | else-give w ↦ rw w.changed-is (turn-same F c.loop-p.invariant h told w.if-give.false)
+    ]

@@ -1,0 +1,14 @@
+use Prim.Native.Nat.{◌-◌}
+use mathlib.Core.Path.{refl}
+use native.Mathlib.Omega.{arith}
+use borrow.Author.Rules.{rules}
+use Rattle.items.specs.SuffixLoops.{Suffixing, suffixing-begins, suffixing-turn, suffixing-ends}
+use Rattle.items.proofs.suffixes.rule_suffixes.Goals as goal
+
+pub loop-d-init : goal.loop-d-init
+loop-d-init c = suffixing-begins c.size-d.ensures
+
+pub loop-d-preserved : goal.loop-d-preserved
+loop-d-preserved c = let pre = c.requires in
+    suffixing-turn pre.rule_fits.0 pre.p_in_bounds.0 pre.p_in_bounds.1 c.loop-d.invariant c.loop-d-test.true c.symbol.ensures
+    c.longer-rest.ensures c.dead_end.ensures refl

@@ -1,0 +1,12 @@
+use Prim.Native.Nat.{◌-◌}
+use mathlib.Core.Path.{refl}
+use native.Mathlib.Omega.{arith}
+use borrow.Author.Rules.{rules}
+use Rattle.items.specs.SuffixLoops.{Suffixing, suffixing-begins, suffixing-turn, suffixing-ends}
+use Rattle.items.proofs.suffixes.rule_suffixes.Given as goal
+
+abbrev pub invariant-loop-d : goal.invariant-loop-d
+invariant-loop-d l = Suffixing l.rules l.p l.nulls l.firsts l.initial.nullables l.nullables l.initial.begins l.begins l.d l.rest.nullable l.rest.begins l.alive
+
+abbrev pub decreases-loop-d : goal.decreases-loop-d
+decreases-loop-d l = l.d

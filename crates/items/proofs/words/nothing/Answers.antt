@@ -1,0 +1,11 @@
+use Prim.Native.Nat.{◌-◌, ◌≤◌}
+use mathlib.Core.Path.{◌≡◌}
+use native.Mathlib.Omega.{arith}
+use borrow.Author.Tests.{eqb-true}
+use Rattle.items.specs.NoItems.{Nothing, nothing-none, nothing-more, nothing-all}
+use borrow.Author.Rules.{rules}
+use Rattle.items.proofs.words.nothing.Goals as goal
+
+pub loop-i-preserved : goal.loop-i-preserved
+loop-i-preserved c = let at = c.loop-i in
+    (omega (arith, c.loop-i-test.true), nothing-more c.args.words.now _ at.i at.bits at.invariant.1)

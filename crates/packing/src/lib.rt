@@ -1,3 +1,5 @@
 // The words of a stored book.
+#![tactic(auto)]
+
 pub mod packing;
 pub mod unpacking;

@@ -1,0 +1,34 @@
+use Rattle.text.specs.Rest.{rest, size}
+use Rattle.text.specs.Numeral.{word_of, spelled}
+use Rattle.grammar.specs.Format.Ordered.{go_key}
+use Rattle.grammar.specs.Format.Reader.{opening}
+use Rattle.grammar.specs.Format.Parse.{go_line, go_lines}
+use Rattle.lines.specs.Heads.{go-head}
+use Rattle.book.specs.Layout.{go_words}
+use Rattle.book.specs.Order.{key_of, last_key, keyed-turn}
+use Rattle.book.specs.Sections.{Filling, filling-start, filling-less, filling-done}
+use Rattle.kernels.specs.GoLines.{go-shrinks}
+use borrow.Author.Rules.{rules}
+use Rattle.kernels.proofs.goes.go_lines.Goals as goal
+
+pub loop-head-init : goal.loop-head-init
+unfolding go_lines last_key
+loop-head-init c = filling-start _ _ _ _ _ (go-shrinks _) _ _ _ _
+
+pub line_head-a-requires : goal.line_head-a-requires
+unfolding spelled
+line_head-a-requires c = (search rules, go-head)
+
+pub returns-then-n-a : goal.returns-then-n-a
+unfolding spelled
+returns-then-n-a c = filling-done _ _ _ _ _ (go-shrinks _) _ c.loop-head.invariant c.line_head-a.ensures c.if-n-a.true
+
+pub loop-head-smaller : goal.loop-head-smaller
+unfolding spelled
+loop-head-smaller c = filling-less _ _ _ _ _ (go-shrinks _) _ c.loop-head.invariant c.line_head-a.ensures c.if-n-a.false
+    c.go_line-line.ensures.puts.remaining_is
+
+pub loop-head-preserved : goal.loop-head-preserved
+unfolding spelled
+loop-head-preserved c = keyed-turn _ _ _ _ _ (go-shrinks _) c.loop-head.invariant c.line_head-a.ensures c.if-n-a.false
+    c.go_line-line.ensures

@@ -1,0 +1,14 @@
+use native.Mathlib.Omega.{arith}
+use borrow.Author.Tests.{not-false}
+use Rattle.text.specs.Rest.{rest, size}
+use Rattle.sets.specs.Sets.{empty}
+use Rattle.grammar.specs.Format.Parse.{lookaheads}
+use Rattle.kernels.specs.KernelLines.{Looking, looking-start, looking-closed, looking-less, looking-turn}
+use borrow.Author.Rules.{rules}
+use Rattle.kernels.proofs.lookaheads.lookaheads.Given as goal
+
+abbrev pub invariant-loop-terminal : goal.invariant-loop-terminal
+invariant-loop-terminal l = Looking (lookaheads (rest l.text l.at)) l.text l.count l.last l.set l.p
+
+abbrev pub decreases-loop-terminal : goal.decreases-loop-terminal
+decreases-loop-terminal l = size (rest l.text l.p)

@@ -1,0 +1,10 @@
+use Prim.Native.Nat.{◌-◌}
+use Rattle.packing.specs.PackingLoops.{Packing, packing-start, packing-turn, packing-end}
+use borrow.Author.Rules.{rules}
+use Rattle.packing.proofs.packing.pack_whole.Given as goal
+
+abbrev pub invariant-loop-i : goal.invariant-loop-i
+invariant-loop-i l = Packing l.text l.initial.words l.words l.i
+
+abbrev pub decreases-loop-i : goal.decreases-loop-i
+decreases-loop-i l = l.n - l.i

@@ -33,7 +33,7 @@ states-ascend (k ∷ ks) (ascends-∷ b a) zero zero h l = omega arith
 states-ascend (k ∷ ks) (ascends-∷ b a) zero (suc j) h l =
     key-state k (kernel_at ks j) (ascends-above a (at-member ks j _ (omega arith)))
 states-ascend (k ∷ ks) (ascends-∷ b a) (suc i) zero h l = absurd (omega arith)
-states-ascend (k ∷ ks) (ascends-∷ b a) (suc i) (suc j) h l = states-ascend ks a i j (omega arith) (omega arith)
+states-ascend (k ∷ ks) (ascends-∷ b a) (suc i) (suc j) h l = states-ascend {last = kernel_key k} ks a i j (omega arith) (omega arith)
 
 every-line : (ks : List Kernel) → Every Lookaheads ks → (i : ℕ) → i < length ks → Lookaheads (kernel_at ks i)
 every-line [] e i h = absurd (omega arith)

@@ -7,7 +7,7 @@ use Rattle.std.proofs.Math.ListN.{get_or}
 use Rattle.grammar.specs.Limits.{MAX_RIGHT, MAX_STATES}
 use Rattle.grammar.specs.Data.Symbol.{Symbol, terminal, Rule, right_of, symbol_at}
 use Rattle.grammar.specs.Data.Book.{Book, Kernel}
-use Rattle.grammar.specs.Format.Ordered.{before_less, Ascends, ascends-∷, lookahead_key, Lookaheads}
+use Rattle.grammar.specs.Format.Ordered.{before_less, before_same, Ascends, ascends-∷, lookahead_key, Lookaheads}
 use Rattle.grammar.specs.Conditions.Decides.{Decides, true-decides, false-decides, refutes, equivalent, eq-decides, and-decides}
 use Rattle.grammar.specs.Automaton.Small.{number_of, low-at, Small}
 use Rattle.grammar.specs.Automaton.States.{start_kernel}
@@ -39,7 +39,9 @@ EndAlone k = k.lookaheads ≡ 0 ∷ []
 last-above : (a c : ℕ) (rest : List ℕ) → Ascends lookahead_key (a ∷ []) (c ∷ rest) → a < last_of (c ∷ rest)
 unfolding lookahead_key last_of
 last-above a c [] (ascends-∷ (before_less h) r) = h
+last-above a c [] (ascends-∷ (before_same h) r) = elim h [ ]
 last-above a c (d ∷ rest) (ascends-∷ (before_less h) r) = omega (arith, last-above c d rest r)
+last-above a c (d ∷ rest) (ascends-∷ (before_same h) r) = elim h [ ]
 
 -- ascending lookaheads are t0 alone if the last is t0
 last-decides : (k : Kernel) → Lookaheads k → Decides (eqb (last_of k.lookaheads) 0) (EndAlone k)

@@ -1,0 +1,11 @@
+use Prim.Native.Nat.{◌-◌, ◌≤◌}
+use native.Mathlib.Omega.{arith}
+use Rattle.automaton.specs.ActionRows.{Completing, completing-none, completing-more, completing-all, among-low}
+use borrow.Author.Rules.{rules}
+use Rattle.automaton.proofs.actions.complete.Given as goal
+
+abbrev pub invariant-loop-a : goal.invariant-loop-a
+invariant-loop-a l = (l.a ≤ 32) × Completing l.terminals l.state l.rule l.lookaheads l.initial.actions l.actions l.clear l.a
+
+abbrev pub decreases-loop-a : goal.decreases-loop-a
+decreases-loop-a l = 32 - l.a

@@ -1,0 +1,22 @@
+use Prim.Native.Nat.{◌-◌}
+use mathlib.Core.Path.{refl, ◌≡◌, ◌∙◌}
+use lib.ListN.{length}
+use native.Mathlib.Omega.{arith}
+use borrow.Author.Tests.{not-true, not-false}
+use Rattle.automaton.specs.ActionTable.{StatesActing, states-none, states-more, states-fail, states-all}
+use borrow.Author.Rules.{rules}
+use Rattle.automaton.proofs.actions.fill_actions.Goals as goal
+
+pub returns-then-not-state_acts : goal.returns-then-not-state_acts
+returns-then-not-state_acts c = states-fail c.loop-state.invariant.1 c.loop-state-test.true c.state_acts.ensures
+    c.if-not-state_acts.true
+
+pub loop-state-preserved : goal.loop-state-preserved
+loop-state-preserved c = let same = c.state_acts.auto.actions in (
+  same ∙ c.loop-state.invariant.0,
+  states-more c.loop-state.invariant.1 c.loop-state-test.true c.state_acts.ensures
+      c.if-not-state_acts.false same,
+)
+
+pub returns : goal.returns
+returns c = states-all c.loop-state.invariant.1 c.loop-state-test.false

@@ -1,0 +1,14 @@
+use Prim.Native.Nat.{◌+◌, ◌-◌, ◌<◌}
+use mathlib.Core.Path.{◌∙◌}
+use native.Mathlib.Omega.{arith}
+use borrow.Author.Tests.{not-true, not-false}
+use Rattle.automaton.specs.Fronts.{rest-there}
+use Rattle.automaton.specs.ActionItems.{RulesActing, acting-none, acting-stands, acting-more, acting-fail, acting-all}
+use Rattle.automaton.proofs.actions.rules_act.Given as goal
+
+abbrev pub invariant-loop-rest : goal.invariant-loop-rest
+invariant-loop-rest l = RulesActing l.rules l.closures l.fronts l.terminals l.state l.initial.actions
+    l.actions l.rest l.rule
+
+abbrev pub decreases-loop-rest : goal.decreases-loop-rest
+decreases-loop-rest l = 64 - l.rule

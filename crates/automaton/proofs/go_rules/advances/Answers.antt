@@ -1,0 +1,82 @@
+use Prim.Native.Nat.{◌+◌, ◌*◌, ◌<◌}
+use native.Mathlib.Omega.{arith}
+use lib.ListN.{length, get_or}
+use Rattle.items.specs.GrammarIn.{RuleLow, rule_low}
+use Rattle.automaton.specs.Advances.{advances-complete, advances-nowhere, advances-found, target-range, target-within, target_low}
+use Rattle.automaton.proofs.go_rules.advances.Goals as goal
+
+pub returns-then-dot-word : goal.returns-then-dot-word
+returns-then-dot-word c b h s = advances-complete h s c.args.set (rw c.word.ensures at c.if-dot-word.true)
+
+pub word-symbol-requires : goal.word-symbol-requires
+word-symbol-requires c =
+    let low : RuleLow c.args.rules.now c.args.rule = rule_low c.requires.1.states_in.grammar_in c.args.rule c.requires.2.rule_there in
+    let more : c.args.dot < get_or
+    c.args.rules.now (10 * c.args.rule + 1) 0 = rw c.word.ensures at c.if-dot-word.false in
+    omega (arith, low, more)
+
+pub bounds-table-state : goal.bounds-table-state
+bounds-table-state c =
+    let low : RuleLow c.args.rules.now c.args.rule = rule_low c.requires.1.states_in.grammar_in c.args.rule c.requires.2.rule_there in
+    let more : c.args.dot < get_or
+    c.args.rules.now (10 * c.args.rule + 1) 0 = rw c.word.ensures at c.if-dot-word.false in
+    let place-low : 64 * c.args.state + c.word-symbol.result < length
+    c.args.table.now = omega (
+      arith,
+      (low).symbol_low c.args.dot (more),
+      c.word-symbol.ensures,
+      c.requires.2.state_there,
+      c.requires.1.states_in.grammar_in.limits.states_limit.high,
+      c.requires.1.table_in.long,
+    ) in
+    place-low
+
+pub returns-then-target-eq255 : goal.returns-then-target-eq255
+returns-then-target-eq255 c b h s =
+    let more : c.args.dot < get_or
+    c.args.rules.now (10 * c.args.rule + 1) 0 = rw c.word.ensures at c.if-dot-word.false in
+    advances-nowhere h s c.args.set (more) (rw c.word-symbol.ensures at c.if-target-eq255.true)
+
+pub word-first-requires : goal.word-first-requires
+word-first-requires c =
+    let more : c.args.dot < get_or
+    c.args.rules.now (10 * c.args.rule + 1) 0 = rw c.word.ensures at c.if-dot-word.false in
+    let target : get_or c.args.table.now
+    (64 * c.args.state + c.word-symbol.result) 0 + 1 < length
+    c.args.bounds.now = omega (
+      arith,
+      target-within c.requires.1 c.requires.2 (more) c.word-symbol.ensures c.if-target-eq255.false,
+      c.requires.1.states_in.bounds_in.long,
+    ) in
+    omega (arith, target)
+
+pub word-last-requires : goal.word-last-requires
+word-last-requires c =
+    let more : c.args.dot < get_or
+    c.args.rules.now (10 * c.args.rule + 1) 0 = rw c.word.ensures at c.if-dot-word.false in
+    let target : get_or c.args.table.now
+    (64 * c.args.state + c.word-symbol.result) 0 + 1 < length
+    c.args.bounds.now = omega (
+      arith,
+      target-within c.requires.1 c.requires.2 (more) c.word-symbol.ensures c.if-target-eq255.false,
+      c.requires.1.states_in.bounds_in.long,
+    ) in
+    target
+
+pub holds_item-requires : goal.holds_item-requires
+holds_item-requires c =
+    let more : c.args.dot < get_or
+    c.args.rules.now (10 * c.args.rule + 1) 0 = rw c.word.ensures at c.if-dot-word.false in
+    let range = target-range c.requires.1 c.requires.2 (more)
+    c.word-symbol.ensures c.if-target-eq255.false in (
+      omega (arith, range.below, c.requires.1.states_in.kernels-in.long, c.word-last.ensures),
+      omega (arith, range.ordered, c.word-first.ensures, c.word-last.ensures),
+    )
+
+pub returns : goal.returns
+returns c b h s =
+    let more : c.args.dot < get_or
+    c.args.rules.now (10 * c.args.rule + 1) 0 = rw c.word.ensures at c.if-dot-word.false in
+    advances-found h s (more) c.word-symbol.ensures
+    c.if-target-eq255.false c.args.set c.word-first.ensures c.word-last.ensures
+    c.holds_item.ensures

@@ -1,0 +1,13 @@
+use Prim.Native.Nat.{◌-◌}
+use mathlib.Core.Path.{sym, ◌∙◌}
+use native.Mathlib.Omega.{arith}
+use borrow.Author.Tests.{not-true, not-false}
+use Rattle.automaton.specs.Comes.{AllCome, come-none, come-more, come-fail, come-all}
+use borrow.Author.Rules.{rules}
+use Rattle.automaton.proofs.go_rules.all_come.Given as goal
+
+abbrev pub invariant-loop-i : goal.invariant-loop-i
+invariant-loop-i l = AllCome l.rules l.kernels l.bounds l.closures l.state l.symbol l.first l.last l.i
+
+abbrev pub decreases-loop-i : goal.decreases-loop-i
+decreases-loop-i l = l.last - l.i

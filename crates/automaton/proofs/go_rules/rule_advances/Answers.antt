@@ -1,0 +1,11 @@
+use native.Mathlib.Omega.{arith}
+use Rattle.items.specs.GrammarIn.{RuleLow, rule_low, set-place}
+use Rattle.automaton.specs.StatesIn.{moves, items}
+use Rattle.automaton.specs.Advances.{rule-idle, rule-busy}
+use Rattle.automaton.proofs.go_rules.rule_advances.Goals as goal
+
+pub returns-then-set-eq0 : goal.returns-then-set-eq0
+returns-then-set-eq0 c = λ b F h s. rule-idle (items h) s c.word.ensures c.if-set-eq0.true
+
+pub returns : goal.returns
+returns c = λ b F h s. rule-busy (items h) s c.word.ensures c.if-set-eq0.false (c.advances.ensures b (moves h) s)

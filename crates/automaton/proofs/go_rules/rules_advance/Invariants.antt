@@ -1,0 +1,13 @@
+use Prim.Native.Nat.{◌+◌, ◌-◌, ◌<◌}
+use mathlib.Core.Path.{sym, ◌∙◌}
+use native.Mathlib.Omega.{arith}
+use borrow.Author.Tests.{not-true, not-false}
+use Rattle.automaton.specs.Fronts.{rest-there}
+use Rattle.automaton.specs.Advances.{RulesAdvance, rules-none, rules-more, rules-fail, rules-all, rule-stands}
+use Rattle.automaton.proofs.go_rules.rules_advance.Given as goal
+
+abbrev pub invariant-loop-rest : goal.invariant-loop-rest
+invariant-loop-rest l = RulesAdvance l.rules l.kernels l.bounds l.closures l.table l.fronts l.state l.rest l.rule
+
+abbrev pub decreases-loop-rest : goal.decreases-loop-rest
+decreases-loop-rest l = 64 - l.rule

@@ -1,0 +1,32 @@
+use Prim.Native.Nat.{◌*◌, ◌-◌, ◌<◌}
+use native.Mathlib.Omega.{arith}
+use mathlib.Core.Path.{◌≡◌, refl}
+use lib.ListN.{length, get_or, length-set}
+use Rattle.automaton.specs.GoTable.{LineLow, line_low, line-state, Filled, filled_none, filled_more, filled-all}
+use borrow.Author.Rules.{rules}
+use Rattle.automaton.proofs.go_table.go_table.Goals as goal
+
+pub loop-i-init : goal.loop-i-init
+loop-i-init c = (refl, filled_none c.args.goes.now c.args.count c.requires.0)
+
+pub overflow_cast-table : goal.overflow_cast-table
+overflow_cast-table c =
+    let low : LineLow c.args.goes.now (c.loop-i.i - 1) = line_low c.requires.1.1 (c.loop-i.i - 1) (omega (arith, c.loop-i.invariant.1.within)) in
+    omega (arith, (low).target_low)
+
+pub bounds-table-place : goal.bounds-table-place
+bounds-table-place c =
+    let low : LineLow c.args.goes.now (c.loop-i.i - 1) = line_low c.requires.1.1 (c.loop-i.i - 1) (omega (arith, c.loop-i.invariant.1.within)) in
+    let there : get_or c.args.goes.now (3 * (c.loop-i.i - 1)) 0
+    < c.args.states = line-state c.requires.1.1 (c.loop-i.i - 1) (omega (arith, c.loop-i.invariant.1.within)) in
+    omega (arith, low, there, c.loop-i.invariant.1.long)
+
+pub loop-i-preserved : goal.loop-i-preserved
+loop-i-preserved c = (
+  simp length-set c.loop-i.invariant.0,
+  rw (c.word.ensures, c.word-in-loop-i.ensures, c.word-in-loop-i-2.ensures)
+      (filled_more c.loop-i.invariant.1 c.loop-i-test.true),
+)
+
+pub returns : goal.returns
+returns c = filled-all c.loop-i.invariant.1 (omega arith)

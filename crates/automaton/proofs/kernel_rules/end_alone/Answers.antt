@@ -1,0 +1,6 @@
+use Rattle.automaton.specs.KernelWords.{end-decides}
+use borrow.Author.Rules.{rules}
+use Rattle.automaton.proofs.kernel_rules.end_alone.Goals as goal
+
+pub returns : goal.returns
+returns c = λ ks H h. end-decides H c.args.i h

@@ -1,0 +1,15 @@
+use Prim.Native.Nat.{◌+◌, ◌-◌, ◌<◌}
+use native.Mathlib.Omega.{arith}
+use mathlib.Core.Path.{◌≡◌, refl}
+use lib.ListN.{length}
+use borrow.Author.Tests.{not-true, not-false}
+use Rattle.grammar.specs.Data.Book.{Book}
+use Rattle.automaton.specs.KernelRules.{RuledIn, Walked, walked-place, walked_more, walks-all, walks-fails}
+use borrow.Author.Rules.{rules}
+use Rattle.automaton.proofs.kernel_rules.lines_right.Given as goal
+
+abbrev pub invariant-loop-i : goal.invariant-loop-i
+invariant-loop-i l = (length l.bounds ≡ length l.initial.bounds) × ((b : Book) → RuledIn b l.rules l.kernels l.count → Walked b l.initial.bounds 1 → Walked b l.bounds l.i)
+
+abbrev pub decreases-loop-i : goal.decreases-loop-i
+decreases-loop-i l = l.count - l.i

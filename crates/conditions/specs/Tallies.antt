@@ -66,7 +66,7 @@ module _ {A : Type 0} where
       → tally t xs ≤ 1
   unfolding tally one
   tally-key t k [] ascends-[] h = omega arith
-  tally-key {key} t k (x ∷ xs) (ascends-∷ b bs) h = go (t x) refl (tally-key t k xs bs h)
+  tally-key {key = key} {last = last} t k (x ∷ xs) (ascends-∷ b bs) h = go (t x) refl (tally-key {last = key x} t k xs bs h)
     where
       later : t x ≡ true → (y : A) → Mem y xs → (u : Bool) → t y ≡ u → u ≡ false
       later e y m true f = absurd (before-differs (ascends-above bs m) (h x e ∙ sym (h y f)))

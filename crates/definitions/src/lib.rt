@@ -1,4 +1,6 @@
 // The definitions of attributes read into an array: what a line defines, and its expression in postfix order.
+#![tactic(auto)]
+
 pub mod definitions;
 pub mod ended;
 pub mod expression;

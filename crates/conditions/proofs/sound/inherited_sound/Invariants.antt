@@ -1,0 +1,13 @@
+use Prim.Native.Nat.{◌-◌}
+use Rattle.book.specs.Held.{inherited_at}
+use Rattle.conditions.specs.Asked.{NamedBook}
+use Rattle.conditions.specs.Answers.{Passing}
+use Rattle.conditions.specs.SoundTests.{sound_inherited}
+use Rattle.conditions.proofs.sound.inherited_sound.Given as goal
+
+abbrev pub invariant-loop-i : goal.invariant-loop-i
+invariant-loop-i l = Passing (NamedBook l.book l.inherited l.synthesized l.rules l.definitions)
+    (λ b k. sound_inherited b (inherited_at b.inherited_definitions k)) l.n l.i
+
+abbrev pub decreases-loop-i : goal.decreases-loop-i
+decreases-loop-i l = l.n - l.i

@@ -1,0 +1,10 @@
+use Rattle.console.specs.Printing.{words-turn, words-end}
+use Rattle.console.specs.Output.{putting-turn, putting-end}
+use Rattle.console.proofs.output.put_words.Goals as goal
+
+pub loop-i-preserved : goal.loop-i-preserved
+loop-i-preserved c = putting-turn _ _ _ _ _ c.loop-i.invariant c.loop-i-test.true c.put_word-p.ensures c.put_word-p.auto.out
+    (words-turn _ _ c.loop-i-test.true)
+
+pub returns : goal.returns
+returns c = putting-end _ _ _ _ _ c.loop-i.invariant c.loop-i-test.false (words-end c.args.words.now)

@@ -296,7 +296,7 @@ module _ {b : Book} {definitions rules owned masks : List ℕ} (H : CheckHeld b 
           let leaves = rw next at (H.premises.line_right d l).leaves_read in
           rw is (record {
             stands = inherited-in H.definitions_in d l few;
-            reads = reads-item R.slots-in {b = b} {P = (line_at b d).rule} (dot_of (line_at b d))
+            reads = reads-item R.slots-in b (line_at b d).rule (dot_of (line_at b d))
                 (omega (arith, H.premises.attributes_limit, R.words_long)) leaves;
             room = omega (arith, R.few, count_room, R.table_in.table_long, few);
           })

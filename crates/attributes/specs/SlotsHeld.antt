@@ -27,9 +27,9 @@ module _ {table words : List ℕ} {used : ℕ} {slots : Slots} (S : SlotsIn tabl
   own-reads (suc D) K h = below refl
 
   -- 5: a definition of the symbol after the dot reads the left side and what stands before the dot
-  pub reads-item : {b : Book} {P : ℕ} (D : ℕ) → length b.inherited_owners ≤ length words → {e : Expr} → Leaves (conditions.Reads b P (suc D)) e
+  pub reads-item : (b : Book) (P D : ℕ) → length b.inherited_owners ≤ length words → {e : Expr} → Leaves (conditions.Reads b P (suc D)) e
       → Leaves (Reads table used D words (own_at slots D)) e
-  reads-item {b} {P} D room = leaves_map place-reads
+  reads-item b P D room = leaves_map place-reads
     where
       place-reads : (place : Place) → conditions.Reads b P (suc D) place → Reads table used D words (own_at slots D) place
       place-reads (own K) (h, e) = own-reads D K (omega arith)

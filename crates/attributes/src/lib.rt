@@ -1,4 +1,6 @@
 // The items of partial states, and which inherited attributes' definitions are of them.
+#![tactic(auto)]
+
 pub mod due;
 pub mod masks;
 pub mod owned;

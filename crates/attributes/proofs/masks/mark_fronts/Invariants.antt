@@ -1,0 +1,23 @@
+use Prim.Native.Nat.{ℕ, ◌*◌, ◌-◌, ◌≤◌}
+use mathlib.Core.Path.{◌≡◌, refl}
+use mathlib.Core.List.{List}
+use native.Mathlib.Omega.{arith}
+use lib.ListN.{length}
+use borrow.Author.Rules.{rules}
+use Rattle.grammar.specs.Data.Book.{Book}
+use Rattle.grammar.specs.Automaton.FirstSets.{Sets}
+use Rattle.grammar.specs.Formulas.FormulaCheck as grammar
+use Rattle.items.specs.Arrays.{SuffixesIn, ReachesIn}
+use Rattle.attributes.specs.Checking.{CheckHeld}
+use Rattle.attributes.specs.Marks.{room-kept}
+use Rattle.attributes.specs.MarkFronts.{LooksIn, FrontsMarked, fronts-start}
+use Rattle.attributes.proofs.masks.mark_fronts.Given as goal
+
+abbrev pub invariant-loop-i : goal.invariant-loop-i
+invariant-loop-i l = (l.i ≤ l.lines) × (length l.masks ≡ length l.initial.masks)
+    × ((b : Book) (F : Sets) (R begins owned cleared L : List ℕ) → CheckHeld b l.definitions l.rules owned cleared → LooksIn b.rules l.rules L l.closures l.first
+    → l.lines ≡ grammar.definitions b → SuffixesIn b.rules F l.nullables begins → ReachesIn b.rules F R l.reaches
+    → 9 * length b.rules ≤ length l.initial.masks → FrontsMarked b F R L l.i l.masks)
+
+abbrev pub decreases-loop-i : goal.decreases-loop-i
+decreases-loop-i l = l.lines - l.i

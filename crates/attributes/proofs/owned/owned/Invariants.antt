@@ -1,0 +1,16 @@
+use Prim.Native.Nat.{ℕ, ◌-◌, ◌<◌, ◌≤◌}
+use mathlib.Core.Path.{◌≡◌, sym}
+use mathlib.Core.List.{List}
+use native.Mathlib.Omega.{arith}
+use lib.ListN.{length, get_or}
+use borrow.Author.Rules.{rules}
+use Rattle.grammar.specs.Limits.{MAX_INHERITED}
+use Rattle.book.specs.Held.{OwnersIn}
+use Rattle.attributes.specs.Owned.{OwnedIn, owned-start, owned-turn}
+use Rattle.attributes.proofs.owned.owned.Given as goal
+
+abbrev pub invariant-loop-i : goal.invariant-loop-i
+invariant-loop-i l = (l.i ≤ l.count) × ((os : List ℕ) → OwnersIn MAX_INHERITED os l.owners → length os ≡ l.count → OwnedIn os l.i l.sets)
+
+abbrev pub decreases-loop-i : goal.decreases-loop-i
+decreases-loop-i l = l.count - l.i

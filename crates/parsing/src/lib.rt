@@ -1,4 +1,6 @@
 // A book's text read into arrays: the first line, the sections in order, the last line, and nothing after it (2).
+#![tactic(auto)]
+
 ghost use Rattle.std.specs.Prelude.{◌*◌, ◌≤◌, length};
 ghost use Rattle.text.specs.Reading.{Lent};
 ghost use Rattle.grammar.specs.Limits.{MAX_INHERITED, MAX_SYNTHESIZED};

@@ -34,7 +34,8 @@ items-ascend (k ∷ ks) (ascends-∷ b a) low zero zero h l = omega arith
 items-ascend (k ∷ ks) (ascends-∷ b a) low zero (suc j) h l =
     lines-items k (get_or ks j no_definition) (ascends-above a (at-member ks j _ (omega arith))) (low zero (omega arith)).1 (low (suc j) l).0
 items-ascend (k ∷ ks) (ascends-∷ b a) low (suc i) zero h l = absurd (omega arith)
-items-ascend (k ∷ ks) (ascends-∷ b a) low (suc i) (suc j) h l = items-ascend ks a (λ d m. low (suc d) (omega arith)) i j (omega arith) (omega arith)
+items-ascend (k ∷ ks) (ascends-∷ b a) low (suc i) (suc j) h l =
+    items-ascend {last = inherited_key k} ks a (λ d m. low (suc d) (omega arith)) i j (omega arith) (omega arith)
 
 -- their items ascend
 pub lines-ascend : {b : Book} {definitions rules owned masks : List ℕ} → Ordered b → CheckHeld b definitions rules owned masks → (i j : ℕ) → i ≤ j

@@ -1,4 +1,6 @@
 // The plan of a partial state: which definitions set the top cell, and in what order.
+#![tactic(auto)]
+
 pub mod members;
 pub mod memory;
 pub mod planning;

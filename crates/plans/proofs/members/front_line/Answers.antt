@@ -1,0 +1,18 @@
+use Prim.Native.Nat.{◌<◌}
+use native.Mathlib.Omega.{arith}
+use mathlib.Core.Path.{◌≡◌, sym, ap, ◌∙◌}
+use lib.ListN.{length}
+use borrow.Author.Rules.{rules}
+use borrow.Author.Tests.{not-true, not-false}
+use Rattle.sets.specs.Sets.{bit}
+use Rattle.grammar.specs.Formulas.FormulaCheck.{dot_of, line_at}
+use Rattle.attributes.specs.CheckingLaws.{rule_there, rule-word, position-word, position_low}
+use Rattle.attributes.specs.MarkFronts.{front_word, front-behind, front-first}
+use Rattle.plans.specs.Found.{no-bit, fronts-less, fronts-more}
+use Rattle.plans.proofs.members.front_line.Goals as goal
+
+pub returns-then-word-ne1 : goal.returns-then-word-ne1
+returns-then-word-ne1 c = λ b F R begins owned masks L C H l N T M.
+    fronts-less b F R _ M (omega (arith, l, C.premises.definitions_limit))
+    (no-bit c.args.terminal
+    (front-behind b.rules F R L _ _ (λ z. c.if-word-ne1.true (omega (arith, c.word.ensures, position-word C l, position_low C l)))))

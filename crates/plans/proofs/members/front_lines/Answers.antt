@@ -1,0 +1,33 @@
+use Prim.Native.Nat.{ℕ, ◌-◌, ◌≤◌}
+use mathlib.Core.Path.{◌≡◌, refl}
+use mathlib.Core.List.{List}
+use native.Mathlib.Omega.{arith}
+use lib.ListN.{length}
+use borrow.Author.Rules.{rules}
+use Rattle.grammar.specs.Data.Book.{Book}
+use Rattle.grammar.specs.Automaton.FirstSets.{Sets}
+use Rattle.grammar.specs.Formulas.FormulaCheck as grammar
+use Rattle.items.specs.Arrays.{SuffixesIn, ReachesIn}
+use Rattle.attributes.specs.Checking.{CheckHeld}
+use Rattle.attributes.specs.MarkFronts.{LooksIn}
+use Rattle.plans.specs.Found.{FrontsFound, fronts-free}
+use Rattle.plans.proofs.members.front_lines.Goals as goal
+
+pub returns-then-front_free : goal.returns-then-front_free
+returns-then-front_free c = λ b F R begins owned masks L C H e N T P M.
+    fronts-free b F R _ C H P (c.front_free.ensures c.if-front_free.true) (λ i. (c.shared_slice_known-3-1.given i).fits) e M
+
+pub loop-i-preserved : goal.loop-i-preserved
+loop-i-preserved c = let at = c.loop-i in (
+  omega (arith, c.loop-i-test.true),
+  search rules,
+  λ b F R begins owned masks L C H e N T M.
+      c.front_line.ensures b F R begins owned masks L C H (omega (arith, c.loop-i-test.true, e)) N T
+      (at.invariant.2 b F R begins owned masks L C H e N T M),
+)
+
+pub returns : goal.returns
+returns c = λ b F R begins owned masks L C H e N T P M.
+    let at = c.loop-i in
+    let end : at.i ≡ c.args.lines = omega (arith, at.invariant.0, c.loop-i-test.false) in
+    rw end at (at.invariant.2 b F R begins owned masks L C H e N T M)

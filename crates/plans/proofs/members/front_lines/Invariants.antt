@@ -1,0 +1,23 @@
+use Prim.Native.Nat.{ℕ, ◌-◌, ◌≤◌}
+use mathlib.Core.Path.{◌≡◌, refl}
+use mathlib.Core.List.{List}
+use native.Mathlib.Omega.{arith}
+use lib.ListN.{length}
+use borrow.Author.Rules.{rules}
+use Rattle.grammar.specs.Data.Book.{Book}
+use Rattle.grammar.specs.Automaton.FirstSets.{Sets}
+use Rattle.grammar.specs.Formulas.FormulaCheck as grammar
+use Rattle.items.specs.Arrays.{SuffixesIn, ReachesIn}
+use Rattle.attributes.specs.Checking.{CheckHeld}
+use Rattle.attributes.specs.MarkFronts.{LooksIn}
+use Rattle.plans.specs.Found.{FrontsFound, fronts-free}
+use Rattle.plans.proofs.members.front_lines.Given as goal
+
+abbrev pub invariant-loop-i : goal.invariant-loop-i
+invariant-loop-i l = (l.i ≤ l.lines) × (length l.found ≡ length l.initial.found)
+    × ((b : Book) (F : Sets) (R begins owned masks L : List ℕ) → CheckHeld b l.definitions l.rules owned masks → LooksIn b.rules l.rules L l.closures l.first
+    → l.lines ≡ grammar.definitions b → SuffixesIn b.rules F l.nullables begins → ReachesIn b.rules F R l.reaches
+    → FrontsFound b F R l.terminal L 0 l.initial.found → FrontsFound b F R l.terminal L l.i l.found)
+
+abbrev pub decreases-loop-i : goal.decreases-loop-i
+decreases-loop-i l = l.lines - l.i

@@ -1,0 +1,28 @@
+use Prim.Native.Nat.{ℕ, ◌≤◌}
+use mathlib.Core.Path.{◌≡◌, refl}
+use mathlib.Core.List.{List, ◌++◌}
+use native.Mathlib.Omega.{arith}
+use lib.ListN.{length}
+use lib.Seq.{slice}
+use borrow.Author.Rules.{rules}
+use Rattle.grammar.specs.Data.Book.{Book}
+use Rattle.grammar.specs.Format.Ordered.{Ordered}
+use Rattle.grammar.specs.Automaton.FirstSets.{Sets}
+use Rattle.grammar.specs.Automaton.CoreItems.{Core, of_kernels}
+use Rattle.grammar.specs.Formulas.FormulaCheck as grammar
+use Rattle.items.specs.Arrays.{SuffixesIn, ReachesIn}
+use Rattle.attributes.specs.Checking.{CheckHeld}
+use Rattle.attributes.specs.MarkLines.{ItemLinesIn}
+use Rattle.plans.specs.Places.{PlacesIn}
+use Rattle.plans.specs.Found.{FoundIn, found-start, found_turn}
+use Rattle.plans.proofs.members.kernel_lines.Given as goal
+
+abbrev pub invariant-loop-i : goal.invariant-loop-i
+invariant-loop-i l = (l.from ≤ l.i) × (l.i ≤ l.to) × (length l.found ≡ length l.initial.found)
+    × ((b : Book) (F : Sets) (R begins rules owned masks : List ℕ) (items : List Core) → Ordered b → CheckHeld b l.definitions rules owned masks
+    → l.lines ≡ grammar.definitions b → ItemLinesIn b l.kernels → l.to ≤ length b.kernels → SuffixesIn b.rules F l.nullables begins
+    → ReachesIn b.rules F R l.reaches → PlacesIn b 0 l.places → FoundIn b F R l.terminal items l.initial.found
+    → FoundIn b F R l.terminal (of_kernels (slice l.i l.to b.kernels) ++ items) l.found)
+
+abbrev pub decreases-loop-i : goal.decreases-loop-i
+decreases-loop-i l = l.i

@@ -1,0 +1,15 @@
+use Prim.Native.Nat.{◌-◌, ◌≤◌, ◌<◌}
+use native.Mathlib.Omega.{arith}
+use lib.ListN.{length, length-set}
+use borrow.Author.Rules.{rules}
+use Rattle.attributes.specs.CheckingLaws.{rule_there, rule_low, rule_place, position_high, left_below}
+use Rattle.plans.specs.Places.{places_behind, places-front}
+use Rattle.plans.proofs.members.mark_place.Goals as goal
+
+pub returns-then-position-ne1 : goal.returns-then-position-ne1
+returns-then-position-ne1 c = λ b owned masks H l L.
+    places_behind H l _ L c.word-rule.ensures c.word-position.ensures c.if-position-ne1.true
+
+pub returns : goal.returns
+returns c = λ b owned masks H l L.
+    places-front H l _ L c.word-rule.ensures c.word-position.ensures c.word-left.ensures

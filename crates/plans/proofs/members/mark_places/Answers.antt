@@ -1,0 +1,20 @@
+use Prim.Native.Nat.{ℕ, ◌+◌, ◌*◌, ◌-◌, ◌≤◌}
+use mathlib.Core.Path.{◌≡◌, refl}
+use mathlib.Core.List.{List}
+use native.Mathlib.Omega.{arith}
+use lib.ListN.{length, get_or}
+use borrow.Author.Rules.{rules}
+use Rattle.grammar.specs.Data.Book.{Book}
+use Rattle.grammar.specs.Formulas.FormulaCheck as grammar
+use Rattle.attributes.specs.Checking.{CheckHeld}
+use Rattle.plans.specs.Places.{PlacesIn, places-none}
+use Rattle.plans.proofs.members.mark_places.Goals as goal
+
+pub loop-i-preserved : goal.loop-i-preserved
+loop-i-preserved c = let at = c.loop-i in (
+  omega (arith, at.invariant.0),
+  search rules,
+  λ b owned masks H e m z.
+      let up : at.i - 1 + 1 ≡ at.i = omega (arith, c.loop-i-test.true) in
+      c.mark_place.ensures b owned masks H (omega (arith, c.loop-i-test.true, at.invariant.0, e)) (rw up (at.invariant.2 b owned masks H e m z)),
+)

@@ -1,0 +1,19 @@
+use Prim.Native.Nat.{ℕ, ◌+◌, ◌*◌, ◌-◌, ◌≤◌}
+use mathlib.Core.Path.{◌≡◌, refl}
+use mathlib.Core.List.{List}
+use native.Mathlib.Omega.{arith}
+use lib.ListN.{length, get_or}
+use borrow.Author.Rules.{rules}
+use Rattle.grammar.specs.Data.Book.{Book}
+use Rattle.grammar.specs.Formulas.FormulaCheck as grammar
+use Rattle.attributes.specs.Checking.{CheckHeld}
+use Rattle.plans.specs.Places.{PlacesIn, places-none}
+use Rattle.plans.proofs.members.mark_places.Given as goal
+
+abbrev pub invariant-loop-i : goal.invariant-loop-i
+invariant-loop-i l = (l.i ≤ l.lines) × (length l.places ≡ length l.initial.places)
+    × ((b : Book) (owned masks : List ℕ) → CheckHeld b l.definitions l.rules owned masks → l.lines ≡ grammar.definitions b
+    → 32 + 9 * length b.rules ≤ length l.initial.places → ((k : ℕ) → get_or l.initial.places k 0 ≡ 0) → PlacesIn b l.i l.places)
+
+abbrev pub decreases-loop-i : goal.decreases-loop-i
+decreases-loop-i l = l.i

@@ -1,0 +1,26 @@
+use Prim.Native.Nat.{◌+◌, ◌*◌}
+use native.Mathlib.Omega.{arith}
+use mathlib.Core.Path.{refl}
+use borrow.Author.Rules.{rules}
+use Rattle.attributes.specs.FormulasHeld as FormulasHeld
+use Rattle.plans.specs.PlansLaws.{plan-empty}
+use Rattle.plans.specs.MemoryLaws.{plans-check, told-known, told-empty}
+use Rattle.plans.proofs.memory.planned.Goals as goal
+
+pub returns-then-known-ne0 : goal.returns-then-known-ne0
+returns-then-known-ne0 c = λ b H s M. told-known c.requires.1 M s c.if-known-ne0.true
+
+pub returns-then-found-eq0 : goal.returns-then-found-eq0
+returns-then-found-eq0 c = λ b H l M.
+    let F = H.formulas_held in
+    told-empty c.requires.1 M l
+    (plan-empty F.ordered (FormulasHeld.limits F) (FormulasHeld.declared F) c.args.state c.args.terminal (c.members.ensures b _ H l)
+    (plans-check H).premises.definitions_limit c.if-found-eq0.true)
+
+pub plan_next-requires : goal.plan_next-requires
+plan_next-requires c = let (b, H, l, M) = c.requires.0 in
+    ((b, _, plans-check H, c.members.ensures b _ H l, l, M), omega (arith, l, (FormulasHeld.limits H.formulas_held).states_limit.high), c.requires.1)
+
+pub returns : goal.returns
+returns c = λ b H l M.
+    c.plan_next.ensures b _ (plans-check H) (c.members.ensures b _ H l) l M

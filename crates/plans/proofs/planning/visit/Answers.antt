@@ -1,0 +1,50 @@
+use mathlib.Core.Path.{ap}
+use mathlib.Core.Bool.{not}
+use Prim.Native.Nat.{◌<◌}
+use mathlib.Core.Path.{sym, ◌∙◌}
+use native.Mathlib.Omega.{arith}
+use borrow.Author.Rules.{rules}
+use Rattle.grammar.specs.Limits.{MAX_INHERITED}
+use Rattle.attributes.specs.CheckingLaws.{attribute_low}
+use Rattle.plans.specs.Planning.{known_of}
+use Rattle.plans.specs.PlanRowsLaws.{elsewhere-same, elsewhere-set, known-set, visit-set, visit-waits, count_low, visit-sets}
+use Rattle.plans.proofs.planning.visit.Goals as goal
+
+pub returns-then-has : goal.returns-then-has
+returns-then-has c = (λ b member masks s H l own R. visit-set H l s R (sym c.has.ensures ∙ c.if-has.true), elsewhere-same)
+
+pub returns-then-not-ready : goal.returns-then-not-ready
+returns-then-not-ready c = (
+  λ b member masks s H l own R. visit-waits H l own s R (c.ready.ensures b masks (known_of s) H l (known-set s R)) (ap not c.if-not-ready.true),
+  elsewhere-same,
+)
+
+pub overflow_add-row : goal.overflow_add-row
+overflow_add-row c =
+    let room : c.args.p.count < MAX_INHERITED = let g = c.requires in
+    count_low g.4 g.5 g.3 g.7 (sym c.has.ensures ∙ c.if-has.false) in
+    omega (arith, room, c.requires.7.room)
+
+pub bounds-row-from : goal.bounds-row-from
+bounds-row-from c =
+    let room : c.args.p.count < MAX_INHERITED = let g = c.requires in
+    count_low g.4 g.5 g.3 g.7 (sym c.has.ensures ∙ c.if-has.false) in
+    omega (arith, room, c.requires.7.room)
+
+pub overflow_add-result : goal.overflow_add-result
+overflow_add-result c =
+    let room : c.args.p.count < MAX_INHERITED = let g = c.requires in
+    count_low g.4 g.5 g.3 g.7 (sym c.has.ensures ∙ c.if-has.false) in
+    omega (arith, room)
+
+pub returns : goal.returns
+returns c =
+    let room : c.args.p.count < MAX_INHERITED = let g = c.requires in
+    count_low g.4 g.5 g.3 g.7 (sym c.has.ensures ∙ c.if-has.false) in
+    (
+      λ b member masks s H l own R.
+          rw c.with.ensures
+          (visit-sets H l own s R (sym c.has.ensures ∙ c.if-has.false)
+          (c.ready.ensures b masks (known_of s) H l (known-set s R)) (ap not c.if-not-ready.false)),
+      elsewhere-set _ _ _ _ _ (omega arith) (omega (arith, room)),
+    )

@@ -1,4 +1,6 @@
 // One formula for each inherited attribute in each partial state (10).
+#![tactic(auto)]
+
 pub mod alike;
 pub mod check;
 pub mod givers;

@@ -1,0 +1,19 @@
+use Prim.Native.Nat.{ℕ, ◌-◌, ◌≤◌}
+use mathlib.Core.Path.{◌≡◌, sym, ◌∙◌}
+use mathlib.Core.List.{List}
+use native.Mathlib.Omega.{arith}
+use borrow.Author.Rules.{rules}
+use borrow.Author.Tests.{not-true}
+use Rattle.sets.specs.Sets.{bit}
+use Rattle.grammar.specs.Data.Book.{Book}
+use Rattle.grammar.specs.Formulas.FormulaCheck as grammar
+use Rattle.attributes.specs.Checking.{CheckHeld}
+use Rattle.agreement.specs.Alike.{Untold, untold-start, untold-turn}
+use Rattle.agreement.proofs.alike.alike.Given as goal
+
+abbrev pub invariant-loop-i : goal.invariant-loop-i
+invariant-loop-i l = (l.i ≤ l.lines) × ((b : Book) (rules owned : List ℕ) → CheckHeld b l.definitions rules owned l.masks → l.lines ≡ grammar.definitions b
+    → Untold b l.masks l.terminal l.apart l.i)
+
+abbrev pub decreases-loop-i : goal.decreases-loop-i
+decreases-loop-i l = l.lines - l.i

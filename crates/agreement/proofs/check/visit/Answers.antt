@@ -1,0 +1,51 @@
+use mathlib.Core.Path.{ap}
+use mathlib.Core.Bool.{not}
+use mathlib.Core.Path.{◌≡◌, refl}
+use mathlib.Core.Bool.{true}
+use native.Mathlib.Omega.{arith}
+use lib.ListN.{get_or, set}
+use borrow.Author.Rules.{rules}
+use Rattle.grammar.specs.Formulas.Slots.{own_at}
+use Rattle.grammar.specs.Formulas.FormulaCheck.{dot_of, formula_of, line_at}
+use Rattle.attributes.specs.CheckingLaws.{ position_low, attribute_low, line_low, visit-done, visit-undue, visit-enters, count_low, asked-line, formed-means, formed-low, formed-progress, }
+use Rattle.agreement.proofs.check.visit.Goals as goal
+
+pub returns-then-done-line-ne0 : goal.returns-then-done-line-ne0
+returns-then-done-line-ne0 c = λ b s d H l R.
+    visit-done H l R c.if-done-line-ne0.true c.requires.1 _
+
+pub returns-then-not-due : goal.returns-then-not-due
+returns-then-not-due c = λ b s d H l R.
+    visit-undue H l R _ (c.due.ensures b s H l R.known_in) (ap not c.if-not-due.true)
+    c.requires.1
+
+pub formula_of-r-requires : goal.formula_of-r-requires
+formula_of-r-requires c =
+    let mark : get_or c.args.done.now c.args.line 0 ≡ 0 = c.if-done-line-ne0.false in
+    let line = line_at c.requires.0.0 c.args.line in
+    let R = c.requires.0.5 in
+    record { table = R.table_in; by_index = (line.expression, own_at c.requires.0.1 (dot_of line), asked-line c.requires.0.3 c.requires.0.4 R (mark) c.requires.2 refl) }
+
+pub overflow_add-p : goal.overflow_add-p
+overflow_add-p c =
+    let mark : get_or c.args.done.now c.args.line 0 ≡ 0 = c.if-done-line-ne0.false in
+    omega (arith, count_low c.requires.0.3 c.requires.0.4 c.requires.0.5 (mark))
+
+pub enter-requires : goal.enter-requires
+enter-requires c =
+    let mark : get_or c.args.done.now c.args.line 0 ≡ 0 = c.if-done-line-ne0.false in
+    let H = c.requires.0.3 in
+    let l = c.requires.0.4 in
+    let R = c.requires.0.5 in
+    let F = c.formula_of-r.ensures _ _ (asked-line H l R (mark) c.requires.2 refl) in
+    (attribute_low H l, R.words_long, formed-low H l R (mark) c.requires.2 refl F)
+
+pub returns : goal.returns
+returns c =
+    let mark : get_or c.args.done.now c.args.line 0 ≡ 0 = c.if-done-line-ne0.false in
+    λ b s d H l R.
+    let room = c.requires.2 in
+    let F = c.formula_of-r.ensures _ _ (asked-line H l R (mark) room refl) in
+    rw (visit-enters H l R (mark) c.args.wanted (c.due.ensures b s H l R.known_in) (ap not c.if-not-due.false))
+    (c.enter.ensures s (set d c.args.line true) _ _ _ _ (formula_of s (line_at b c.args.line))
+    (formed-progress H l R (mark) room refl F) (formed-means H l R (mark) room refl F))

@@ -1,0 +1,19 @@
+use Prim.Native.Nat.{ℕ, ◌*◌, ◌-◌, ◌≤◌}
+use mathlib.Core.Path.{◌≡◌, refl}
+use mathlib.Core.List.{List}
+use native.Mathlib.Omega.{arith}
+use lib.ListN.{length}
+use borrow.Author.Rules.{rules}
+use Rattle.grammar.specs.Data.Book.{Book}
+use Rattle.grammar.specs.Formulas.FormulaCheck as grammar
+use Rattle.attributes.specs.Checking.{CheckHeld}
+use Rattle.agreement.specs.Given.{GivenIn, given-none}
+use Rattle.agreement.proofs.givers.mark_givers.Given as goal
+
+abbrev pub invariant-loop-i : goal.invariant-loop-i
+invariant-loop-i l = (l.i ≤ l.lines) × (length l.given ≡ length l.initial.given)
+    × ((b : Book) (rules owned masks : List ℕ) → CheckHeld b l.definitions rules owned masks → l.lines ≡ grammar.definitions b
+    → 9 * length b.rules ≤ length l.initial.given → GivenIn b l.i l.given l.leaders)
+
+abbrev pub decreases-loop-i : goal.decreases-loop-i
+decreases-loop-i l = l.lines - l.i

@@ -1,0 +1,41 @@
+use mathlib.Core.Path.{ap}
+use mathlib.Core.Bool.{not}
+use Prim.Native.Nat.{ℕ, ◌-◌, ◌≤◌}
+use mathlib.Core.Path.{◌≡◌, refl, sym}
+use mathlib.Core.Bool.{true}
+use mathlib.Core.List.{List}
+use native.Mathlib.Omega.{arith}
+use lib.ListN.{length}
+use borrow.Author.Rules.{rules}
+use Rattle.grammar.specs.Conditions.Decides.{all_below}
+use Rattle.grammar.specs.Data.Book.{Book}
+use Rattle.grammar.specs.Formulas.Slots.{attributes}
+use Rattle.grammar.specs.Formulas.FormulaCheck as grammar
+use Rattle.attributes.specs.Owned.{OwnedIn}
+use Rattle.agreement.specs.Given.{GivenIn}
+use Rattle.agreement.specs.CheckLaws.{room-kept, all_start, all-turn, one-fails}
+use Rattle.attributes.specs.FormulasHeld.{states-low}
+use Rattle.agreement.specs.OneFormula.{FrontsHeld, state_right}
+use Rattle.agreement.proofs.one_formula.states_right.Goals as goal
+
+pub loop-state-init : goal.loop-state-init
+loop-state-init c = (omega arith, refl, refl, refl, refl, refl, refl, λ b begins H O L. all_start _)
+
+pub returns-then-not-state_right : goal.returns-then-not-state_right
+returns-then-not-state_right c = λ b begins H O L.
+    one-fails (state_right b) c.loop-state.state _ (omega (arith, c.loop-state-test.true, H.formulas_held.states_are))
+    (c.state_right.ensures b begins c.args.states H O L c.loop-state-test.true) (ap not c.if-not-state_right.true)
+
+pub loop-state-preserved : goal.loop-state-preserved
+loop-state-preserved c = (
+      omega (arith, c.loop-state-test.true),
+      search rules,
+      search rules,
+      search rules,
+      search rules,
+      search rules,
+      search rules,
+      λ b begins H O L.
+          all-turn (state_right b) c.loop-state.state (c.loop-state.invariant.7 b begins H O L)
+          (c.state_right.ensures b begins c.args.states H O L c.loop-state-test.true) (ap not c.if-not-state_right.false),
+    )

@@ -1,0 +1,56 @@
+use Prim.Native.Nat.{◌+◌, ◌-◌, ◌<◌}
+use mathlib.Core.Path.{refl}
+use native.Mathlib.Omega.{arith}
+use lib.Bits.{bit_and}
+use lib.ListN.{length, get_or}
+use borrow.Author.Rules.{rules}
+use Rattle.grammar.specs.Automaton.TestLaws.{true-false}
+use Rattle.agreement.specs.SingleState.{Walk, and_first, walk_first, walk-last, walk-there, walk_more}
+use Rattle.agreement.proofs.single.fronts_apart.Goals as goal
+
+pub overflow_add-rule : goal.overflow_add-rule
+overflow_add-rule c =
+    let within : c.loop-rest.rule + c.least-gap.result < length c.requires.0.rules = let g = c.requires in
+    g.4.low _ _ g.5 (and_first _ _ _ (walk-there c.loop-rest.invariant c.least-gap.ensures)) in
+    let there : c.loop-rest.rule + c.least-gap.result < 64 = omega (arith, within, c.requires.3.fits) in
+    omega (arith, there)
+
+pub overflow_mul-here : goal.overflow_mul-here
+overflow_mul-here c =
+    let within : c.loop-rest.rule + c.least-gap.result < length c.requires.0.rules = let g = c.requires in
+    g.4.low _ _ g.5 (and_first _ _ _ (walk-there c.loop-rest.invariant c.least-gap.ensures)) in
+    let there : c.loop-rest.rule + c.least-gap.result < 64 = omega (arith, within, c.requires.3.fits) in
+    omega (arith, there)
+
+pub offset_bounds-given-rule : goal.offset_bounds-given-rule
+offset_bounds-given-rule c =
+    let within : c.loop-rest.rule + c.least-gap.result < length c.requires.0.rules = let g = c.requires in
+    g.4.low _ _ g.5 (and_first _ _ _ (walk-there c.loop-rest.invariant c.least-gap.ensures)) in
+    let there : c.loop-rest.rule + c.least-gap.result < 64 = omega (arith, within, c.requires.3.fits) in
+    omega (arith, there)
+
+pub bounds-given-rule : goal.bounds-given-rule
+bounds-given-rule c =
+    let within : c.loop-rest.rule + c.least-gap.result < length c.requires.0.rules = let g = c.requires in
+    g.4.low _ _ g.5 (and_first _ _ _ (walk-there c.loop-rest.invariant c.least-gap.ensures)) in
+    omega (arith, within, c.requires.6)
+
+pub overflow_add-rule-in-loop-rest : goal.overflow_add-rule-in-loop-rest
+overflow_add-rule-in-loop-rest c =
+    let within : c.loop-rest.rule + c.least-gap.result < length c.requires.0.rules = let g = c.requires in
+    g.4.low _ _ g.5 (and_first _ _ _ (walk-there c.loop-rest.invariant c.least-gap.ensures)) in
+    let there : c.loop-rest.rule + c.least-gap.result < 64 = omega (arith, within, c.requires.3.fits) in
+    omega (arith, there)
+
+pub loop-rest-smaller : goal.loop-rest-smaller
+loop-rest-smaller c =
+    let within : c.loop-rest.rule + c.least-gap.result < length c.requires.0.rules = let g = c.requires in
+    g.4.low _ _ g.5 (and_first _ _ _ (walk-there c.loop-rest.invariant c.least-gap.ensures)) in
+    let there : c.loop-rest.rule + c.least-gap.result < 64 = omega (arith, within, c.requires.3.fits) in
+    omega (arith, there)
+
+pub loop-rest-preserved : goal.loop-rest-preserved
+loop-rest-preserved c = walk_more c.loop-rest.invariant c.least-gap.ensures c.behind-rest.ensures refl c.if-bits-here-ne0.false
+
+pub returns : goal.returns
+returns c = λ e. walk-last c.loop-rest.invariant c.loop-rest-test.false

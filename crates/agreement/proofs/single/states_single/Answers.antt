@@ -1,0 +1,28 @@
+use Prim.Native.Nat.{ℕ, ◌-◌, ◌<◌, ◌≤◌}
+use mathlib.Core.Path.{◌≡◌, refl}
+use mathlib.Core.List.{List}
+use native.Mathlib.Omega.{arith}
+use borrow.Author.Tests.{not-false}
+use borrow.Author.Rules.{rules}
+use Rattle.sets.specs.Bits.{below_suc}
+use Rattle.grammar.specs.Data.Book.{Book}
+use Rattle.grammar.specs.Format.Ordered.{Ordered}
+use Rattle.grammar.specs.Automaton.FirstSets.{sets_of}
+use Rattle.grammar.specs.Automaton.TestLaws.{true-false}
+use Rattle.grammar.specs.Formulas.FormulaCheck as grammar
+use Rattle.automaton.specs.StatesIn.{ItemsIn}
+use Rattle.automaton.specs.Fronts.{FrontsIn}
+use Rattle.agreement.specs.Given.{GivenIn}
+use Rattle.agreement.specs.SingleState.{Single}
+use Rattle.agreement.proofs.single.states_single.Goals as goal
+
+pub loop-state-preserved : goal.loop-state-preserved
+loop-state-preserved c = let at = c.loop-state in (
+  omega (arith, c.loop-state-test.true),
+  λ b rules closures o I W G e S l.
+      below_suc (Single b) at.state S (omega arith) (at.invariant.1 b rules closures o I W G e S)
+      (c.single.ensures c.if-not-single.false b rules closures o I W G (omega (arith, c.loop-state-test.true, e))),
+)
+
+pub returns : goal.returns
+returns c = λ _ b rules closures o I W G e S l. c.loop-state.invariant.1 b rules closures o I W G e S (omega (arith, c.loop-state-test.false, e))

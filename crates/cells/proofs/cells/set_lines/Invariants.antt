@@ -1,0 +1,12 @@
+use Rattle.std.proofs.Common.{◌≡◌, ℕ, ◌+◌, ◌-◌, List, length, get_or, refl, ap, ◌∙◌, arith, rules}
+use Rattle.grammar.specs.Data.Book.{Book}
+use Rattle.cells.specs.Cells.{LineAsked, PlanAsked, line_set}
+use Rattle.cells.specs.CellsLaws.{SettingLines, setting-start, setting-end, setting-turn}
+use Rattle.cells.proofs.cells.set_lines.Given as goal
+
+abbrev pub invariant-loop-i : goal.invariant-loop-i
+invariant-loop-i l = ((b : Book) (lines : List ℕ) → PlanAsked b l.definitions l.plan l.from l.count l.height lines → SettingLines b l.synthesized l.height lines l.initial.inherited l.inherited l.i)
+    × (length l.inherited ≡ length l.initial.inherited)
+
+abbrev pub decreases-loop-i : goal.decreases-loop-i
+decreases-loop-i l = l.count - l.i

@@ -1,0 +1,10 @@
+use mathlib.Core.Path.{sym, ◌∙◌}
+use borrow.Author.Rules.{rules}
+use Rattle.compiler.specs.Conditions.{refused-declared, refused-undeclared}
+use Rattle.compiler.proofs.compile.definitions_refused.Goals as goal
+
+pub returns-then-definitions_declared : goal.returns-then-definitions_declared
+returns-then-definitions_declared c = λ b h. sym (refused-declared b (sym (c.definitions_declared.ensures.for_all b h) ∙ c.if-definitions_declared.true))
+
+pub returns : goal.returns
+returns c = λ b h. sym (refused-undeclared b (sym (c.definitions_declared.ensures.for_all b h) ∙ c.if-definitions_declared.false))

@@ -4,7 +4,7 @@ use Rattle.std.proofs.Common.{arith, sym, ap, ◌∙◌, inl, inr}
 use Rattle.std.proofs.Math.Decide.{ℕ_discrete}
 use Rattle.std.proofs.lemmas.Bool.{not-false}
 use Rattle.sets.specs.Sets.{bit, empty, union}
-use Rattle.sets.specs.SetsLaws.{bit-empty, union_left, union_right, union-either}
+use Rattle.sets.proofs.SetsLaws.{bit-empty, union_left, union_right, union-either}
 use Rattle.grammar.specs.Automaton.TestLaws.{true-false}
 use Rattle.grammar.specs.Data.Book.{Book}
 use Rattle.grammar.specs.Formulas.FormulaCheck as grammar

@@ -9,7 +9,7 @@ use Rattle.std.proofs.Math.Option.{Option, none, some}
 use Rattle.std.proofs.Math.Decide.{ℕ_discrete}
 use Rattle.std.proofs.Math.ListN.{get_or}
 use Rattle.sets.specs.Sets.{bit, with, subset, meets}
-use Rattle.sets.specs.SetsLaws.{bit-with, with-self}
+use Rattle.sets.proofs.SetsLaws.{bit-with, with-self}
 use Rattle.grammar.specs.Limits.{MAX_DEFINITIONS, MAX_NODES}
 use Rattle.grammar.specs.Automaton.TestLaws.{true-false}
 use Rattle.grammar.specs.Data.Symbol.{left_of}

@@ -2,8 +2,8 @@
 use Rattle.std.specs.Prelude.{ℕ, zero, suc, ◌<◌, ◌≡◌, refl, Bool, true, false, List}
 use Rattle.std.proofs.Common.{arith, sym, ◌∙◌, eqb-true, eq-eqb}
 use Rattle.sets.specs.Sets.{bit, single, meets}
-use Rattle.sets.specs.SetsLaws.{bit-single, meets-holds, meets-true}
-use Rattle.sets.specs.Operations.{full, bit-full}
+use Rattle.sets.proofs.SetsLaws.{bit-single, meets-holds, meets-true}
+use Rattle.sets.proofs.Operations.{full, bit-full}
 use Rattle.grammar.specs.Conditions.Decides.{all_below}
 use Rattle.grammar.specs.Data.Book.{Book}
 use Rattle.grammar.specs.Formulas.FormulaCheck.{check}

@@ -11,7 +11,7 @@ use Rattle.text.specs.Rest.{Rest, lost, left, rest, mark}
 use Rattle.text.specs.RestLaws.{left_is, rest_in, rest_at, rest_out}
 use Rattle.text.specs.Numeral.{decimal, word_of}
 use Rattle.text.specs.Reading.{Reads}
-use Rattle.sets.specs.Operations.{same_truth}
+use Rattle.sets.proofs.Operations.{same_truth}
 use Rattle.grammar.specs.Automaton.LeastLaws.{same_sets-still, same_sets-self}
 use Rattle.grammar.specs.Format.Printer.{Printer, ◌·◌, bytes, literal, numeral}
 use Rattle.grammar.specs.Format.Ordered.{Fits}

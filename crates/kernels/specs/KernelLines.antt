@@ -9,7 +9,7 @@ use Rattle.text.specs.RestLaws.{rest_out, must-true, must-false}
 use Rattle.text.specs.Numeral.{decimal, value, past, word_of}
 use Rattle.text.specs.Reading.{Reads}
 use Rattle.sets.specs.Sets.{bit, with}
-use Rattle.sets.specs.SetsLaws.{bit-with, with-lt, same_set}
+use Rattle.sets.proofs.SetsLaws.{bit-with, with-lt, same_set}
 use Rattle.grammar.specs.Automaton.ClosureSets.{set_of}
 use Rattle.grammar.specs.Format.Ordered.{kernel_key, lookahead_key}
 use Rattle.grammar.specs.Format.Reader.{Parsed, result, remaining, opening, closing, naming}

@@ -8,7 +8,7 @@ use mathlib.Core.List.Memᴰ.{tail as in_Tail}
 use mathlib.Core.List.{List, ◌∷◌, ◌++◌, Memᴰ as Mem}
 use Rattle.std.proofs.Math.Seq.{slice}
 use Rattle.sets.specs.Sets.{bit, empty}
-use Rattle.sets.specs.SetsLaws.{bit-empty}
+use Rattle.sets.proofs.SetsLaws.{bit-empty}
 use Rattle.grammar.specs.Conditions.Decides.{Decides, decides-same}
 use Rattle.grammar.specs.Data.Symbol.{left_of, after}
 use Rattle.grammar.specs.Data.Book.{Book, Kernel}

@@ -9,7 +9,7 @@ use borrow.Author.Tests.{ne_eqb, not-true, not-false}
 use Rattle.std.proofs.Math.ListN.{get_or, length-set, get_or-append}
 use Rattle.std.proofs.Math.Seq.{get_or-append_seam}
 use Rattle.sets.specs.Sets.{bit, with}
-use Rattle.sets.specs.SetsLaws.{bit-with, with-self}
+use Rattle.sets.proofs.SetsLaws.{bit-with, with-self}
 use Rattle.grammar.specs.Limits.{MAX_INHERITED}
 use Rattle.grammar.specs.Automaton.TestLaws.{true-false}
 use Rattle.grammar.specs.Data.Book.{Book}

@@ -58,7 +58,7 @@ module _ {b : Book} {definitions inherited synthesized : List ℕ} {state height
       let d : ℕ = get_or (plan_of b state a) i 0 in
       let L = plan-line b (partial_items b state a) i l in
       let (c, (closure, reaches)) = (partial-tells A.spelled A.sound state a (line_at b d).rule (dot_of (line_at b d))).sound L.item_in in
-      line_asked A.sound A.definitions_in (length st) d L.Line-Low
+      line_asked A.sound A.definitions_in (length st) d L.line_low
       (deep b (tables_of b) (premises A.spelled A.sound) A.path (dot_of (line_at b d)) closure)
 
   pub top-asked : {lists : List ℕ} {from n : ℕ} → PlanRow (plan_of b state a) lists from n → PlanAsked b definitions lists from n height (plan_of b state a)

@@ -1,4 +1,6 @@
 // The stack evaluator (01, "The stack evaluator") over arrays.
+#![tactic(auto)]
+
 pub mod moves;
 pub mod reduce;
 pub mod run;

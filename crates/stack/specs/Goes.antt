@@ -52,10 +52,10 @@ module _ {b : Book} (spelled : Spelled b) (sound : Sound b) where
   unfolding pop
   begins {a = a} i p cs q zero c = (a, c)
   begins i p cs bottom (suc D) c = let e = (start_only b (tables_of b) (premises spelled sound) (dotted b c)).1 in absurd (omega arith)
-  begins i p cs (above {p = r} {i = j} {c = x} q g) (suc D) c =
+  begins i p cs (above {S = S'} {p = r} {i = j} {c = x} q g) (suc D) c =
       let (D', a, β, e, c', h) = go-back b (tables_of b) (premises spelled sound) g (dotted b c) in
       let d : D' ≡ D = omega arith in
-      begins j r (x ∷ cs) q D (rw d at c')
+      begins {S = S'} j r (x ∷ cs) q D (rw d at c')
 
   -- and so its go line on the left side is there
   begin-goes : {S P a : ℕ} → 0 < P → Closure b S P 0 a → (M : ℕ) × ((tables_of b).go S (nonterminal (left_of b.rules P)) ≡ some M)

@@ -35,10 +35,10 @@ module _ (b : Book) (T : Tables) where
     pub deep : {S P a : ℕ} {st : List Frame} → Path T S st → (D : ℕ) → Closure b S P D a → D ≤ length st
     deep q zero c = omega arith
     deep bottom (suc D) c = let e = (start_only b T H (dotted b c)).1 in absurd (omega arith)
-    deep (above {st = st} q g) (suc D) c =
+    deep (above {S = S'} {st = st} q g) (suc D) c =
         let (D', a, β, e, c', h) = go-back b T H g (dotted b c) in
         let d : D' ≡ D = omega arith in
-        let l : D ≤ length st = deep q D (rw d at c') in
+        let l : D ≤ length st = deep {S = S'} q D (rw d at c') in
         omega arith
 
     -- a go line leads to a state of the book

@@ -146,7 +146,7 @@ keys-ascend : {last : List ℕ} (ds : List SynthesizedDefinition) → Ascends sy
 keys-ascend [] a i j h l = absurd (omega arith)
 keys-ascend (d ∷ ds) a i zero h l = absurd (omega arith)
 keys-ascend (d ∷ ds) (ascends-∷ b a) zero (suc j) h l = ascends-above a (at-member ds j _ (omega arith))
-keys-ascend (d ∷ ds) (ascends-∷ b a) (suc i) (suc j) h l = keys-ascend ds a i j (omega arith) (omega arith)
+keys-ascend (d ∷ ds) (ascends-∷ b a) (suc i) (suc j) h l = keys-ascend {last = synthesized_key d} ds a i j (omega arith) (omega arith)
 
 module _ {last : List ℕ} (ds : List SynthesizedDefinition) (a : Ascends synthesized_key last ds) where
   rules-ascend : (i j : ℕ) → i ≤ j → j < length ds → (synthesized_at ds i).rule ≤ (synthesized_at ds j).rule
@@ -168,6 +168,7 @@ module _ {last : List ℕ} (ds : List SynthesizedDefinition) (a : Ascends synthe
       second : {x y k m : ℕ} → Before (x ∷ k ∷ []) (y ∷ m ∷ []) → x ≡ y → k < m
       second (before_less p) e = absurd (omega arith)
       second (before_same (before_less p)) e = p
+      second (before_same (before_same p)) e = elim p [ ]
 
 module _ {b : Book} {definitions : List ℕ} {from to rules : ℕ} (L : LinesIn b definitions from to rules) where
   pub lines-sorted : Sorted definitions from to

@@ -1,4 +1,6 @@
 // What the moves of a message go by: its top, the action, the two stacks with their records, the rows, what a reduction leaves.
+#![tactic(auto)]
+
 pub mod action;
 pub mod left;
 pub mod lists;

@@ -1,0 +1,42 @@
+use Prim.Native.Nat.{◌+◌, ◌*◌}
+use mathlib.Core.Path.{refl}
+use native.Mathlib.Omega.{arith}
+use Rattle.machine.specs.Moving.{told_on, told_refused}
+use Rattle.machine.specs.MovingLaws.{shift-rows, shift-symbols, room-left}
+use Rattle.machine.specs.ShiftMove.{ShiftLow, shift-low, shift-told}
+use Rattle.machine.proofs.moves.shift.Goals as goal
+
+pub returns-then-top-eq-MAX_ROWS : goal.returns-then-top-eq-MAX_ROWS
+returns-then-top-eq-MAX_ROWS c = λ b ks k rules definitions inherited B H X. told_refused (shift-rows B H.config_in X.action_is c.if-top-eq-MAX_ROWS.true) refl
+
+pub returns-then-top-eq-MAX_STACK : goal.returns-then-top-eq-MAX_STACK
+returns-then-top-eq-MAX_STACK c = λ b ks k rules definitions inherited B H X.
+    told_refused (shift-symbols B H.config_in X.action_is c.if-top-eq-MAX_ROWS.false c.if-top-eq-MAX_STACK.true) refl
+
+pub overflow_mul-target : goal.overflow_mul-target
+overflow_mul-target c =
+    let low : ShiftLow c.requires.by_index.0 c.args.starts.now c.args.top c.args.state c.args.kind = let s = c.requires.by_index in shift-low s.6 s.7 s.8 in
+    omega (arith, (low).state_low)
+
+pub overflow_add-target : goal.overflow_add-target
+overflow_add-target c =
+    let low : ShiftLow c.requires.by_index.0 c.args.starts.now c.args.top c.args.state c.args.kind = let s = c.requires.by_index in shift-low s.6 s.7 s.8 in
+    let l = low in omega (arith, l.state_low, l.kind_low)
+
+pub bounds-table-state : goal.bounds-table-state
+bounds-table-state c =
+    let low : ShiftLow c.requires.by_index.0 c.args.starts.now c.args.top c.args.state c.args.kind = let s = c.requires.by_index in shift-low s.6 s.7 s.8 in
+    let l = low in
+    omega (arith, l.state_there, l.kind_low, c.requires.by_index.6.table_in.long)
+
+pub push_token-requires : goal.push_token-requires
+push_token-requires c =
+    let low : ShiftLow c.requires.by_index.0 c.args.starts.now c.args.top c.args.state c.args.kind = let s = c.requires.by_index in shift-low s.6 s.7 s.8 in
+    let l = low in
+    let (b, ks, k, rules, definitions, inherited, B, H, X) = c.requires.by_index in
+    let rows = room-left B H.config_in c.if-top-eq-MAX_ROWS.false in
+    record { stacks = c.requires.stacks; depth_in_bounds = (omega (arith, l.depth_low, c.if-top-eq-MAX_STACK.false, c.requires.stacks.starts_long), rows, l.position_low, l.kind_low) }
+
+pub returns : goal.returns
+returns c = λ b ks k rules definitions inherited B H X.
+    told_on (shift-told B H X c.requires.stacks c.if-top-eq-MAX_ROWS.false c.if-top-eq-MAX_STACK.false c.push_token.ensures refl)

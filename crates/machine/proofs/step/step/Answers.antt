@@ -1,0 +1,65 @@
+use mathlib.Core.Path.{◌≡◌, refl, ◌∙◌}
+use native.Mathlib.Omega.{arith}
+use borrow.Author.Rules.{rules}
+use Rattle.machine.specs.RunningLaws.{run-low, run-moves, run-facing, run-asked, run-set, run_none, run-due, run-stepped}
+use Rattle.machine.proofs.step.step.Goals as goal
+
+pub overflow_mul-at : goal.overflow_mul-at
+overflow_mul-at c = let (b, ks, R, M, U) = c.requires.run_in in omega (arith, (run-low R M U).position_low)
+
+pub word-state-requires : goal.word-state-requires
+word-state-requires c = let (b, ks, R, M, U) = c.requires.run_in in
+    omega (arith, (run-low R M U).depth_low, c.requires.rooms.stacks.states_long)
+
+pub bounds-actions-state : goal.bounds-actions-state
+bounds-actions-state c = let (b, ks, R, M, U) = c.requires.run_in in
+    let F = run-facing R M U c.word-state.ensures c.number-kind.ensures refl in
+    omega (arith, F.state_there, F.kind_low, R.actions_in.long)
+
+pub returns-in_default : goal.returns-in_default
+returns-in_default c = λ b ks R M U.
+    run_none R M U c.word-state.ensures c.number-kind.ensures c.action_of-action.ensures c.in_default.is refl refl
+
+pub set_top-requires : goal.set_top-requires
+set_top-requires c = let L = c.requires.rooms in
+    let (b, ks, R, M, U) = c.requires.run_in in
+    let s = c.word-state.ensures in
+    let F = run-facing R M U s c.number-kind.ensures refl in record {
+      room = (
+        record {
+          cells_long = omega (arith, L.cells_long, (run-low R M U).depth_low);
+          records_long = omega (arith, L.stacks.synthesized_long, (run-low R M U).depth_low);
+        },
+        F.kind_low,
+      );
+      by_index = (b, _, _, _, run-asked R M U s c.number-kind.ensures, F.state_there, R.driven.plans-held, U.plans_in);
+    }
+
+pub overflow_add-at : goal.overflow_add-at
+overflow_add-at c = let (b, ks, R, M, U) = c.requires.run_in in
+    omega (arith, (run-low R M U).position_low)
+
+pub advance-requires : goal.advance-requires
+advance-requires c = let L = c.requires.rooms in
+    let (b, ks, R, M, U) = c.requires.run_in in
+    let s = c.word-state.ensures in
+    let k = c.number-kind.ensures in
+    let Q = run-set R M U s k c.set_top.ensures in record {
+      stacks = (L.stacks, c.set_top.auto.inherited ∙ L.cells_long);
+      moves_in = (
+        b,
+        ks,
+        U.at,
+        run-moves R M U,
+        Q.poised,
+        run-facing R M U s k c.number.ensures,
+        run-due R M U s k c.action_of-action.ensures c.in-Due.is c.number.ensures Q,
+      );
+    }
+
+pub returns : goal.returns
+returns c = λ b ks R M U.
+    let s = c.word-state.ensures in
+    let k = c.number-kind.ensures in
+    run-stepped R M U s k c.action_of-action.ensures c.in-Due.is c.number.ensures (run-set R M U s k c.set_top.ensures)
+    c.advance.ensures

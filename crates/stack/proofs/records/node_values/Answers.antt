@@ -1,0 +1,43 @@
+use Prim.Native.Nat.{◌+◌, ◌-◌, ◌≤◌, ◌<◌}
+use mathlib.Core.Path.{◌≡◌, ◌∙◌}
+use native.Mathlib.Omega.{arith}
+use lib.ListN.{length, get_or, length-set}
+use Rattle.grammar.specs.Limits.{MAX_OWNED}
+use Rattle.grammar.specs.Data.Book.{Book}
+use Rattle.stack.specs.Spans.{line_count}
+use Rattle.stack.specs.LeftLines.{line_in, lines-few, LeftBefore, left-none, left-turn, left_end}
+use Rattle.stack.specs.NodeValues.{NodeAsked, LineOf, rule-lines}
+use Rattle.stack.proofs.records.node_values.Goals as goal
+
+pub loop-i-init : goal.loop-i-init
+loop-i-init c = (omega arith, c.requires.room.2, λ b A. left-none A _)
+
+pub value-requires : goal.value-requires
+value-requires c =
+    let turn : c.loop-i.i < line_count c.args.spans.now c.args.rule = omega (arith, c.loop-i-test.true, c.word.ensures, c.word-first.ensures) in
+    let room : c.loop-i.i < 4 = omega (arith, turn, lines-few c.requires.node_asked.1) in
+    let line_is : c.word-first.result + c.loop-i.i ≡ get_or c.args.spans.now c.args.rule 0 + c.loop-i.i = omega (arith, c.word-first.ensures) in
+    let line-there : LineOf c.requires.node_asked.0 c.args.definitions.now c.args.rule c.args.size (c.word-first.result + c.loop-i.i) = rw line_is (line_in c.requires.node_asked.1 c.loop-i.i turn) in
+    record { room = (c.requires.room.0, c.requires.room.1); asked = (_, (line-there).asked) }
+
+pub bounds-values-i : goal.bounds-values-i
+bounds-values-i c =
+    let turn : c.loop-i.i < line_count c.args.spans.now c.args.rule = omega (arith, c.loop-i-test.true, c.word.ensures, c.word-first.ensures) in
+    let room : c.loop-i.i < 4 = omega (arith, turn, lines-few c.requires.node_asked.1) in
+    omega (arith, room, c.loop-i.invariant.1)
+
+pub loop-i-preserved : goal.loop-i-preserved
+loop-i-preserved c =
+    let turn : c.loop-i.i < line_count c.args.spans.now c.args.rule = omega (arith, c.loop-i-test.true, c.word.ensures, c.word-first.ensures) in
+    let room : c.loop-i.i < 4 = omega (arith, turn, lines-few c.requires.node_asked.1) in
+    let line_is : c.word-first.result + c.loop-i.i ≡ get_or c.args.spans.now c.args.rule 0 + c.loop-i.i = omega (arith, c.word-first.ensures) in
+    let at = c.loop-i in (
+      omega (arith, turn),
+      length-set at.values at.i c.value.result ∙ at.invariant.1,
+      λ b A. left-turn A at.values (turn) (omega (arith, room, at.invariant.1)) (line_is) (at.invariant.2 b A) c.value.ensures,
+    )
+
+pub returns : goal.returns
+returns c = let end : c.loop-i.i ≡ line_count c.args.spans.now c.args.rule =
+    omega (arith, c.loop-i.invariant.0, c.loop-i-test.false, c.word.ensures, c.word-first.ensures) in
+    λ b A. left_end A c.loop-i.values (rw end at (c.loop-i.invariant.2 b A))

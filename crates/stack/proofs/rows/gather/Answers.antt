@@ -1,0 +1,15 @@
+use Prim.Native.Nat.{◌+◌, ◌*◌, ◌-◌, ◌≤◌, ◌<◌}
+use native.Mathlib.Omega.{arith}
+use lib.ListN.{length, get_or}
+use Rattle.book.specs.LayoutLaws.{Writing, writing_start}
+use Rattle.stack.specs.Lists.{gathered, gather-turn, gather-end}
+use Rattle.stack.proofs.rows.gather.Goals as goal
+
+pub loop-i-preserved : goal.loop-i-preserved
+loop-i-preserved c = (
+  omega (arith, c.loop-i-test.true),
+  gather-turn c.requires.0 c.word-count.ensures c.loop-i-test.true c.word-number.ensures c.loop-i.invariant.1,
+)
+
+pub returns : goal.returns
+returns c = gather-end c.requires.0 c.word-count.ensures c.loop-i-test.false c.loop-i.invariant.1

@@ -1,0 +1,14 @@
+use Prim.Native.Nat.{ℕ, ◌+◌, ◌*◌}
+use mathlib.Core.Path.{ap}
+use mathlib.Core.List.{List}
+use native.Mathlib.Omega.{arith}
+use lib.ListN.{set, length-set}
+use borrow.Author.Rules.{rules}
+use Rattle.stack.specs.Page.{token_stored}
+use Rattle.stack.proofs.rows.token_row.Goals as goal
+
+pub returns : goal.returns
+unfolding token_stored
+returns c = let a = c.args in
+    ap (λ (l : List ℕ). set (set (set l (10 * a.row) (64 + a.kind)) (10 * a.row + 1) a.start) (10 * a.row + 6) a.value)
+    c.clear.ensures

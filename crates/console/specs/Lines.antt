@@ -6,9 +6,9 @@ use Rattle.std.proofs.Math.Path.{ap}
 use Rattle.std.proofs.Math.Option.{Option, none, some}
 use Rattle.std.proofs.lemmas.Bool.{eqb-false}
 use Rattle.text.specs.Class.{space, line-feed, class_of}
-use Rattle.text.specs.ClassLaws.{byte_of, marked}
+use Rattle.text.proofs.ClassLaws.{byte_of, marked}
 use Rattle.text.specs.Rest.{Rest, lost, left, rest, mark}
-use Rattle.text.specs.RestLaws.{left_is, rest_in, rest_at, rest_out}
+use Rattle.text.proofs.RestLaws.{left_is, rest_in, rest_at, rest_out}
 use Rattle.text.specs.Numeral.{decimal, word_of}
 use Rattle.text.specs.Reading.{Reads}
 use Rattle.sets.proofs.Operations.{same_truth}

@@ -4,7 +4,7 @@ use Rattle.std.specs.Prelude.{ℕ, ◌≡◌, refl, false, List, [], ◌∷◌, 
 use Rattle.std.proofs.Common.{ap, ◌∙◌, append-nil, append_assoc}
 use Rattle.std.proofs.Math.Option.{some}
 use Rattle.text.specs.Numeral.{decimal}
-use Rattle.text.specs.Positional.{write-front}
+use Rattle.text.proofs.Positional.{write-front}
 use Rattle.grammar.specs.Evaluator.Tree.{Token}
 use Rattle.grammar.specs.Format.Printer.{Printer, bytes, literal, numeral, each}
 use Rattle.grammar.specs.Format.Ordered.{Every, every-[], every-∷, Fits}

@@ -5,7 +5,7 @@ use Rattle.std.proofs.Math.Path.{refl}
 use Rattle.std.proofs.Common.{sym, ◌∙◌, arith, ne_eqb}
 use Rattle.text.specs.Class.{space}
 use Rattle.text.specs.Rest.{Rest, rest, must, mark, size}
-use Rattle.text.specs.RestLaws.{rest_out, must-true, must-false}
+use Rattle.text.proofs.RestLaws.{rest_out, must-true, must-false}
 use Rattle.text.specs.Numeral.{decimal, value, past, word_of}
 use Rattle.text.specs.Reading.{Reads}
 use Rattle.sets.specs.Sets.{bit, with}

@@ -9,11 +9,12 @@ use mathlib.Core.List.{List, [], ◌∷◌}
 use native.Mathlib.Omega.{arith}
 use Rattle.std.proofs.Math.Dec.{ltb, eqb}
 use Rattle.text.specs.Class.{class_of, digit}
-use Rattle.text.specs.ClassLaws.{range-digit}
+use Rattle.text.proofs.ClassLaws.{range-digit}
 use Rattle.text.specs.Rest.{Rest, lost, left, found, mark, size}
-use Rattle.text.specs.RestLaws.{lost≢left, left_is, found-got, must-got, mark-other, size-must}
+use Rattle.text.proofs.RestLaws.{lost≢left, left_is, found-got, must-got, mark-other, size-must}
 use Rattle.text.specs.Numeral.{System, decimal, letters, Read, bad, got, digit_of, digits, numeral, write, number_of, rest_of, read, value, past, keyword}
-use Rattle.text.specs.Positional.{Positional, decimal-positional, letters-positional, no_digit, written-number, read-written, written-begins}
+use Rattle.text.specs.Positional.{Positional, no_digit}
+use Rattle.text.proofs.Positional.{decimal-positional, letters-positional, written-number, read-written, written-begins}
 
 -- From a reader that left something to what it was given
 

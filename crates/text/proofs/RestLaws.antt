@@ -6,7 +6,7 @@ use Rattle.std.proofs.Common.{ap, ◌∙◌, arith, add-one, length-drop, drop_o
 use Rattle.std.proofs.Math.Bool.{true, false}
 use Rattle.std.proofs.lemmas.Bool.{false≢true, lt-leb}
 use Rattle.text.specs.Class.{class_of}
-use Rattle.text.specs.ClassLaws.{byte_of, marked}
+use Rattle.text.proofs.ClassLaws.{byte_of, marked}
 use Rattle.text.specs.Rest.{Rest, lost, left, rest, found, must, mark_in, mark, size}
 
 pub lost≢left : {r : List ℕ} → lost ≡ left r → ⊥

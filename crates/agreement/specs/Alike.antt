@@ -9,7 +9,8 @@ use Rattle.grammar.specs.Automaton.TestLaws.{true-false}
 use Rattle.grammar.specs.Data.Book.{Book}
 use Rattle.grammar.specs.Formulas.FormulaCheck as grammar
 use Rattle.grammar.specs.Formulas.FormulaCheck.{dot_of, line_at, check}
-use Rattle.grammar.specs.Formulas.FormulaCheckAll.{SameItems, check-same}
+use Rattle.grammar.specs.Formulas.FormulaCheckAll.{SameItems}
+use Rattle.grammar.proofs.Formulas.FormulaCheckAll.{check-same}
 use Rattle.attributes.specs.Checking.{member_of, CheckHeld}
 use Rattle.attributes.specs.CheckingLaws.{place_is}
 

@@ -11,8 +11,8 @@ use Rattle.grammar.specs.Data.Book.{Book}
 use Rattle.grammar.specs.Formulas.Formula.{Formula}
 use Rattle.grammar.specs.Formulas.Passes.{passes}
 use Rattle.grammar.specs.Formulas.FormulaCheck.{done_in, advance, unsplit, fresh, definitions, visit, ended, check}
-use Rattle.grammar.specs.Formulas.FormulaCheckSteps.{fresh-long, none_done}
-use Rattle.grammar.specs.Formulas.FormulaCheckAll.{fails-below}
+use Rattle.grammar.proofs.Formulas.FormulaCheckSteps.{fresh-long, none_done}
+use Rattle.grammar.proofs.Formulas.FormulaCheckAll.{fails-below}
 use Rattle.formulas.specs.Table.{HEADS, Table}
 use Rattle.formulas.specs.Buckets.{empty-table}
 use Rattle.formulas.specs.Formulas as formulas

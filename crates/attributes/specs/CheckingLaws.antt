@@ -18,7 +18,7 @@ use Rattle.grammar.specs.Formulas.Formula.{Formula}
 use Rattle.grammar.specs.Formulas.Slots.{Slots, slot_at, own_at, settled_below, attributes, ready}
 use Rattle.grammar.specs.Formulas.FormulaCheck as grammar
 use Rattle.grammar.specs.Formulas.FormulaCheck.{progress, dot_of, done_in, enter, formula_of, line_at, due, visit}
-use Rattle.grammar.specs.Formulas.FormulaCheckSteps.{enter-by, done_more, done-length, done-either}
+use Rattle.grammar.proofs.Formulas.FormulaCheckSteps.{enter-by, done_more, done-length, done-either}
 use Rattle.formulas.specs.Meaning.{Means, means, one-formula, one_number}
 use Rattle.formulas.specs.Formulas.{SlotIn, empty, full, Asked, Formed}
 use Rattle.formulas.specs.Steps.{inherited-in}

@@ -18,7 +18,7 @@ use Rattle.grammar.specs.Data.Book.{owner_at}
 use Rattle.grammar.specs.Formulas.Formula.{Formula}
 use Rattle.grammar.specs.Formulas.Slots.{Slots, slot_at, settled_below}
 use Rattle.grammar.specs.Formulas.SlotsFill.{Filled}
-use Rattle.grammar.specs.Formulas.SlotsTests.{settled_below-decides}
+use Rattle.grammar.proofs.Formulas.SlotsTests.{settled_below-decides}
 
 -- the attributes below a number that A owns
 unfoldable pub owned_below : List ℕ → ℕ → ℕ → ℕ

@@ -7,8 +7,8 @@ use Rattle.sets.proofs.Operations.{full, bit-full}
 use Rattle.grammar.specs.Conditions.Decides.{all_below}
 use Rattle.grammar.specs.Data.Book.{Book}
 use Rattle.grammar.specs.Formulas.FormulaCheck.{check}
-use Rattle.grammar.specs.Formulas.FormulaCheckLaws.{check-part}
-use Rattle.grammar.specs.Formulas.FormulaCheckAll.{check-same}
+use Rattle.grammar.proofs.Formulas.FormulaCheckLaws.{check-part}
+use Rattle.grammar.proofs.Formulas.FormulaCheckAll.{check-same}
 use Rattle.attributes.specs.Checking.{member_of, member_in, CheckHeld}
 
 pub meets-single : (s a : ℕ) → a < 32 → meets s (single a) ≡ bit s a

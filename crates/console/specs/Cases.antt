@@ -12,7 +12,7 @@ use Rattle.grammar.specs.Format.Printer.{bytes, opens as opens-printer}
 use Rattle.grammar.specs.Format.Reader.{opens as opens-reader}
 use Rattle.grammar.specs.Cases.CaseBooks.{unlines, change, S, opens as opens-books}
 use Rattle.grammar.specs.Cases.Cases.{calls, accepted, expected_evaluation, case, message, S-rows, starred, table}
-use Rattle.grammar.specs.Cases.CasesProof.{cases}
+use Rattle.grammar.proofs.Cases.CasesProof.{cases}
 use Rattle.console.specs.Desk.{evaluated, print_answer, desk_output}
 use Rattle.console.specs.Desk.{opens as opens-desk}
 

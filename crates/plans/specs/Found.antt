@@ -20,7 +20,7 @@ use Rattle.grammar.specs.Automaton.TestLaws.{true-false}
 use Rattle.grammar.specs.Automaton.CoreItems.{Core, core, of_kernels, of_rules, core_items}
 use Rattle.grammar.specs.Formulas.FormulaCheck as grammar
 use Rattle.grammar.specs.Formulas.FormulaCheck.{dot_of, line_at}
-use Rattle.grammar.specs.Formulas.FormulaCheckLaws.{Tells}
+use Rattle.grammar.proofs.Formulas.FormulaCheckLaws.{Tells}
 use Rattle.attributes.specs.Checking.{CheckHeld}
 use Rattle.attributes.specs.Marks.{ItemReaches}
 use Rattle.attributes.specs.MarkFronts.{LooksIn, front_word, front-none, front-behind, front-first, front-decides}

@@ -10,7 +10,7 @@ use Rattle.grammar.specs.Limits.{MAX_INHERITED}
 use Rattle.grammar.specs.Data.Book.{Book}
 use Rattle.grammar.specs.Formulas.Passes.{visits, passes, Larger, Keeps, visits-keep, passes-turn, passes-end}
 use Rattle.grammar.specs.Formulas.FormulaCheck.{definitions}
-use Rattle.grammar.specs.Formulas.FormulaCheckSteps.{done-length}
+use Rattle.grammar.proofs.Formulas.FormulaCheckSteps.{done-length}
 use Rattle.plans.specs.Planning.{Planning, planning, known_in, lines_of, known_of, unplanned, plan_line, planned, plan}
 use Rattle.plans.specs.PlanningLaws.{Right, planning-growing, unplanned-right}
 use Rattle.plans.specs.PlanRows.{PlanRow, PlanningIn}

@@ -15,7 +15,7 @@ use Rattle.grammar.specs.Automaton.TestLaws.{true-false}
 use Rattle.grammar.specs.Data.Book.{Book}
 use Rattle.grammar.specs.Formulas.FormulaCheck as grammar
 use Rattle.grammar.specs.Formulas.FormulaCheck.{dot_of, line_at}
-use Rattle.grammar.specs.Formulas.FormulaCheckSteps.{done_more, done-length}
+use Rattle.grammar.proofs.Formulas.FormulaCheckSteps.{done_more, done-length}
 use Rattle.grammar.specs.Formulas.Plan.{ready_in, due_in}
 use Rattle.attributes.specs.Checking.{CheckHeld}
 use Rattle.attributes.specs.CheckingLaws.{attribute-word, attribute_low}

@@ -17,7 +17,7 @@ use Rattle.grammar.specs.BookFacts.{well_named, small-book}
 use Rattle.grammar.specs.Automaton.ItemsRightLaws.{book-items-right}
 use Rattle.grammar.specs.Automaton.ActionsLaws.{found-acts, acts-found}
 use Rattle.grammar.specs.Formulas.FormulaPremises.{FormulaPremises, formula-premises}
-use Rattle.grammar.specs.Formulas.FormulaTable.{formula-some, formula_there}
+use Rattle.grammar.proofs.Formulas.FormulaTable.{formula-some, formula_there}
 use Rattle.grammar.specs.Refusal.{Sound}
 use Rattle.grammar.specs.Engine.{tables_from, tables_of}
 

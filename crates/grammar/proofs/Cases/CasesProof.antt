@@ -51,7 +51,7 @@ use Rattle.grammar.specs.Format.Packing.{pack}
 use Rattle.grammar.specs.Refusal.{Taken, book_refusal, refusal}
 use Rattle.grammar.specs.Engine.{reading_of, read_book, stored_book, evaluate_book, evaluate_words}
 use Rattle.grammar.specs.Demands.{Stored}
-use Rattle.grammar.specs.StoredLaws.{refusal-taken, taken-parsed, stored-found}
+use Rattle.grammar.proofs.StoredLaws.{refusal-taken, taken-parsed, stored-found}
 
 -- opens all that an answer computes with
 unfoldable pub opens : Unit {0}

@@ -18,9 +18,10 @@ use Rattle.grammar.specs.Automaton.ItemsRight.{ItemsRight}
 use Rattle.grammar.specs.Formulas.Slots.{slot_at, slots_of}
 use Rattle.grammar.specs.Automaton.Compiled.{tabulate, Partials, partials, items_table, partials_at, parts_table, slots_in, formula_at}
 use Rattle.grammar.specs.Automaton.CompiledTables.{tabulate-at, tabulate-past}
-use Rattle.grammar.specs.Formulas.PartialLaws.{partial_at, partial-items}
+use Rattle.grammar.specs.Formulas.PartialLaws.{partial_at}
+use Rattle.grammar.proofs.Formulas.PartialLaws.{partial-items}
 use Rattle.grammar.specs.Formulas.FormulaPremises.{FormulaPremises}
-use Rattle.grammar.specs.Formulas.SlotsLaws.{slots-some, slots-formula}
+use Rattle.grammar.proofs.Formulas.SlotsLaws.{slots-some, slots-formula}
 
 module _ (b : Book) (F : Sets) (R : List ℕ) where
   abbrev pub formula_table : List (List Partials)

@@ -11,13 +11,13 @@ use Rattle.grammar.specs.Conditions.Decides.{Decides, by-decided, equivalent, an
 use Rattle.grammar.specs.Evaluator.Tree.{Token, TokenOf, TokensOf, no_tokens, and_tokens}
 use Rattle.grammar.specs.Evaluator.Rows.{Row, page}
 use Rattle.grammar.specs.Refusal.{Verdict, taken, refusal}
-use Rattle.grammar.specs.RefusalLaws.{refusal-verdict, verdict-refusal}
+use Rattle.grammar.proofs.RefusalLaws.{refusal-verdict, verdict-refusal}
 use Rattle.grammar.specs.Evaluator.Machine.{Tables, Answer, refused, accepted, evaluate}
-use Rattle.grammar.specs.Evaluator.RunRefusals.{refused-late}
+use Rattle.grammar.proofs.Evaluator.RunRefusals.{refused-late}
 use Rattle.grammar.specs.Evaluator.Demand.{Demand3}
-use Rattle.grammar.specs.Evaluator.DemandProof.{demand-3}
-use Rattle.grammar.specs.Evaluator.TakenPremises.{premises}
-use Rattle.grammar.specs.StoredLaws.{refusal-taken, stored-found, found-stored}
+use Rattle.grammar.proofs.Evaluator.DemandProof.{demand-3}
+use Rattle.grammar.proofs.Evaluator.TakenPremises.{premises}
+use Rattle.grammar.proofs.StoredLaws.{refusal-taken, stored-found, found-stored}
 use Rattle.grammar.specs.Engine.{reading_of, read_book, tables_of, stored_book, tokens_of, kinds_in, turned_back, evaluation_of}
 use Rattle.grammar.specs.Engine.{evaluate_tokens, evaluate_book, evaluate_words}
 use Rattle.grammar.specs.Demands.{Taken-right, Refusal-right, Lengths, Reads, wrong_lengths, takes, refuses, Reading-right, Stored, book_of, numbers_of, TokenList}

@@ -14,7 +14,7 @@ use Rattle.grammar.specs.Evaluator.Rows.{Row}
 use Rattle.grammar.specs.Evaluator.Machine.{Tables, Frame, Config, config, Answer, Step, more, stop, start, cell, Popped, popped, pop, shift_token, push_left}
 use Rattle.grammar.specs.Evaluator.Machine.{perform, step, run, evaluate}
 use Rattle.grammar.specs.Evaluator.Runs.{Ends, halts, moves}
-use Rattle.grammar.specs.Evaluator.Moves.{row_more, symbol-more, rule-more, arrive-more}
+use Rattle.grammar.proofs.Evaluator.Moves.{row_more, symbol-more, rule-more, arrive-more}
 
 abbrev pub row_count : Config → ℕ
 row_count (config st S z p rs) = length rs

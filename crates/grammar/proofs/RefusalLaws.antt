@@ -22,10 +22,10 @@ use Rattle.grammar.specs.Automaton.ItemsRight.{ItemsRight}
 use Rattle.grammar.specs.BookFacts.{well_named, small-book}
 use Rattle.grammar.specs.Automaton.ItemsRightLaws.{book-items-right}
 use Rattle.grammar.specs.Automaton.KernelRulesLaws.{kernel_rules-decides}
-use Rattle.grammar.specs.Automaton.GoRulesLaws.{go_table-decides}
+use Rattle.grammar.proofs.Automaton.GoRulesLaws.{go_table-decides}
 use Rattle.grammar.specs.Automaton.ActionsLaws.{no_conflict-decides}
 use Rattle.grammar.specs.Formulas.FormulaPremises.{formula-premises}
-use Rattle.grammar.specs.Formulas.OneFormulaLaws.{one_formula-decides}
+use Rattle.grammar.proofs.Formulas.OneFormulaLaws.{one_formula-decides}
 use Rattle.grammar.specs.Refusal.{Sound, Breaks, breaks_limits, breaks_names, breaks_attributes, breaks_definitions}
 use Rattle.grammar.specs.Refusal.{breaks_kernel_rules, breaks_go_rules, breaks_no_conflict, breaks_one_formula}
 use Rattle.grammar.specs.Refusal.{Verdict, taken, misspelt, broken, book_refusal, refusal}

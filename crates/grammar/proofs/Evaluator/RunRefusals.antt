@@ -12,7 +12,7 @@ use Rattle.grammar.specs.Evaluator.Rows.{Row}
 use Rattle.grammar.specs.Evaluator.Machine.{Tables, Frame, Config, config, refused, accepted, Step, more, stop, Popped, popped}
 use Rattle.grammar.specs.Evaluator.Machine.{within, room_for_row, room_for_symbol, room_for_rule, arrive, shift_token, push_left, perform, step, evaluate}
 use Rattle.grammar.specs.Evaluator.Runs.{Ends, halts, moves}
-use Rattle.grammar.specs.Evaluator.RunLaws.{evaluate-ends}
+use Rattle.grammar.proofs.Evaluator.RunLaws.{evaluate-ends}
 
 -- a step that stops with a refusal stops with 15 or more
 abbrev pub Late : Step → Type 0

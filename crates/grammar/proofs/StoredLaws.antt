@@ -14,7 +14,7 @@ use Rattle.grammar.specs.Format.Packing.{pack, before, unpack, Bytes, no_bytes, 
 use Rattle.grammar.specs.Refusal.{Taken, Breaks, Verdict, taken, misspelt, broken, book_refusal, refusal}
 use Rattle.grammar.specs.Refusal.{breaks_limits, breaks_names, breaks_attributes, breaks_definitions}
 use Rattle.grammar.specs.Refusal.{breaks_kernel_rules, breaks_go_rules, breaks_no_conflict, breaks_one_formula}
-use Rattle.grammar.specs.RefusalLaws.{refusal-verdict, verdict-refusal}
+use Rattle.grammar.proofs.RefusalLaws.{refusal-verdict, verdict-refusal}
 use Rattle.grammar.specs.Engine.{stored_book}
 use Rattle.grammar.specs.Demands.{Stored, book_of}
 

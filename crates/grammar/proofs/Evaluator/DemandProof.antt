@@ -12,11 +12,11 @@ use Rattle.grammar.specs.Evaluator.RowsLaws.{rows-count, page-length, page-after
 use Rattle.grammar.specs.Evaluator.Decorate.{decorate, decorate-erases, decorate-inherits, decorate-obeys, decorate-only}
 use Rattle.grammar.specs.Evaluator.Machine.{Tables, Answer, refused, accepted, start, evaluate}
 use Rattle.grammar.specs.Evaluator.Runs.{Ends, ends-once}
-use Rattle.grammar.specs.Evaluator.RunLaws.{evaluate-ends}
-use Rattle.grammar.specs.Evaluator.Simulate.{Over, rows_over, symbols_over}
-use Rattle.grammar.specs.Evaluator.Complete.{Told, taken, over, told}
+use Rattle.grammar.proofs.Evaluator.RunLaws.{evaluate-ends}
+use Rattle.grammar.proofs.Evaluator.Simulate.{Over, rows_over, symbols_over}
+use Rattle.grammar.proofs.Evaluator.Complete.{Told, taken, over, told}
 use Rattle.grammar.specs.Evaluator.Rebuild.{rows_tell}
-use Rattle.grammar.specs.Evaluator.Soundness.{sound}
+use Rattle.grammar.proofs.Evaluator.Soundness.{sound}
 use Rattle.grammar.specs.Evaluator.Premises.{Premises}
 use Rattle.grammar.specs.Evaluator.Demand.{SmallTree, TreeOf, Valued, Demand3Met}
 

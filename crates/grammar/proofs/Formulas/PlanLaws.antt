@@ -26,23 +26,24 @@ use Rattle.grammar.specs.Automaton.Items.{Chain}
 use Rattle.grammar.specs.Formulas.Formula.{Formula}
 use Rattle.grammar.specs.Formulas.ChainLaws.{chain-partial, chain-to, FromChain, from_chain}
 use Rattle.grammar.specs.Evaluator.Machine.{Tables, Frame, frame, inherited_at, formula_value, cell}
-use Rattle.grammar.specs.Evaluator.Chains.{stack_value, cell-value}
+use Rattle.grammar.specs.Evaluator.Chains.{stack_value}
+use Rattle.grammar.proofs.Evaluator.Chains.{cell-value}
 use Rattle.grammar.specs.Evaluator.Premises.{Premises}
 use Rattle.grammar.specs.Formulas.Slots.{attributes}
 use Rattle.grammar.specs.BookFacts.{small-book}
 use Rattle.grammar.specs.Automaton.ItemsRightLaws.{book-items-right}
 use Rattle.grammar.specs.Automaton.Compiled.{compiled}
-use Rattle.grammar.specs.Formulas.FormulaTable.{formula-some}
+use Rattle.grammar.proofs.Formulas.FormulaTable.{formula-some}
 use Rattle.grammar.specs.Refusal.{Sound}
 use Rattle.grammar.specs.Engine.{tables_from, tables_of}
-use Rattle.grammar.specs.Evaluator.TakenPremises.{premises}
+use Rattle.grammar.proofs.Evaluator.TakenPremises.{premises}
 use Rattle.grammar.specs.Formulas.FormulaPremises.{FormulaPremises, formula-premises}
 use Rattle.grammar.specs.Formulas.ChainReady.{Ready, chain-settles}
 use Rattle.grammar.specs.Formulas.Passes.{Larger, Keeps, passes-keep, Growing, passes-rest}
 use Rattle.grammar.specs.Formulas.FormulaCheck.{dot_of, definitions, line_at}
 use Rattle.grammar.specs.Formulas.DefinitionPremises.{DefinitionPremises, definition-premises}
-use Rattle.grammar.specs.Formulas.FormulaCheckSteps.{holds-decides, done_more, done-length, none_done}
-use Rattle.grammar.specs.Formulas.FormulaCheckLaws.{Tells}
+use Rattle.grammar.proofs.Formulas.FormulaCheckSteps.{holds-decides, done_more, done-length, none_done}
+use Rattle.grammar.proofs.Formulas.FormulaCheckLaws.{Tells}
 use Rattle.grammar.specs.Formulas.Plan.{Setting, setting, set_in, value_at, value_in, unset, settled_in, value_of, ready_in, due_in, set_line, settled, fill_cell}
 
 -- ---------------------------------------------------------------- the tests

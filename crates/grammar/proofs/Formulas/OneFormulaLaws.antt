@@ -12,9 +12,10 @@ use Rattle.grammar.specs.Automaton.FirstSets.{Sets}
 use Rattle.grammar.specs.Automaton.CoreItems.{core_items}
 use Rattle.grammar.specs.Automaton.ItemsRight.{ItemsRight}
 use Rattle.grammar.specs.Automaton.Compiled.{tabulate, items_table, partials_at, parts_table, agrees_part, one_formula_in, one_formula}
-use Rattle.grammar.specs.Formulas.PartialLaws.{partial_at, partial-items}
+use Rattle.grammar.specs.Formulas.PartialLaws.{partial_at}
+use Rattle.grammar.proofs.Formulas.PartialLaws.{partial-items}
 use Rattle.grammar.specs.Formulas.FormulaPremises.{FormulaPremises}
-use Rattle.grammar.specs.Formulas.SlotsLaws.{agrees-decides-one-formula}
+use Rattle.grammar.proofs.Formulas.SlotsLaws.{agrees-decides-one-formula}
 
 -- Q holds of the n numbers from i
 abbrev From : (ℕ → Type 0) → ℕ → ℕ → Type 0

@@ -17,7 +17,7 @@ use Rattle.grammar.specs.Evaluator.Rows.{Row}
 use Rattle.grammar.specs.Evaluator.Machine.{Tables, Frame, frame, Config, config, accepted, more, stop, start, Popped, popped, pop, shift_token, push_left}
 use Rattle.grammar.specs.Evaluator.Machine.{perform, step}
 use Rattle.grammar.specs.Evaluator.Runs.{Ends, halts, moves}
-use Rattle.grammar.specs.Evaluator.Moves.{row_more, symbol-more, rule-more, arrive-more, row-accepted, symbol-accepted, rule-accepted, arrive-accepted}
+use Rattle.grammar.proofs.Evaluator.Moves.{row_more, symbol-more, rule-more, arrive-more, row-accepted, symbol-accepted, rule-accepted, arrive-accepted}
 use Rattle.grammar.specs.Evaluator.Premises.{Premises}
 use Rattle.grammar.specs.Data.ListLaws.{drop-step}
 use Rattle.grammar.specs.Automaton.KernelItems.{start_dot}

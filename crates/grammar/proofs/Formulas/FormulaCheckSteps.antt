@@ -23,7 +23,7 @@ use Rattle.grammar.specs.Formulas.Formula.{Formula, becomes, gives}
 use Rattle.grammar.specs.Formulas.Slots.{Slots, slot_at, standing, own_at, same_formula, attributes, ready}
 use Rattle.grammar.specs.Formulas.SameFormula.{same-formula}
 use Rattle.grammar.specs.Formulas.SlotsFill.{Filled, Each}
-use Rattle.grammar.specs.Formulas.SlotsTests.{settled_below-decides}
+use Rattle.grammar.proofs.Formulas.SlotsTests.{settled_below-decides}
 use Rattle.grammar.specs.Formulas.ChainReady.{Ready}
 use Rattle.grammar.specs.Formulas.Passes.{Larger, Keeps, Growing}
 use Rattle.grammar.specs.Formulas.FormulaCheck.{dot_of, Progress, progress, split, done_in, advance, fresh, enter, formula_of, definitions, line_at, due, visit}

@@ -23,13 +23,14 @@ use Rattle.grammar.specs.Evaluator.Rows.{Row, row_of_token, row_of_node, rows, r
 use Rattle.grammar.specs.Evaluator.RowsLaws.{owned-same}
 use Rattle.grammar.specs.Evaluator.Machine.{Tables, Frame, frame, config, Answer, refused, inherited_at, result_at, cell, popped, pop}
 use Rattle.grammar.specs.Evaluator.Runs.{Reach, stay, move, reach-then, Ends, halts, reach-ends}
-use Rattle.grammar.specs.Evaluator.Moves.{shift-moves, shift-16, shift-17, reduce-moves, reduce-16, reduce-17}
+use Rattle.grammar.proofs.Evaluator.Moves.{shift-moves, shift-16, shift-17, reduce-moves, reduce-16, reduce-17}
 use Rattle.grammar.specs.Evaluator.Premises.{Premises}
 use Rattle.grammar.specs.Data.ListLaws.{drop-step, drop_get}
 use Rattle.grammar.specs.Formulas.ChainLaws.{chain-closure}
 use Rattle.grammar.specs.Evaluator.PremisesLaws.{go_there, go_has}
 use Rattle.grammar.specs.Evaluator.FirstOfLeaves.{first-of-leaves, reach-trees}
-use Rattle.grammar.specs.Evaluator.Chains.{Below, OnTop, cell-inherits}
+use Rattle.grammar.specs.Evaluator.Chains.{OnTop}
+use Rattle.grammar.proofs.Evaluator.Chains.{Below, cell-inherits}
 
 -- a limit is met by a tree of n nodes and need m, from r rows and d symbols
 pub data Over (r d n m : ℕ) : Answer → Type 0 where

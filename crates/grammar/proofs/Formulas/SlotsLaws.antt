@@ -19,7 +19,7 @@ use Rattle.grammar.specs.Formulas.ChainLaws.{FromChain, from_chain, OneFormula, 
 use Rattle.grammar.specs.Automaton.CoreItems.{Core, core}
 use Rattle.grammar.specs.Formulas.Slots.{Slots, slot_at, standing, own_at, attributes, ready, slots_of, agrees}
 use Rattle.grammar.specs.Formulas.SlotsFill.{Filled, Each, slots-each, slots_filled}
-use Rattle.grammar.specs.Formulas.SlotsTests.{settled_below-decides, ItemAgrees, agrees-decides}
+use Rattle.grammar.proofs.Formulas.SlotsTests.{settled_below-decides, ItemAgrees, agrees-decides}
 use Rattle.grammar.specs.Formulas.PartialLaws.{PartialItems}
 use Rattle.grammar.specs.Formulas.FormulaPremises.{OwnLeft, FormulaPremises}
 

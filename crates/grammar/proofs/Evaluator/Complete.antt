@@ -13,12 +13,12 @@ use Rattle.grammar.specs.Evaluator.DecoratedLaws.{inherits-given}
 use Rattle.grammar.specs.Evaluator.Rows.{rows}
 use Rattle.grammar.specs.Evaluator.Machine.{Tables, Answer, accepted, start, cell}
 use Rattle.grammar.specs.Evaluator.Runs.{Ends, halts, reach-ends}
-use Rattle.grammar.specs.Evaluator.Moves.{accept-halts}
+use Rattle.grammar.proofs.Evaluator.Moves.{accept-halts}
 use Rattle.grammar.specs.Evaluator.Premises.{Premises}
 use Rattle.grammar.specs.Evaluator.PremisesLaws.{start-length, start-item, owner-apart, go_has}
 use Rattle.grammar.specs.Evaluator.FirstOfLeaves.{reach-tree}
-use Rattle.grammar.specs.Evaluator.Chains.{cell-inherits}
-use Rattle.grammar.specs.Evaluator.Simulate.{Over, Simulated, simulate}
+use Rattle.grammar.proofs.Evaluator.Chains.{cell-inherits}
+use Rattle.grammar.proofs.Evaluator.Simulate.{Over, Simulated, simulate}
 
 module _ (b : Book) (T : Tables) where
   -- its leaves are accepted with its rows, and it is within the limits; or they are refused for a limit that it exceeds

@@ -15,7 +15,7 @@ use Rattle.grammar.specs.Formulas.FormulaCheck.{check_all, listed, opens as open
 use Rattle.grammar.specs.Formulas.Plan.{fill_cell, opens as opens-plan}
 use Rattle.grammar.specs.Format.Parse.{parse_book}
 use Rattle.grammar.specs.Cases.CaseBooks.{unlines, change, S, left-recursive, two-lookaheads, two-offsets, set-once, dead_end}
-use Rattle.grammar.specs.Cases.CasesProof.{opens as opens-engine}
+use Rattle.grammar.proofs.Cases.CasesProof.{opens as opens-engine}
 
 -- the items of a book's partial state (S, a)
 items : Book → ℕ → ℕ → ℕ → ℕ → Bool

@@ -19,8 +19,8 @@ use Rattle.grammar.specs.Formulas.ChainLaws.{chain-partial, chain-to, OneFormula
 use Rattle.grammar.specs.Automaton.CoreItems.{Core, core}
 use Rattle.grammar.specs.Formulas.Slots.{Slots, slot_at, own_at, ready, slots_of}
 use Rattle.grammar.specs.Formulas.SlotsFill.{Filled}
-use Rattle.grammar.specs.Formulas.SlotsTests.{ItemAgrees, agrees-decides}
-use Rattle.grammar.specs.Formulas.SlotsLaws.{agrees-one-formula, one-formula-agrees}
+use Rattle.grammar.proofs.Formulas.SlotsTests.{ItemAgrees, agrees-decides}
+use Rattle.grammar.proofs.Formulas.SlotsLaws.{agrees-one-formula, one-formula-agrees}
 use Rattle.grammar.specs.Formulas.PartialLaws.{PartialItems}
 use Rattle.grammar.specs.Formulas.FormulaPremises.{FormulaPremises}
 use Rattle.grammar.specs.Formulas.ChainReady.{Ready, chain-ready}
@@ -28,8 +28,8 @@ use Rattle.grammar.specs.Formulas.Passes.{Keeps, passes-keep, passes-rest}
 use Rattle.grammar.specs.Formulas.FormulaCheck.{dot_of, Progress, progress, split, advance, unsplit, fresh, formula_of, definitions, line_at, due, visit}
 use Rattle.grammar.specs.Formulas.FormulaCheck.{ended, check}
 use Rattle.grammar.specs.Formulas.DefinitionPremises.{LineRight, DefinitionPremises}
-use Rattle.grammar.specs.Formulas.FormulaCheckSteps.{done-either, none_done, Within, none-stands, set-within, set-each, enter-by, visit-by, Long, fresh-long}
-use Rattle.grammar.specs.Formulas.FormulaCheckSteps.{due-decides, growing, visit-done, ready-filled, ready-within, formula-within, line_gives}
+use Rattle.grammar.proofs.Formulas.FormulaCheckSteps.{done-either, none_done, Within, none-stands, set-within, set-each, enter-by, visit-by, Long, fresh-long}
+use Rattle.grammar.proofs.Formulas.FormulaCheckSteps.{due-decides, growing, visit-done, ready-filled, ready-within, formula-within, line_gives}
 
 -- the test tells by rule and dot which items the partial state (S, a) has
 abbrev pub Tells : Book → ℕ → ℕ → (ℕ → ℕ → Bool) → Type 0

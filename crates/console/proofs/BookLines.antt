@@ -16,7 +16,7 @@ use Rattle.console.specs.Desk.{so_far, before_end, after_end, is_end, nothing_re
 use Rattle.console.specs.Desk.{opens as opens-desk}
 use Rattle.console.specs.Unfed.{unfed, front, every_one}
 use Rattle.console.specs.Unfed.{words as unfed-words, digits as unfed-digits}
-use Rattle.console.specs.Steps.{◌▷◌, line-goes-on, taken-on, taken-line}
+use Rattle.console.proofs.Steps.{◌▷◌, line-goes-on, taken-on, taken-line}
 
 -- whole lines up to the first end line: each other line begins with `(` and a byte that is no e
 mutual

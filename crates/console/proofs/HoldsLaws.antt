@@ -8,9 +8,11 @@ use Rattle.console.specs.Desk.{Input, so_far, after_end, is_end, token_of, joine
 use Rattle.console.specs.Holds.{HoldsBook, HoldsTokens}
 use Rattle.console.specs.Kept.{Kept, kept-none}
 use Rattle.console.specs.Lines.{TOKEN_BYTES}
-use Rattle.console.specs.Settled.{Settled, settled-more, long-settled, misspelt-settled, overlong-settled}
-use Rattle.console.specs.Stands.{Stands, stands-more, stands-joined, stands-line, stands-alone}
-use Rattle.console.specs.Steps.{◌▷◌, byte-ends, byte-goes-on, line-ends, line-goes-on, line-tokens, some-joined, joined-none}
+use Rattle.console.specs.Settled.{Settled}
+use Rattle.console.proofs.Settled.{settled-more, long-settled, misspelt-settled, overlong-settled}
+use Rattle.console.specs.Stands.{Stands}
+use Rattle.console.proofs.Stands.{stands-more, stands-joined, stands-line, stands-alone}
+use Rattle.console.proofs.Steps.{◌▷◌, byte-ends, byte-goes-on, line-ends, line-goes-on, line-tokens, some-joined, joined-none}
 
 -- in the book's text
 

@@ -9,9 +9,10 @@ use Rattle.grammar.specs.Format.Print.{print_book}
 use Rattle.grammar.specs.Format.Ordered.{Every, Fits}
 use Rattle.grammar.specs.Demands.{numbers_of}
 use Rattle.console.specs.Desk.{token_of, all_bytes, answer, answer_to, print_answer, desk_output}
-use Rattle.console.specs.BookLines.{book-taken}
+use Rattle.console.proofs.BookLines.{book-taken}
 use Rattle.console.specs.Lines.{print_token, token-got}
-use Rattle.console.specs.TokenLines.{token-reads, TokenFits, print_tokens, tokens-taken}
+use Rattle.console.specs.TokenLines.{TokenFits, print_tokens}
+use Rattle.console.proofs.TokenLines.{token-reads, tokens-taken}
 
 -- a line spells a token exactly if it is `(tok kind value)` with its line feed, for numbers of 32 bits
 pub token-spelled : (line : List ℕ) (kind value : ℕ)

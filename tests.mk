@@ -15,11 +15,10 @@ vectors:
 	python3 tests/make_vectors.py
 fuzz: target/fuzz/$(if $(BASELINE),baseline,engine).so
 	python3 tests/fuzz.py --library $< --prefix $(if $(BASELINE),baseline,message_book) --seconds $(SECONDS)
-desk:
-	rt check desk
+desk: $(DESK)
 	python3 tests/test_desk.py
-	python3 tests/check_vectors.py --desk target/bin/desk
-	python3 tests/fuzz.py --desk target/bin/desk --seconds $(SECONDS)
+	python3 tests/check_vectors.py --desk $<
+	python3 tests/fuzz.py --desk $< --seconds $(SECONDS)
 
 target/fuzz/engine.so: target/staticlib/libengine.a
 	mkdir -p $(@D) && $(CC) -shared -o $@ -Wl,--whole-archive $< -Wl,--no-whole-archive

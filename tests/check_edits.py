@@ -10,7 +10,7 @@ import sys
 
 ROOT = pathlib.Path(__file__).resolve().parent.parent
 PAGE = ROOT / "tests" / "EDITS.md"
-NAME = re.compile(r"`([a-z]+/[a-z_]+)`")
+NAME = re.compile(r"`([a-z_]+/[a-z_]+)`")
 
 
 def pairs(text):

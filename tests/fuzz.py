@@ -1,7 +1,7 @@
 #!/usr/bin/env python3
 """Runs fresh random cases against an engine and compares each answer with the oracle.
 
-    python3 tests/fuzz.py --desk target/bin/desk --seconds 60
+    python3 tests/fuzz.py --desk crates/desk/out/desk --seconds 60
     python3 tests/fuzz.py --library target/fuzz/engine.so --prefix message_book --seconds 60
 
 With a library the two calls are tried too: wrong lengths, damaged words, odd token lists, and every lent word afterwards.
@@ -133,7 +133,7 @@ def main():
     parser.add_argument("--seed", type=int, default=None)
     options = parser.parse_args()
     seed = random.randrange(1 << 32) if options.seed is None else options.seed
-    engine = engine_of(options) or Desk("target/bin/desk")
+    engine = engine_of(options) or Desk("crates/desk/out/desk")
     print(f"seed {seed}", flush=True)
     fuzz, end = Fuzz(engine, seed), time.monotonic() + options.seconds
     while time.monotonic() < end and fuzz.failures < MOST_FAILURES:

@@ -6,7 +6,7 @@ import unittest
 
 from cases import named
 
-PROGRAM = "target/bin/desk"
+PROGRAM = "crates/desk/out/desk"
 TOKEN = b"(tok 2 4294967295)\n"
 BOOK = named.S.encode()
 

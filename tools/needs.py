@@ -1,10 +1,11 @@
 #!/usr/bin/env python3
 """What a function's proof is asked and from where: the places that `c` passes, and the needs.
 
-    rt dev CRATE --generated DIR
-    tools/needs.py DIR MODULE FUNCTION     as: tools/needs.py /tmp/out step step
+    rt check --start FUNCTION --generated DIR     in the crate's folder
+    tools/needs.py DIR MODULE FUNCTION            as: tools/needs.py /tmp/out step step; a function of the crate's root: tools/needs.py /tmp/out . FUNCTION
 
-A place is printed with how many `.before` lead from it to the start, the place before it, and what is known there; a need with its place.
+A place is printed with how many places lead from it to the start, the place before it, and what is known there besides, which `c` names at once; a need with
+its place. These are all the needs, also those that the check answers by itself; `rt check --start FUNCTION --allow-holes` prints the goals that are left.
 """
 
 import pathlib
@@ -41,7 +42,7 @@ def read(lines):
 
 
 def steps(before, place):
-    """How many `.before` lead from a place to the start."""
+    """How many places lead from a place to the start."""
     count = 0
     while before.get(place):
         place, count = before[place], count + 1
@@ -50,7 +51,7 @@ def steps(before, place):
 
 def main():
     folder, module, function = sys.argv[1:]
-    (path,) = pathlib.Path(folder).glob(f"*·proofs/proofs/{module}/{function}/Lts.antt")
+    (path,) = pathlib.Path(folder).glob(f"*-proofs/{module}/{function}/Lts.antt")
     before, known, needs = read(path.read_text().splitlines())
     for place, last in before.items():
         if last:

@@ -3,7 +3,7 @@
 
 It reads a book and the rows that the desk program prints for a message:
 
-    target/bin/desk < INPUT | python3 tools/picture.py BOOK > PICTURE.svg
+    crates/desk/out/desk < INPUT | python3 tools/picture.py BOOK > PICTURE.svg
 
 Left of a node stand its inherited values, right of it its synthesized ones, each on a line of its own.
 """

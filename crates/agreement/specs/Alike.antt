@@ -4,12 +4,13 @@ use Rattle.std.proofs.Common.{arith, sym, ap, ◌∙◌, inl, inr}
 use Rattle.std.proofs.Math.Decide.{ℕ_discrete}
 use Rattle.std.proofs.lemmas.Bool.{not-false}
 use Rattle.sets.specs.Sets.{bit, empty, union}
-use Rattle.sets.specs.SetsLaws.{bit-empty, union_left, union_right, union-either}
+use Rattle.sets.proofs.SetsLaws.{bit-empty, union_left, union_right, union-either}
 use Rattle.grammar.specs.Automaton.TestLaws.{true-false}
 use Rattle.grammar.specs.Data.Book.{Book}
 use Rattle.grammar.specs.Formulas.FormulaCheck as grammar
 use Rattle.grammar.specs.Formulas.FormulaCheck.{dot_of, line_at, check}
-use Rattle.grammar.specs.Formulas.FormulaCheckAll.{SameItems, check-same}
+use Rattle.grammar.specs.Formulas.FormulaCheckAll.{SameItems}
+use Rattle.grammar.proofs.Formulas.FormulaCheckAll.{check-same}
 use Rattle.attributes.specs.Checking.{member_of, CheckHeld}
 use Rattle.attributes.specs.CheckingLaws.{place_is}
 

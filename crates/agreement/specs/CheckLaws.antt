@@ -4,15 +4,15 @@ use Rattle.std.proofs.Common.{sym, ap, ◌∙◌, append-nil, add-one, arith, dr
 use Rattle.std.proofs.Math.Option.{Option, none}
 use Rattle.std.proofs.lemmas.List.{length-replicate, get_or-replicate}
 use Rattle.sets.specs.Sets.{empty}
-use Rattle.sets.specs.SetsLaws.{bit-empty}
+use Rattle.sets.proofs.SetsLaws.{bit-empty}
 use Rattle.grammar.specs.Limits.{MAX_INHERITED, MAX_DEFINITIONS}
 use Rattle.grammar.specs.Conditions.Decides.{all_below}
 use Rattle.grammar.specs.Data.Book.{Book}
 use Rattle.grammar.specs.Formulas.Formula.{Formula}
 use Rattle.grammar.specs.Formulas.Passes.{passes}
 use Rattle.grammar.specs.Formulas.FormulaCheck.{done_in, advance, unsplit, fresh, definitions, visit, ended, check}
-use Rattle.grammar.specs.Formulas.FormulaCheckSteps.{fresh-long, none_done}
-use Rattle.grammar.specs.Formulas.FormulaCheckAll.{fails-below}
+use Rattle.grammar.proofs.Formulas.FormulaCheckSteps.{fresh-long, none_done}
+use Rattle.grammar.proofs.Formulas.FormulaCheckAll.{fails-below}
 use Rattle.formulas.specs.Table.{HEADS, Table}
 use Rattle.formulas.specs.Buckets.{empty-table}
 use Rattle.formulas.specs.Formulas as formulas

@@ -14,10 +14,10 @@ use Rattle.grammar.specs.Data.Book.{own, InheritedDefinition, Book}
 use Rattle.grammar.specs.Formulas.Formula.{Formula, becomes}
 use Rattle.grammar.specs.Formulas.Slots.{Slots, slot_at, standing, own_at, ready, attributes}
 use Rattle.grammar.specs.Formulas.SlotsFill.{Filled}
-use Rattle.grammar.specs.Formulas.SlotsTests.{settled_below-decides}
+use Rattle.grammar.proofs.Formulas.SlotsTests.{settled_below-decides}
 use Rattle.grammar.specs.Formulas.Passes.{Keeps, passes-keep}
 use Rattle.grammar.specs.Formulas.FormulaCheck.{Progress, progress, split, dot_of, advance, fresh, unsplit, formula_of, definitions, line_at, visit, ended, check}
-use Rattle.grammar.specs.Formulas.FormulaCheckSteps.{enter-by, visit-by, due-decides}
+use Rattle.grammar.proofs.Formulas.FormulaCheckSteps.{enter-by, visit-by, due-decides}
 use Rattle.grammar.specs.Formulas.DefinitionPremises.{LineRight, DefinitionPremises}
 
 -- the definition gives an attribute of its rule's first symbol what the left side has of it

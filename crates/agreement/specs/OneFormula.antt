@@ -9,10 +9,11 @@ use Rattle.grammar.specs.Automaton.FirstSets.{sets_of}
 use Rattle.grammar.specs.Automaton.ReachSets.{reach_sets}
 use Rattle.grammar.specs.Automaton.ItemsRightLaws.{book-items-right}
 use Rattle.grammar.specs.Automaton.Compiled.{items_table, parts_table, one_formula}
-use Rattle.grammar.specs.Formulas.PartialLaws.{partial_at, partial-items}
+use Rattle.grammar.specs.Formulas.PartialLaws.{partial_at}
+use Rattle.grammar.proofs.Formulas.PartialLaws.{partial-items}
 use Rattle.grammar.specs.Formulas.FormulaCheck.{check, check_all, listed}
-use Rattle.grammar.specs.Formulas.FormulaCheckLaws.{Tells}
-use Rattle.grammar.specs.Formulas.FormulaCheckAll.{listed-tells, book-check_all}
+use Rattle.grammar.proofs.Formulas.FormulaCheckLaws.{Tells}
+use Rattle.grammar.proofs.Formulas.FormulaCheckAll.{listed-tells, book-check_all}
 use Rattle.automaton.specs.Fronts.{FrontsIn}
 use Rattle.attributes.specs.Checking.{member_of}
 use Rattle.attributes.specs.FormulasHeld.{FormulasHeld, limits, declared, held-lines}

@@ -6,7 +6,7 @@ use Rattle.grammar.specs.Data.Book.{Book}
 use Rattle.grammar.specs.Formulas.Slots.{Slots}
 use Rattle.grammar.specs.Formulas.Passes.{visits}
 use Rattle.grammar.specs.Formulas.FormulaCheck.{Progress, progress, split, visit}
-use Rattle.grammar.specs.Formulas.FormulaCheckAll.{split_stays}
+use Rattle.grammar.proofs.Formulas.FormulaCheckAll.{split_stays}
 use Rattle.attributes.specs.Checking.{ProgressIn, Reached, going, apart}
 
 module _ {words marks table heads nexts : List ℕ} {used known count : ℕ} {splits : Bool} where

@@ -6,8 +6,8 @@ use Rattle.grammar.specs.Data.Book.{Book}
 use Rattle.grammar.specs.Formulas.Slots.{Slots}
 use Rattle.grammar.specs.Formulas.Passes.{visits, passes, Larger, Keeps, visits-keep, passes-turn, passes-end}
 use Rattle.grammar.specs.Formulas.FormulaCheck.{Progress, progress, split, advance, unsplit, definitions, visit}
-use Rattle.grammar.specs.Formulas.FormulaCheckSteps.{Long, growing, done-length}
-use Rattle.grammar.specs.Formulas.FormulaCheckAll.{split-ends}
+use Rattle.grammar.proofs.Formulas.FormulaCheckSteps.{Long, growing, done-length}
+use Rattle.grammar.proofs.Formulas.FormulaCheckAll.{split-ends}
 use Rattle.attributes.specs.Checking.{ProgressIn, Reached}
 use Rattle.agreement.specs.PassLaws.{reached-stands, reached-split}
 

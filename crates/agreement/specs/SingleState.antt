@@ -4,7 +4,7 @@ use Rattle.std.specs.Prelude.{ℕ, ◌+◌, ◌*◌, ◌-◌, ◌<◌, ◌≤◌
 use Rattle.std.proofs.Common.{arith, sym, ap, ◌∙◌, inl, inr}
 use Rattle.std.specs.Int.Bits.{bit_and, bit_or}
 use Rattle.sets.specs.Sets.{bit}
-use Rattle.sets.specs.Operations.{bit-and}
+use Rattle.sets.proofs.Operations.{bit-and}
 use Rattle.grammar.specs.Automaton.TestLaws.{both_true}
 use Rattle.grammar.specs.Data.Symbol.{left_of}
 use Rattle.grammar.specs.Data.Book.{Book}

@@ -10,7 +10,7 @@ use Rattle.grammar.specs.Limits.{PAGE_WORDS, MAX_TOKENS}
 use Rattle.grammar.specs.Data.Book.{Book}
 use Rattle.grammar.specs.Evaluator.Tree.{Token}
 use Rattle.grammar.specs.Evaluator.Machine.{Answer, refused, accepted, evaluate}
-use Rattle.grammar.specs.Evaluator.RunRefusals.{refused-late}
+use Rattle.grammar.proofs.Evaluator.RunRefusals.{refused-late}
 use Rattle.grammar.specs.Engine.{
   tables_of,
   stored_book,

@@ -8,10 +8,10 @@ use Rattle.grammar.specs.Data.Book.{Book as Lines}
 use Rattle.grammar.specs.Format.Packing.{pack}
 use Rattle.grammar.specs.Format.PrintLaws.{Printable, line_end, byte, print-printable}
 use Rattle.grammar.specs.Refusal.{Taken, taken, refusal}
-use Rattle.grammar.specs.RefusalLaws.{verdict-refusal}
+use Rattle.grammar.proofs.RefusalLaws.{verdict-refusal}
 use Rattle.grammar.specs.Engine.{stored_book}
 use Rattle.grammar.specs.Demands.{Stored}
-use Rattle.grammar.specs.StoredLaws.{refusal-taken, taken-parsed, stored-found, found-stored}
+use Rattle.grammar.proofs.StoredLaws.{refusal-taken, taken-parsed, stored-found, found-stored}
 use Rattle.book.specs.declared.Book.{Book}
 use Rattle.book.specs.declared.Room.{Room}
 use Rattle.packing.specs.Words.{bytes, Holds}

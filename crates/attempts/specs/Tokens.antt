@@ -5,7 +5,7 @@ use Rattle.std.proofs.Math.Path.{refl}
 use Rattle.std.proofs.Common.{sym, ap, ◌∙◌, arith, length-drop}
 use mathlib.Core.List.{List, [], ◌∷◌}
 use Rattle.std.proofs.Math.Option.{Option, none, some}
-use Rattle.text.specs.RestLaws.{drop_more}
+use Rattle.text.proofs.RestLaws.{drop_more}
 use Rattle.grammar.specs.Conditions.Decides.{one_to, one_to-decides, false_of}
 use Rattle.grammar.specs.Evaluator.Tree.{Token}
 use Rattle.grammar.specs.Engine.{tokens_of, kinds_in}

@@ -9,7 +9,7 @@ use Rattle.grammar.specs.Data.Book.{Book}
 use Rattle.grammar.specs.Formulas.Slots.{Slots, attributes}
 use Rattle.grammar.specs.Formulas.FormulaCheck as FormulaCheck
 use Rattle.grammar.specs.Formulas.FormulaCheck.{Progress, progress, split, done_in, line_at}
-use Rattle.grammar.specs.Formulas.FormulaCheckSteps.{Long}
+use Rattle.grammar.proofs.Formulas.FormulaCheckSteps.{Long}
 use Rattle.grammar.specs.Formulas.DefinitionPremises.{DefinitionPremises}
 use Rattle.book.specs.Held.{RulesIn, DefinitionsIn}
 use Rattle.formulas.specs.Table.{HEADS, Table}

@@ -9,7 +9,7 @@ use Rattle.std.proofs.Math.Option.{Option, none, some}
 use Rattle.std.proofs.Math.Decide.{ℕ_discrete}
 use Rattle.std.proofs.Math.ListN.{get_or}
 use Rattle.sets.specs.Sets.{bit, with, subset, meets}
-use Rattle.sets.specs.SetsLaws.{bit-with, with-self}
+use Rattle.sets.proofs.SetsLaws.{bit-with, with-self}
 use Rattle.grammar.specs.Limits.{MAX_DEFINITIONS, MAX_NODES}
 use Rattle.grammar.specs.Automaton.TestLaws.{true-false}
 use Rattle.grammar.specs.Data.Symbol.{left_of}
@@ -18,7 +18,7 @@ use Rattle.grammar.specs.Formulas.Formula.{Formula}
 use Rattle.grammar.specs.Formulas.Slots.{Slots, slot_at, own_at, settled_below, attributes, ready}
 use Rattle.grammar.specs.Formulas.FormulaCheck as grammar
 use Rattle.grammar.specs.Formulas.FormulaCheck.{progress, dot_of, done_in, enter, formula_of, line_at, due, visit}
-use Rattle.grammar.specs.Formulas.FormulaCheckSteps.{enter-by, done_more, done-length, done-either}
+use Rattle.grammar.proofs.Formulas.FormulaCheckSteps.{enter-by, done_more, done-length, done-either}
 use Rattle.formulas.specs.Meaning.{Means, means, one-formula, one_number}
 use Rattle.formulas.specs.Formulas.{SlotIn, empty, full, Asked, Formed}
 use Rattle.formulas.specs.Steps.{inherited-in}

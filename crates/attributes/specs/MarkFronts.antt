@@ -11,7 +11,7 @@ use mathlib.Core.List.Memᴰ.{not-nil as not-in-nil}
 use mathlib.Core.List.Memᴰ.{tail as in_Tail}
 use mathlib.Core.List.{List, Memᴰ as Mem}
 use Rattle.sets.specs.Sets.{bit, empty}
-use Rattle.sets.specs.SetsLaws.{bit-empty}
+use Rattle.sets.proofs.SetsLaws.{bit-empty}
 use Rattle.grammar.specs.Conditions.Decides.{Decides}
 use Rattle.grammar.specs.Data.Symbol.{Symbol, Rule, left_of, after}
 use Rattle.grammar.specs.Data.Book.{Book}

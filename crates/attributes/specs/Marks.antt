@@ -7,7 +7,7 @@ use mathlib.Core.List.Memᴰ.{head as in_head}
 use mathlib.Core.List.Memᴰ.{tail as in_Tail}
 use mathlib.Core.List.{List, ◌∷◌, Memᴰ as Mem}
 use Rattle.sets.specs.Sets.{bit, union}
-use Rattle.sets.specs.SetsLaws.{union_left, union_right, union-either}
+use Rattle.sets.proofs.SetsLaws.{union_left, union_right, union-either}
 use Rattle.grammar.specs.Conditions.Decides.{Decides}
 use Rattle.grammar.specs.Data.Symbol.{Rule, after}
 use Rattle.grammar.specs.Data.Book.{Book}

@@ -11,14 +11,14 @@ use Rattle.std.proofs.Math.Decide.{ℕ_discrete}
 use Rattle.std.proofs.lemmas.List.{length-replicate, get_or-replicate}
 use borrow.Author.Tests.{eq-eqb, ne_eqb, eqb-true, eqb-false}
 use Rattle.sets.specs.Sets.{bit, empty, with, subset}
-use Rattle.sets.specs.SetsLaws.{bit-empty, bit-with, with-keeps, with-self, subset-holds, subset-true}
+use Rattle.sets.proofs.SetsLaws.{bit-empty, bit-with, with-keeps, with-self, subset-holds, subset-true}
 use Rattle.grammar.specs.Conditions.Decides.{decides-same}
 use Rattle.grammar.specs.Automaton.TestLaws.{true-false}
 use Rattle.grammar.specs.Data.Book.{owner_at}
 use Rattle.grammar.specs.Formulas.Formula.{Formula}
 use Rattle.grammar.specs.Formulas.Slots.{Slots, slot_at, settled_below}
 use Rattle.grammar.specs.Formulas.SlotsFill.{Filled}
-use Rattle.grammar.specs.Formulas.SlotsTests.{settled_below-decides}
+use Rattle.grammar.proofs.Formulas.SlotsTests.{settled_below-decides}
 
 -- the attributes below a number that A owns
 unfoldable pub owned_below : List ℕ → ℕ → ℕ → ℕ

@@ -11,8 +11,9 @@ use Rattle.grammar.specs.Automaton.ReachSets.{reach_sets}
 use Rattle.grammar.specs.Automaton.ItemsRight.{ItemsRight}
 use Rattle.grammar.specs.Automaton.ItemsRightLaws.{book-items-right}
 use Rattle.grammar.specs.Formulas.FormulaCheck.{dot_of, line_at, check}
-use Rattle.grammar.specs.Formulas.FormulaCheckLaws.{Tells}
-use Rattle.grammar.specs.Formulas.FormulaCheckAll.{CoreIn, SameItems, check-same}
+use Rattle.grammar.proofs.Formulas.FormulaCheckLaws.{Tells}
+use Rattle.grammar.specs.Formulas.FormulaCheckAll.{CoreIn, SameItems}
+use Rattle.grammar.proofs.Formulas.FormulaCheckAll.{check-same}
 use Rattle.attributes.specs.Checking.{member_of}
 use Rattle.attributes.specs.StateMarks.{StateMarksIn}
 

@@ -2,13 +2,13 @@
 use Rattle.std.specs.Prelude.{ℕ, zero, suc, ◌<◌, ◌≡◌, refl, Bool, true, false, List}
 use Rattle.std.proofs.Common.{arith, sym, ◌∙◌, eqb-true, eq-eqb}
 use Rattle.sets.specs.Sets.{bit, single, meets}
-use Rattle.sets.specs.SetsLaws.{bit-single, meets-holds, meets-true}
-use Rattle.sets.specs.Operations.{full, bit-full}
+use Rattle.sets.proofs.SetsLaws.{bit-single, meets-holds, meets-true}
+use Rattle.sets.proofs.Operations.{full, bit-full}
 use Rattle.grammar.specs.Conditions.Decides.{all_below}
 use Rattle.grammar.specs.Data.Book.{Book}
 use Rattle.grammar.specs.Formulas.FormulaCheck.{check}
-use Rattle.grammar.specs.Formulas.FormulaCheckLaws.{check-part}
-use Rattle.grammar.specs.Formulas.FormulaCheckAll.{check-same}
+use Rattle.grammar.proofs.Formulas.FormulaCheckLaws.{check-part}
+use Rattle.grammar.proofs.Formulas.FormulaCheckAll.{check-same}
 use Rattle.attributes.specs.Checking.{member_of, member_in, CheckHeld}
 
 pub meets-single : (s a : ℕ) → a < 32 → meets s (single a) ≡ bit s a

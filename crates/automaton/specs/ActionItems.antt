@@ -10,7 +10,7 @@ use Rattle.std.proofs.Math.Bool.{true}
 use Rattle.std.proofs.Math.ListN.{length, get_or}
 use Rattle.std.proofs.Math.Seq.{slice, slice_empty}
 use Rattle.sets.specs.Sets.{bit, single}
-use Rattle.sets.specs.SetsLaws.{bit-single}
+use Rattle.sets.proofs.SetsLaws.{bit-single}
 use Rattle.grammar.specs.Data.Symbol.{Symbol, terminal, nonterminal, Rule, left_of, after}
 use Rattle.grammar.specs.Data.Book.{Book, Kernel}
 use Rattle.grammar.specs.Conditions.Meaning.{RightSymbol}

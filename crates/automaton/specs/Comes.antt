@@ -12,7 +12,7 @@ use Rattle.std.proofs.Math.ListN.{length, drop}
 use Rattle.std.proofs.Math.Seq.{slice, slice_empty}
 use borrow.Author.Tests.{eq-eqb, ne_eqb, eqb-true, le-leb}
 use Rattle.sets.specs.Sets.{empty, subset}
-use Rattle.sets.specs.SetsLaws.{subset-true}
+use Rattle.sets.proofs.SetsLaws.{subset-true}
 use Rattle.grammar.specs.Automaton.Members.{none_in}
 use Rattle.grammar.specs.Data.Symbol.{Symbol, Rule, left_of, after}
 use Rattle.grammar.specs.Data.Book.{Book, Kernel, Go}

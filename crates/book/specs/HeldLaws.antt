@@ -10,7 +10,7 @@ use mathlib.Core.List.{List, [], ◌∷◌, map, Memᴰ as Mem}
 use native.Mathlib.Omega.{arith}
 use Rattle.std.proofs.Math.Nat.{mul-suc}
 use Rattle.std.proofs.Math.ListN.{length, length-take}
-use Rattle.text.specs.Positional.{by_less}
+use Rattle.text.proofs.Positional.{by_less}
 use Rattle.grammar.specs.Limits.{
   MAX_INHERITED,
   MAX_SYNTHESIZED,

@@ -5,7 +5,7 @@ use Rattle.std.specs.Prelude.{◌≡◌, refl, Bool, true, false, List, [], ◌�
 use Rattle.std.proofs.Common.{◌∙◌, mul-le-mul_right, add-mul, drop_of_length-le, lt-ltb, le-ltb}
 use native.Mathlib.Omega.{arith}
 use Rattle.std.proofs.Math.ListN.{length-set}
-use Rattle.text.specs.RestLaws.{drop_more}
+use Rattle.text.proofs.RestLaws.{drop_more}
 use Rattle.book.specs.Layout.{write_at, put_line, store_lines}
 
 pub length-write : (i : ℕ) (ws out : List ℕ) → length (write_at i ws out) ≡ length out

@@ -5,7 +5,7 @@ use Rattle.std.proofs.Common.{◌∙◌, arith, lt-ltb, le-ltb}
 use Rattle.std.proofs.Math.Bool.{true, false}
 use Rattle.text.specs.Class.{space}
 use Rattle.text.specs.Rest.{rest, mark}
-use Rattle.text.specs.RestLaws.{found-mark}
+use Rattle.text.proofs.RestLaws.{found-mark}
 use Rattle.text.specs.Numeral.{keyword}
 use Rattle.grammar.specs.Limits.{MAX_RIGHT}
 use Rattle.grammar.specs.Data.Symbol.{Symbol, Rule}

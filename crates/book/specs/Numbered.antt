@@ -4,7 +4,7 @@ use Rattle.std.specs.Prelude.{ℕ, ◌+◌, ◌<◌, ◌≡◌, refl, true, ◌&
 use Rattle.std.proofs.Common.{eqb-true}
 use Rattle.text.specs.Class.{class_of}
 use Rattle.text.specs.Rest.{rest, must}
-use Rattle.text.specs.RestLaws.{must-true}
+use Rattle.text.proofs.RestLaws.{must-true}
 use Rattle.text.specs.Numeral.{word_of, spelled}
 use Rattle.grammar.specs.Format.Reader.{result, remaining, Reader, ◌>>=◌, ◌>>◌, decimal_number, naming}
 use Rattle.grammar.specs.Automaton.TestLaws.{both_true}

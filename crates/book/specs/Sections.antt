@@ -7,7 +7,7 @@ use Rattle.std.proofs.Common.{◌∙◌, add-one}
 use native.Mathlib.Omega.{arith}
 use Rattle.std.proofs.Math.ListN.{length}
 use Rattle.text.specs.Rest.{Rest, rest, found, size}
-use Rattle.text.specs.RestLaws.{found_in, found-out, size-rest}
+use Rattle.text.proofs.RestLaws.{found_in, found-out, size-rest}
 use Rattle.grammar.specs.Format.Reader.{Parsed, parsed, result, remaining, Reader, section}
 use Rattle.grammar.specs.Format.SectionLaws.{section-stop, section-more, section-size}
 use Rattle.book.specs.Layout.{put_line, store_lines}

@@ -6,12 +6,13 @@ use Rattle.std.proofs.Math.Path.{refl}
 use Rattle.std.proofs.Math.Bool.{true, false}
 use Rattle.std.proofs.Math.Dec.{eqb}
 use Rattle.text.specs.Class.{class_of, digit, letter, space}
-use Rattle.text.specs.ClassLaws.{digit-range, letter-range}
+use Rattle.text.proofs.ClassLaws.{digit-range, letter-range}
 use Rattle.text.specs.Rest.{rest, left, must, mark}
-use Rattle.text.specs.RestLaws.{rest_in, rest_at, drop_more, must-true}
+use Rattle.text.proofs.RestLaws.{rest_in, rest_at, drop_more, must-true}
 use Rattle.text.specs.Numeral.{decimal, letters, got, digit_of, numeral, write, number_of, rest_of, read, value, past, spelled, word_of, keyword}
-use Rattle.text.specs.NumeralLaws.{value-number, past-number, no-digit-other}
-use Rattle.text.specs.Positional.{decimal-positional, digit_is, no_digit, numeral-first, write-small, write-more}
+use Rattle.text.proofs.NumeralLaws.{value-number, past-number, no-digit-other}
+use Rattle.text.specs.Positional.{no_digit}
+use Rattle.text.proofs.Positional.{decimal-positional, digit_is, numeral-first, write-small, write-more}
 use Rattle.text.specs.Reading.{Reads}
 use Rattle.grammar.specs.Format.Reader.{result, remaining, closing, naming}
 use Rattle.grammar.specs.Format.ReaderLaws.{reading, word-ends}

@@ -10,7 +10,7 @@ use Rattle.grammar.specs.Engine.{tables_of}
 use Rattle.grammar.specs.Evaluator.Machine.{Frame, cell}
 use Rattle.grammar.specs.Formulas.FormulaCheck as grammar
 use Rattle.grammar.specs.Formulas.FormulaCheck.{dot_of, line_at}
-use Rattle.grammar.specs.Formulas.FormulaCheckLaws.{Tells}
+use Rattle.grammar.proofs.Formulas.FormulaCheckLaws.{Tells}
 use Rattle.grammar.specs.Data.ListLaws.{at-member}
 use Rattle.book.specs.Held.{DefinitionsIn}
 use Rattle.plans.specs.Planning.{plan}

@@ -4,7 +4,7 @@ use Rattle.std.specs.Prelude.{ℕ, zero, suc, ◌+◌, ◌-◌, ◌/◌, ◌%◌
 use Rattle.std.proofs.Common.{sym, ap, ◌∙◌, append_assoc, arith, pow-suc, div-lt_iff_lt-mul, add-one, length-set, drop-set-lt, drop-cons, get_or-set_same, take-add}
 use Rattle.std.proofs.lemmas.List.{take-set-le}
 use Rattle.text.specs.Numeral.{decimal, written, write}
-use Rattle.text.specs.Positional.{by_less, decimal-positional, written_small, written-large, write-small, write-large}
+use Rattle.text.proofs.Positional.{by_less, decimal-positional, written_small, written-large, write-small, write-large}
 use Rattle.grammar.specs.Format.Printer.{numeral}
 use Rattle.console.specs.Output.{Puts}
 

@@ -9,7 +9,7 @@ use Rattle.grammar.specs.Data.Book.{Book}
 use Rattle.grammar.specs.Evaluator.Tree.{Token}
 use Rattle.grammar.specs.Engine.{Reading, read_book, Evaluation, turned_back, stored_book, tokens_of, evaluate_tokens, evaluate_book, evaluate_words}
 use Rattle.grammar.specs.Demands.{Evaluates, no_book, wrong_rows, wrong_tokens, wrong_kinds, runs}
-use Rattle.grammar.specs.DemandsProof.{evaluating-right, figures-right}
+use Rattle.grammar.proofs.DemandsProof.{evaluating-right, figures-right}
 use Rattle.grammar.specs.Cases.Cases.{after_reading, calls}
 use Rattle.console.specs.Desk.{answer, evaluated}
 use Rattle.console.specs.Kept.{KEPT_NUMBERS}

@@ -6,12 +6,12 @@ use Rattle.std.proofs.Math.Path.{ap}
 use Rattle.std.proofs.Math.Option.{Option, none, some}
 use Rattle.std.proofs.lemmas.Bool.{eqb-false}
 use Rattle.text.specs.Class.{space, line-feed, class_of}
-use Rattle.text.specs.ClassLaws.{byte_of, marked}
+use Rattle.text.proofs.ClassLaws.{byte_of, marked}
 use Rattle.text.specs.Rest.{Rest, lost, left, rest, mark}
-use Rattle.text.specs.RestLaws.{left_is, rest_in, rest_at, rest_out}
+use Rattle.text.proofs.RestLaws.{left_is, rest_in, rest_at, rest_out}
 use Rattle.text.specs.Numeral.{decimal, word_of}
 use Rattle.text.specs.Reading.{Reads}
-use Rattle.sets.specs.Operations.{same_truth}
+use Rattle.sets.proofs.Operations.{same_truth}
 use Rattle.grammar.specs.Automaton.LeastLaws.{same_sets-still, same_sets-self}
 use Rattle.grammar.specs.Format.Printer.{Printer, ◌·◌, bytes, literal, numeral}
 use Rattle.grammar.specs.Format.Ordered.{Fits}

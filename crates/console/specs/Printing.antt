@@ -4,7 +4,7 @@ use Rattle.std.specs.Prelude.{ℕ, zero, suc, ◌+◌, ◌*◌, ◌-◌, ◌≤�
 use Rattle.std.proofs.Common.{sym, ◌∙◌, append-nil, drop_of_length-le, drop-drop}
 use native.Mathlib.Omega.{arith}
 use Rattle.std.proofs.Math.ListN.{length}
-use Rattle.text.specs.RestLaws.{drop_more}
+use Rattle.text.proofs.RestLaws.{drop_more}
 use Rattle.grammar.specs.Format.Printer.{Printer, each}
 use Rattle.grammar.specs.Limits.{ROW_WORDS, MAX_ROWS, PAGE_WORDS}
 use Rattle.console.specs.Desk.{Answer, refused, accepted, answer_of, print_word, print_row, print_rows, print_answer}

@@ -9,7 +9,7 @@ use mathlib.Core.List.{List, [], ◌∷◌, ◌++◌}
 use Rattle.std.proofs.Common.{arith, ne_eqb, ltb-true, ltb-false}
 use Rattle.std.proofs.Math.Dec.{eqb, ltb}
 use Rattle.text.specs.Numeral.{decimal, written, write}
-use Rattle.text.specs.Positional.{written_small, written-large}
+use Rattle.text.proofs.Positional.{written_small, written-large}
 use Rattle.grammar.specs.Format.Printer.{Printer, bytes, literal, each}
 
 unfoldable pub unfed : List ℕ → Bool

@@ -7,7 +7,7 @@ use Rattle.std.proofs.Common.{◌∙◌, arith}
 use Rattle.std.proofs.Math.Bool.{true, false}
 use mathlib.Core.List.{List, [], ◌∷◌, map}
 use Rattle.text.specs.Rest.{Rest, lost, left, found, size}
-use Rattle.text.specs.RestLaws.{lost≢left, must-got}
+use Rattle.text.proofs.RestLaws.{lost≢left, must-got}
 use Rattle.text.specs.Numeral.{decimal}
 use Rattle.text.specs.Positional.{no_digit}
 use Rattle.grammar.specs.Data.Postfix.{postfix, term_of}

@@ -3,7 +3,7 @@
 use Rattle.std.specs.Prelude.{ℕ, ◌+◌, ◌-◌, ◌≤◌, ◌≡◌, true, false, List, ◌∷◌, length, get_or, drop}
 use Rattle.std.proofs.Common.{arith, sym, ap, ◌∙◌}
 use Rattle.text.specs.Rest.{rest, left}
-use Rattle.text.specs.RestLaws.{rest_in, drop_more}
+use Rattle.text.proofs.RestLaws.{rest_in, drop_more}
 use Rattle.text.specs.Numeral.{decimal, write, word_of}
 use Rattle.grammar.specs.Format.Reader.{naming}
 use Rattle.grammar.specs.Format.ReaderLaws.{reading, word-ends}

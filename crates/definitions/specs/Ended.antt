@@ -4,11 +4,11 @@ use Rattle.std.specs.Prelude.{ℕ, ◌+◌, ◌*◌, ◌-◌, ◌<◌, ◌≤◌
 use Rattle.std.proofs.Common.{arith, sym, ap, ◌∙◌, eqb-true}
 use Rattle.std.proofs.lemmas.Bool.{eqb-false, not-true}
 use Rattle.text.specs.Class.{class_of, digit, space}
-use Rattle.text.specs.ClassLaws.{digit-range}
+use Rattle.text.proofs.ClassLaws.{digit-range}
 use Rattle.text.specs.Rest.{rest, left, mark}
-use Rattle.text.specs.RestLaws.{rest_in, drop_more}
+use Rattle.text.proofs.RestLaws.{rest_in, drop_more}
 use Rattle.text.specs.Numeral.{decimal, write, value, past}
-use Rattle.text.specs.NumeralLaws.{value-number, past-number}
+use Rattle.text.proofs.NumeralLaws.{value-number, past-number}
 use Rattle.text.specs.Positional.{no_digit}
 use Rattle.text.specs.Reading.{Reads}
 use Rattle.grammar.specs.Format.ReaderLaws.{reading}

@@ -9,11 +9,11 @@ use native.Mathlib.Omega.{arith}
 use borrow.Author.Tests.{eqb-true, ne_eqb, lt-ltb, le-ltb}
 use Rattle.text.specs.Class.{open-bracket, space}
 use Rattle.text.specs.Rest.{Rest, lost, left, rest, found, mark, size}
-use Rattle.text.specs.RestLaws.{rest_out, found_in, found-out, less-mark, found-mark}
+use Rattle.text.proofs.RestLaws.{rest_out, found_in, found-out, less-mark, found-mark}
 use Rattle.text.specs.Numeral.{decimal, letters, Read, bad, got, written, write, number_of, rest_of, read, value, past, word_of, spelled}
 use Rattle.text.specs.Reading.{Reads}
-use Rattle.text.specs.Positional.{letters-positional}
-use Rattle.text.specs.NumeralLaws.{past-got}
+use Rattle.text.proofs.Positional.{letters-positional}
+use Rattle.text.proofs.NumeralLaws.{past-got}
 use Rattle.grammar.specs.Limits.{MAX_NODES}
 use Rattle.grammar.specs.Data.Term.{add, sub, min, max}
 use Rattle.grammar.specs.Data.Book.{Place, own, at, val}

@@ -8,7 +8,7 @@ use mathlib.Core.List.{List, [], ◌∷◌, ◌++◌}
 use native.Mathlib.Omega.{arith}
 use Rattle.text.specs.Class.{close-bracket, space}
 use Rattle.text.specs.Rest.{Rest, left, rest, found, mark, size}
-use Rattle.text.specs.RestLaws.{rest_in, found_in, found-out, size-rest, less-mark}
+use Rattle.text.proofs.RestLaws.{rest_in, found_in, found-out, size-rest, less-mark}
 use Rattle.grammar.specs.Data.Book.{Place}
 use Rattle.grammar.specs.Data.Postfix.{Step}
 use Rattle.grammar.specs.Format.Reader.{Parsed, result, remaining}

@@ -8,9 +8,9 @@ use Rattle.std.proofs.Math.Bool.{true, false}
 use Rattle.std.proofs.Math.ListN.{drop}
 use Rattle.text.specs.Class.{open-bracket}
 use Rattle.text.specs.Rest.{Rest, lost, left, rest, found, mark}
-use Rattle.text.specs.RestLaws.{rest_in, drop_more}
+use Rattle.text.proofs.RestLaws.{rest_in, drop_more}
 use Rattle.text.specs.Numeral.{decimal, write}
-use Rattle.text.specs.NumeralLaws.{mark-number}
+use Rattle.text.proofs.NumeralLaws.{mark-number}
 use Rattle.text.specs.Reading.{Reads}
 use Rattle.grammar.specs.Data.Term.{add, sub, min, max}
 use Rattle.grammar.specs.Data.Book.{Place, own, at, val}

@@ -16,8 +16,8 @@ use Rattle.console.specs.Desk.{Input, refused, answer_of, evaluated, answer, ans
 use Rattle.console.specs.Figures.{few-rows, calls-kept, answer-evaluated}
 use Rattle.console.specs.Holds.{HoldsBook, HoldsTokens}
 use Rattle.console.specs.Kept.{KEPT_NUMBERS}
-use Rattle.console.specs.Settled.{unended}
-use Rattle.console.specs.Stands.{stands-front, stands-alone}
+use Rattle.console.proofs.Settled.{unended}
+use Rattle.console.proofs.Stands.{stands-front, stands-alone}
 
 -- the words of a stored book and of a page of rows
 pub record Lengths (words rows : List ℕ) : Type 0 where

@@ -8,8 +8,8 @@ use Rattle.console.specs.declared.input.Progress.TheVariants.{Book}
 use Rattle.console.specs.Desk.{Input, nothing_read, all_bytes, answer_to, desk_output}
 use Rattle.console.specs.Holds.{Buffers, Holds}
 use Rattle.console.specs.Printing.{OUTPUT_BYTES, Printed}
-use Rattle.console.specs.Stands.{stands-nothing}
-use Rattle.console.specs.Steps.{all_append}
+use Rattle.console.proofs.Stands.{stands-nothing}
+use Rattle.console.proofs.Steps.{all_append}
 
 -- the input could not be read, or the output is the one that belongs to it
 pub data Outcome (out : List ℕ) (n : ℕ) : Type 0 where

@@ -10,7 +10,7 @@ use Rattle.grammar.specs.Refusal.{Verdict}
 use Rattle.grammar.specs.Engine.{Reading, read_book, tables_of, evaluate_words}
 use Rattle.grammar.specs.Demands.{Reads as Reads-right, wrong_lengths, takes, refuses}
 use Rattle.grammar.specs.Demands.{Stored, book_of, numbers_of, Evaluates as Evaluates-right, Figures}
-use Rattle.grammar.specs.DemandsProof.{taken-right, refusal-right, reading-right, evaluating-right, tables-right, figures-right}
+use Rattle.grammar.proofs.DemandsProof.{taken-right, refusal-right, reading-right, evaluating-right, tables-right, figures-right}
 use Rattle.attempts.specs.Readings.{Reads, text-number, read_number}
 use Rattle.attempts.specs.Evaluations.{Evaluates}
 

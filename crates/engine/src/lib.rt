@@ -7,17 +7,15 @@ ghost use Rattle.grammar.specs.Engine.{read_book, evaluate_words};
 ghost use Rattle.attempts.specs.Evaluations.{Evaluates};
 ghost use Rattle.attempts.specs.Readings.{Reads};
 
-// Reading, for callers in C: a slice comes as its pointer and its number of elements.
-#[unsafe(no_mangle)]
-pub extern "C" fn message_book_read(text: &[u8], words: &mut [u32]) -> u32
+// Reading. Crate engine_c exports it for callers in C.
+pub fn message_book_read(text: &[u8], words: &mut [u32]) -> u32
     ensures { Reads (read_book text.now (length words.old)) result words.new }
 {
     reading::read(text, words)
 }
 
-// Evaluating, for callers in C.
-#[unsafe(no_mangle)]
-pub extern "C" fn message_book_evaluate(
+// Evaluating. Crate engine_c exports it for callers in C.
+pub fn message_book_evaluate(
     words: &[u32],
     tokens: &[u32],
     rows: &mut [u32],

@@ -18,7 +18,6 @@ pub mod Fixpoint
 pub mod FixpointLaws
 pub mod GoLaws
 pub mod GoLines
-pub mod GoRulesLaws
 pub mod Items
 pub mod ItemsRight
 pub mod ItemsRightLaws

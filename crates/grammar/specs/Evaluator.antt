@@ -1,24 +1,16 @@
 -- Parse trees, their values, the stack evaluator, and demand 3 over them.
 pub mod Chains
-pub mod Complete
 pub mod Decorate
 pub mod Decorated
 pub mod DecoratedLaws
 pub mod Demand
-pub mod DemandProof
 pub mod FirstOfLeaves
 pub mod Machine
-pub mod Moves
 pub mod Premises
 pub mod PremisesLaws
 pub mod Rebuild
 pub mod Rows
 pub mod RowsLaws
-pub mod RunLaws
-pub mod RunRefusals
 pub mod Runs
-pub mod Simulate
-pub mod Soundness
-pub mod TakenPremises
 pub mod Tree
 pub mod TreeLaws

@@ -6,17 +6,10 @@ pub mod DefinitionPremises
 pub mod Formula
 pub mod FormulaCheck
 pub mod FormulaCheckAll
-pub mod FormulaCheckLaws
-pub mod FormulaCheckSteps
 pub mod FormulaPremises
-pub mod FormulaTable
-pub mod OneFormulaLaws
 pub mod PartialLaws
 pub mod Passes
 pub mod Plan
-pub mod PlanLaws
 pub mod SameFormula
 pub mod Slots
 pub mod SlotsFill
-pub mod SlotsLaws
-pub mod SlotsTests

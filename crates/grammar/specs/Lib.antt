@@ -4,12 +4,9 @@ pub mod Cases
 pub mod Conditions
 pub mod Data
 pub mod Demands
-pub mod DemandsProof
 pub mod Engine
 pub mod Evaluator
 pub mod Format
 pub mod Formulas
 pub mod Limits
 pub mod Refusal
-pub mod RefusalLaws
-pub mod StoredLaws

@@ -5,7 +5,7 @@ use Rattle.std.proofs.Math.Path.{sym, ap}
 use Rattle.std.proofs.Common.{◌∙◌, arith}
 use mathlib.Core.List.{List, ◌∷◌}
 use Rattle.sets.specs.Sets.{union}
-use Rattle.sets.specs.SetsLaws.{union-lt}
+use Rattle.sets.proofs.SetsLaws.{union-lt}
 use Rattle.grammar.specs.Data.Symbol.{Symbol}
 use Rattle.grammar.specs.Automaton.Fixpoint.{set_at, visit, least}
 use Rattle.grammar.specs.Automaton.FirstSets.{first_in, first_rule, first_sets}

@@ -3,7 +3,7 @@
 use Rattle.std.specs.Prelude.{ℕ, zero, suc, ◌<◌, ◌≤◌, ◌≡◌, refl, Bool, true, false, List, [], ◌∷◌, length, drop, replicate}
 use Rattle.std.proofs.Common.{sym, ◌∙◌, subst, ⊎_elim, arith}
 use Rattle.sets.specs.Sets.{bit, union}
-use Rattle.sets.specs.SetsLaws.{bit-lt, union-lt, union_left, union_right, union-either}
+use Rattle.sets.proofs.SetsLaws.{bit-lt, union-lt, union_left, union_right, union-either}
 use Rattle.grammar.specs.Data.Symbol.{Symbol, terminal, nonterminal, Rule, right_of, after}
 use Rattle.grammar.specs.Automaton.Fixpoint.{Constraint, set_at}
 use Rattle.grammar.specs.Automaton.LeastLaws.{Fits, none-family, none_within, least-family, least-closed}

@@ -2,8 +2,8 @@
 use Rattle.std.specs.Prelude.{ℕ, ◌+◌, ◌<◌, ◌≤◌, ◌≡◌, List, get_or}
 use Rattle.std.proofs.Common.{arith}
 use Rattle.std.specs.Int.Bits.{bit_or}
-use Rattle.sets.specs.Bits.{below_suc}
-use Rattle.sets.specs.Operations.{or-none}
+use Rattle.sets.proofs.Bits.{below_suc}
+use Rattle.sets.proofs.Operations.{or-none}
 
 -- a number of words are 0, from a place on
 abbrev pub Nothing : List ℕ → ℕ → ℕ → Type 0

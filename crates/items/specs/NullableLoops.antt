@@ -6,7 +6,7 @@ use Rattle.std.proofs.Math.Path.{refl, sym, ap}
 use Rattle.std.proofs.Common.{◌∙◌, arith}
 use mathlib.Core.List.{List, [], ◌∷◌}
 use Rattle.sets.specs.Sets.{with}
-use Rattle.sets.specs.SetsLaws.{union-lt}
+use Rattle.sets.proofs.SetsLaws.{union-lt}
 use Rattle.grammar.specs.Data.Symbol.{right_of}
 use Rattle.grammar.specs.Automaton.Fixpoint.{set_at, visit, visits, least}
 use Rattle.grammar.specs.Automaton.FirstSets.{null_in, null_rule, nullable}

@@ -6,7 +6,7 @@ use Rattle.std.proofs.Common.{sym, ⊎_elim}
 use Rattle.std.proofs.Math.Bool.{true}
 use native.Mathlib.Omega.{arith}
 use Rattle.sets.specs.Sets.{bit, single, union}
-use Rattle.sets.specs.SetsLaws.{bit-lt, single-lt, union-lt, union_left, union_right, union-either}
+use Rattle.sets.proofs.SetsLaws.{bit-lt, single-lt, union-lt, union_left, union_right, union-either}
 use Rattle.grammar.specs.Automaton.TestLaws.{by-test, true-false}
 use Rattle.grammar.specs.Automaton.Members.{none_in}
 use Rattle.grammar.specs.Data.Symbol.{Symbol, terminal, nonterminal, Rule, left_of, right_of}

@@ -3,8 +3,8 @@
 use Rattle.std.specs.Prelude.{ℕ, ◌+◌, ◌-◌, ◌<◌, ◌≤◌, ◌≡◌, Bool, true, false, List}
 use Rattle.std.proofs.Common.{sym, ◌∙◌, subst, arith, ext_get_or}
 use Rattle.sets.specs.Sets.{bit}
-use Rattle.sets.specs.SetsLaws.{same_set}
-use Rattle.sets.specs.Operations.{same_truth}
+use Rattle.sets.proofs.SetsLaws.{same_set}
+use Rattle.sets.proofs.Operations.{same_truth}
 use Rattle.grammar.specs.Automaton.Fixpoint.{set_at, Constraint, visit, visits, least}
 use Rattle.grammar.specs.Automaton.LeastLaws.{Family, Within, Fits, least-family, least-holds, least-closed, least-within}
 use Rattle.items.specs.Passes.{Told, Passing, pass-begins, pass-ends, turn_more, turn-same}

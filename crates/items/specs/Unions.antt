@@ -1,7 +1,7 @@
 -- Laws of unions as equations between the numbers. Assumes nothing.
 use Rattle.std.specs.Prelude.{ℕ, ◌^◌, ◌<◌, ◌≡◌, refl, Bool, true, false, ◌||◌}
 use Rattle.sets.specs.Sets.{bit, empty, union}
-use Rattle.sets.specs.SetsLaws.{bit-empty, bit-union, union-lt, same_set, subset-true, subset-union}
+use Rattle.sets.proofs.SetsLaws.{bit-empty, bit-union, union-lt, same_set, subset-true, subset-union}
 use Rattle.grammar.specs.Automaton.Members.{none_in}
 
 pub union-none : (a : ℕ) → a < 2 ^ 32 → union a 0 ≡ a

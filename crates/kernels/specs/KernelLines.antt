@@ -5,11 +5,11 @@ use Rattle.std.proofs.Math.Path.{refl}
 use Rattle.std.proofs.Common.{sym, ◌∙◌, arith, ne_eqb}
 use Rattle.text.specs.Class.{space}
 use Rattle.text.specs.Rest.{Rest, rest, must, mark, size}
-use Rattle.text.specs.RestLaws.{rest_out, must-true, must-false}
+use Rattle.text.proofs.RestLaws.{rest_out, must-true, must-false}
 use Rattle.text.specs.Numeral.{decimal, value, past, word_of}
 use Rattle.text.specs.Reading.{Reads}
 use Rattle.sets.specs.Sets.{bit, with}
-use Rattle.sets.specs.SetsLaws.{bit-with, with-lt, same_set}
+use Rattle.sets.proofs.SetsLaws.{bit-with, with-lt, same_set}
 use Rattle.grammar.specs.Automaton.ClosureSets.{set_of}
 use Rattle.grammar.specs.Format.Ordered.{kernel_key, lookahead_key}
 use Rattle.grammar.specs.Format.Reader.{Parsed, result, remaining, opening, closing, naming}

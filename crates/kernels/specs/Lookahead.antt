@@ -5,7 +5,7 @@ use Rattle.std.proofs.Common.{arith, ◌∙◌, eqb-true}
 use Rattle.std.proofs.Math.Path.{refl}
 use Rattle.text.specs.Class.{class_of}
 use Rattle.text.specs.Rest.{rest}
-use Rattle.text.specs.RestLaws.{rest_out, rest_at}
+use Rattle.text.proofs.RestLaws.{rest_out, rest_at}
 use Rattle.text.specs.Numeral.{decimal, word_of, spelled}
 use Rattle.text.specs.Reading.{Reads}
 use Rattle.grammar.specs.Format.Reader.{naming}

@@ -2,9 +2,9 @@
 use Rattle.std.specs.Prelude.{ℕ, zero, suc, ◌+◌, ◌*◌, ◌-◌, ◌<◌, ◌≤◌, ◌≡◌, refl, List, [], ◌∷◌, ◌++◌, length, get_or, drop}
 use Rattle.std.proofs.Common.{arith, sym, ◌∙◌}
 use Rattle.text.specs.Rest.{rest, left}
-use Rattle.text.specs.RestLaws.{rest_in, drop_more}
+use Rattle.text.proofs.RestLaws.{rest_in, drop_more}
 use Rattle.text.specs.Numeral.{word_of}
-use Rattle.text.specs.Positional.{by_less}
+use Rattle.text.proofs.Positional.{by_less}
 use Rattle.grammar.specs.Format.Reader.{opening}
 use Rattle.grammar.specs.Format.ReaderLaws.{reading}
 

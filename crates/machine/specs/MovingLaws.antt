@@ -9,7 +9,7 @@ use Rattle.grammar.specs.Data.Book.{Book}
 use Rattle.grammar.specs.Automaton.States.{shift, accept, reduce}
 use Rattle.grammar.specs.Evaluator.Tree.{Token}
 use Rattle.grammar.specs.Evaluator.Machine.{Config, config, refused, accepted, stop, perform, step}
-use Rattle.grammar.specs.Evaluator.Moves.{shift-16, shift-17, reduce-16, reduce-17}
+use Rattle.grammar.proofs.Evaluator.Moves.{shift-16, shift-17, reduce-16, reduce-17}
 use Rattle.grammar.specs.Engine.{tables_of}
 use Rattle.stack.specs.declared.top.Top.{Top}
 use Rattle.stack.specs.Goes.{shift-goes}

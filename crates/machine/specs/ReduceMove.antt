@@ -8,7 +8,7 @@ use Rattle.grammar.specs.Data.Book.{Book}
 use Rattle.grammar.specs.Automaton.States.{reduce}
 use Rattle.grammar.specs.Evaluator.Tree.{Token}
 use Rattle.grammar.specs.Evaluator.Machine.{Config, refused, stop, step}
-use Rattle.grammar.specs.Evaluator.TakenPremises.{premises}
+use Rattle.grammar.proofs.Evaluator.TakenPremises.{premises}
 use Rattle.grammar.specs.Engine.{tables_of}
 use Rattle.stack.specs.declared.top.Top.{Top}
 use Rattle.stack.specs.Action.{reduced}

@@ -5,7 +5,7 @@ use Rattle.grammar.specs.Data.Book.{Book}
 use Rattle.grammar.specs.Evaluator.Tree.{Token}
 use Rattle.grammar.specs.Evaluator.Machine.{Tables, Frame, Config, Answer, refused, accepted, more, stop, start, step, evaluate}
 use Rattle.grammar.specs.Evaluator.Runs.{Ends, halts, moves}
-use Rattle.grammar.specs.Evaluator.RunLaws.{row_count, step-rows, evaluate-ends}
+use Rattle.grammar.proofs.Evaluator.RunLaws.{row_count, step-rows, evaluate-ends}
 use Rattle.grammar.specs.Engine.{tables_of}
 use Rattle.plans.specs.Plans.{PlansIn, PlansHeld}
 use Rattle.cells.specs.Frames.{no_frames}

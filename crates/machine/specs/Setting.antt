@@ -8,13 +8,14 @@ use Rattle.grammar.specs.BookFacts.{small-book}
 use Rattle.grammar.specs.Automaton.FirstSets.{sets_of}
 use Rattle.grammar.specs.Automaton.ReachSets.{reach_sets}
 use Rattle.grammar.specs.Automaton.ItemsRightLaws.{book-items-right}
-use Rattle.grammar.specs.Formulas.PartialLaws.{partial_at, partial-items}
+use Rattle.grammar.specs.Formulas.PartialLaws.{partial_at}
+use Rattle.grammar.proofs.Formulas.PartialLaws.{partial-items}
 use Rattle.grammar.specs.Formulas.FormulaCheck.{dot_of, line_at, listed}
-use Rattle.grammar.specs.Formulas.FormulaCheckLaws.{Tells}
-use Rattle.grammar.specs.Formulas.FormulaCheckAll.{listed-tells}
+use Rattle.grammar.proofs.Formulas.FormulaCheckLaws.{Tells}
+use Rattle.grammar.proofs.Formulas.FormulaCheckAll.{listed-tells}
 use Rattle.grammar.specs.Evaluator.Tree.{Token, next}
 use Rattle.grammar.specs.Evaluator.Machine.{Frame, Config}
-use Rattle.grammar.specs.Evaluator.TakenPremises.{premises}
+use Rattle.grammar.proofs.Evaluator.TakenPremises.{premises}
 use Rattle.grammar.specs.Refusal.{Sound}
 use Rattle.grammar.specs.Engine.{tables_of}
 use Rattle.book.specs.Held.{DefinitionsIn}

@@ -13,7 +13,7 @@ use Rattle.grammar.specs.Evaluator.Tree.{Token, next}
 use Rattle.grammar.specs.Evaluator.Decorated.{token}
 use Rattle.grammar.specs.Evaluator.Rows.{Row, row_of_token}
 use Rattle.grammar.specs.Evaluator.Machine.{Frame, frame, Config, cell}
-use Rattle.grammar.specs.Evaluator.Moves.{shifted, shift-moves}
+use Rattle.grammar.proofs.Evaluator.Moves.{shifted, shift-moves}
 use Rattle.grammar.specs.Engine.{tables_of}
 use Rattle.book.specs.Layout.{symbol_code}
 use Rattle.items.specs.SymbolCodes.{terminal-code}

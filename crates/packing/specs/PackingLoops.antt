@@ -3,7 +3,7 @@ use Rattle.std.specs.Prelude.{ℕ, ◌+◌, ◌-◌, ◌*◌, ◌/◌, ◌<◌, 
 use Rattle.std.proofs.Common.{sym, ap, ◌∙◌, append-nil, arith, length-append, length-drop, length-set, drop_of_length-le, take_at}
 use Rattle.std.proofs.Math.Seq.{append_snoc, drop-length}
 use Rattle.std.proofs.lemmas.List.{set_at}
-use Rattle.text.specs.RestLaws.{drop_more}
+use Rattle.text.proofs.RestLaws.{drop_more}
 use Rattle.grammar.specs.Format.Packing.{word_of, pack, pack-length}
 use Rattle.packing.specs.Words.{part_from}
 use Rattle.packing.specs.WordsLaws.{part-drop, pack-append, pack-nothing, word_at}

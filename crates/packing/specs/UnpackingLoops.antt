@@ -6,10 +6,10 @@ use Rattle.std.proofs.Math.Path.{refl}
 use Rattle.std.proofs.Common.{sym, ap, ◌∙◌, arith, take-add, take-take}
 use Rattle.std.specs.Int.Bits.{bit_or}
 use Rattle.std.proofs.Math.ListN.{get_or, get_or-eq_default}
-use Rattle.sets.specs.Bits.{below_suc}
-use Rattle.sets.specs.Operations.{or-none}
-use Rattle.text.specs.Positional.{by_less}
-use Rattle.text.specs.RestLaws.{drop_more}
+use Rattle.sets.proofs.Bits.{below_suc}
+use Rattle.sets.proofs.Operations.{or-none}
+use Rattle.text.proofs.Positional.{by_less}
+use Rattle.text.proofs.RestLaws.{drop_more}
 use Rattle.packing.specs.Words.{bytes_of, bytes, Placed, Copied, Zeros, Ends, Holds}
 use Rattle.packing.specs.WordsLaws.{bytes-length, bytes_drop, none_of, byte_of, holding}
 use Rattle.packing.specs.PlacedLaws.{placed-length, placed-front}

@@ -4,7 +4,7 @@ use Rattle.std.specs.Prelude.{ℕ, zero, suc, ◌+◌, ◌-◌, ◌*◌, ◌/◌
 use Rattle.std.proofs.Common.{sym, ap, ◌∙◌, arith, length-drop, length-take, take_all, drop-drop, get_or-drop, get_or-take, ext_get_or}
 use Rattle.std.proofs.Math.ListN.{get_or-append, get_or-eq_default}
 use Rattle.std.proofs.Math.Seq.{drop-nil}
-use Rattle.text.specs.Positional.{by_less}
+use Rattle.text.proofs.Positional.{by_less}
 use Rattle.grammar.specs.Format.Packing.{word_of, pack}
 use Rattle.packing.specs.Words.{bytes_of, bytes, part_from, Ends, Holds}
 

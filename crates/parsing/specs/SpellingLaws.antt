@@ -9,7 +9,7 @@ use native.Mathlib.Omega.{arith}
 use Rattle.std.proofs.Math.ListN.{length, length-map}
 use Rattle.std.proofs.lemmas.Bool.{eqb-false}
 use Rattle.text.specs.Rest.{Rest, lost, left, rest, size}
-use Rattle.text.specs.RestLaws.{rest_in, rest_at, rest_out}
+use Rattle.text.proofs.RestLaws.{rest_in, rest_at, rest_out}
 use Rattle.text.specs.Numeral.{word_of}
 use Rattle.grammar.specs.Limits.{MAX_INHERITED, MAX_SYNTHESIZED}
 use Rattle.grammar.specs.Data.Book.{Book as Lines}

@@ -8,7 +8,7 @@ use mathlib.Core.List.Memᴰ.{tail as in_Tail}
 use mathlib.Core.List.{List, ◌∷◌, ◌++◌, Memᴰ as Mem}
 use Rattle.std.proofs.Math.Seq.{slice}
 use Rattle.sets.specs.Sets.{bit, empty}
-use Rattle.sets.specs.SetsLaws.{bit-empty}
+use Rattle.sets.proofs.SetsLaws.{bit-empty}
 use Rattle.grammar.specs.Conditions.Decides.{Decides, decides-same}
 use Rattle.grammar.specs.Data.Symbol.{left_of, after}
 use Rattle.grammar.specs.Data.Book.{Book, Kernel}
@@ -20,7 +20,7 @@ use Rattle.grammar.specs.Automaton.TestLaws.{true-false}
 use Rattle.grammar.specs.Automaton.CoreItems.{Core, core, of_kernels, of_rules, core_items}
 use Rattle.grammar.specs.Formulas.FormulaCheck as grammar
 use Rattle.grammar.specs.Formulas.FormulaCheck.{dot_of, line_at}
-use Rattle.grammar.specs.Formulas.FormulaCheckLaws.{Tells}
+use Rattle.grammar.proofs.Formulas.FormulaCheckLaws.{Tells}
 use Rattle.attributes.specs.Checking.{CheckHeld}
 use Rattle.attributes.specs.Marks.{ItemReaches}
 use Rattle.attributes.specs.MarkFronts.{LooksIn, front_word, front-none, front-behind, front-first, front-decides}

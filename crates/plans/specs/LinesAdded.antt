@@ -5,8 +5,8 @@ use Rattle.std.proofs.Math.Decide.{ℕ_discrete}
 use Rattle.std.proofs.Math.Bool.{or-true}
 use Rattle.std.specs.Int.Bits.{bit_or}
 use Rattle.sets.specs.Sets.{bit, empty, single}
-use Rattle.sets.specs.SetsLaws.{bit-empty, bit-single}
-use Rattle.sets.specs.Operations.{bit-or, or-none}
+use Rattle.sets.proofs.SetsLaws.{bit-empty, bit-single}
+use Rattle.sets.proofs.Operations.{bit-or, or-none}
 use Rattle.plans.specs.Lines.{line_bit}
 
 -- one line is added

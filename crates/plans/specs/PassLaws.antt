@@ -5,12 +5,12 @@ use Rattle.std.proofs.Math.Path.{sym}
 use Rattle.std.proofs.Math.Bool.{true, false}
 use Rattle.std.proofs.lemmas.List.{get_or-replicate}
 use Rattle.sets.specs.Sets.{empty}
-use Rattle.sets.specs.SetsLaws.{bit-empty}
+use Rattle.sets.proofs.SetsLaws.{bit-empty}
 use Rattle.grammar.specs.Limits.{MAX_INHERITED}
 use Rattle.grammar.specs.Data.Book.{Book}
 use Rattle.grammar.specs.Formulas.Passes.{visits, passes, Larger, Keeps, visits-keep, passes-turn, passes-end}
 use Rattle.grammar.specs.Formulas.FormulaCheck.{definitions}
-use Rattle.grammar.specs.Formulas.FormulaCheckSteps.{done-length}
+use Rattle.grammar.proofs.Formulas.FormulaCheckSteps.{done-length}
 use Rattle.plans.specs.Planning.{Planning, planning, known_in, lines_of, known_of, unplanned, plan_line, planned, plan}
 use Rattle.plans.specs.PlanningLaws.{Right, planning-growing, unplanned-right}
 use Rattle.plans.specs.PlanRows.{PlanRow, PlanningIn}

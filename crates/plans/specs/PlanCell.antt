@@ -13,9 +13,9 @@ use Rattle.grammar.specs.Engine.{tables_of}
 use Rattle.grammar.specs.Format.Ordered.{Spelled}
 use Rattle.grammar.specs.Refusal.{Sound}
 use Rattle.grammar.specs.Formulas.FormulaCheck.{definitions, line_at}
-use Rattle.grammar.specs.Formulas.FormulaCheckLaws.{Tells}
+use Rattle.grammar.proofs.Formulas.FormulaCheckLaws.{Tells}
 use Rattle.grammar.specs.Formulas.Plan.{Setting, setting, set_in, value_in, value_of, due_in, set_line, settled, fill_cell}
-use Rattle.grammar.specs.Formulas.PlanLaws.{taken-cell}
+use Rattle.grammar.proofs.Formulas.PlanLaws.{taken-cell}
 use Rattle.plans.specs.Planning.{Planning, planning, known_in, lines_of, unplanned, applied, plan_line, planned, plan}
 use Rattle.plans.specs.Following.{passes-follow}
 

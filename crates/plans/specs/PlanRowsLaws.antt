@@ -9,13 +9,13 @@ use borrow.Author.Tests.{ne_eqb, not-true, not-false}
 use Rattle.std.proofs.Math.ListN.{get_or, length-set, get_or-append}
 use Rattle.std.proofs.Math.Seq.{get_or-append_seam}
 use Rattle.sets.specs.Sets.{bit, with}
-use Rattle.sets.specs.SetsLaws.{bit-with, with-self}
+use Rattle.sets.proofs.SetsLaws.{bit-with, with-self}
 use Rattle.grammar.specs.Limits.{MAX_INHERITED}
 use Rattle.grammar.specs.Automaton.TestLaws.{true-false}
 use Rattle.grammar.specs.Data.Book.{Book}
 use Rattle.grammar.specs.Formulas.FormulaCheck as grammar
 use Rattle.grammar.specs.Formulas.FormulaCheck.{dot_of, line_at}
-use Rattle.grammar.specs.Formulas.FormulaCheckSteps.{done_more, done-length}
+use Rattle.grammar.proofs.Formulas.FormulaCheckSteps.{done_more, done-length}
 use Rattle.grammar.specs.Formulas.Plan.{ready_in, due_in}
 use Rattle.attributes.specs.Checking.{CheckHeld}
 use Rattle.attributes.specs.CheckingLaws.{attribute-word, attribute_low}

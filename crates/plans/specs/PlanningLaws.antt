@@ -12,7 +12,7 @@ use Rattle.grammar.specs.Automaton.TestLaws.{by-test, true-false}
 use Rattle.grammar.specs.Data.Book.{Book}
 use Rattle.grammar.specs.Formulas.Passes.{Larger, Keeps, Growing, passes-keep}
 use Rattle.grammar.specs.Formulas.FormulaCheck.{dot_of, done_in, definitions, line_at}
-use Rattle.grammar.specs.Formulas.FormulaCheckSteps.{done_more, done-length}
+use Rattle.grammar.proofs.Formulas.FormulaCheckSteps.{done_more, done-length}
 use Rattle.grammar.specs.Formulas.FormulaCheckAll.{SameItems}
 use Rattle.grammar.specs.Formulas.Plan.{ready_in, due_in}
 use Rattle.plans.specs.Planning.{Planning, planning, known_in, lines_of, unplanned, plan_line, planned, plan}

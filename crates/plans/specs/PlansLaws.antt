@@ -13,10 +13,11 @@ use Rattle.grammar.specs.BookFacts.{small-book}
 use Rattle.grammar.specs.Automaton.FirstSets.{sets_of}
 use Rattle.grammar.specs.Automaton.ReachSets.{reach_sets}
 use Rattle.grammar.specs.Automaton.ItemsRightLaws.{book-items-right}
-use Rattle.grammar.specs.Formulas.PartialLaws.{partial_at, partial-items}
+use Rattle.grammar.specs.Formulas.PartialLaws.{partial_at}
+use Rattle.grammar.proofs.Formulas.PartialLaws.{partial-items}
 use Rattle.grammar.specs.Formulas.FormulaCheck.{definitions, listed}
-use Rattle.grammar.specs.Formulas.FormulaCheckLaws.{Tells}
-use Rattle.grammar.specs.Formulas.FormulaCheckAll.{listed-tells}
+use Rattle.grammar.proofs.Formulas.FormulaCheckLaws.{Tells}
+use Rattle.grammar.proofs.Formulas.FormulaCheckAll.{listed-tells}
 use Rattle.plans.specs.Lines.{LinesIn}
 use Rattle.plans.specs.LinesAdded.{lines_none}
 use Rattle.plans.specs.PlanningLaws.{plan-short, plan-none}

@@ -1,5 +1,1 @@
 pub mod Sets
-pub mod Bits
-pub mod SetsLaws
-pub mod Operations
-pub mod Examples

@@ -13,7 +13,7 @@ use Rattle.grammar.specs.Automaton.States.{shift, accept, reduce, Acts, reduces,
 use Rattle.grammar.specs.Automaton.FirstSets.{sets_of}
 use Rattle.grammar.specs.Automaton.Actions.{Cell, free, act, conflict, action_of}
 use Rattle.grammar.specs.Automaton.Compiled.{compiled}
-use Rattle.grammar.specs.Evaluator.TakenPremises.{premises}
+use Rattle.grammar.proofs.Evaluator.TakenPremises.{premises}
 use Rattle.grammar.specs.Refusal.{Sound}
 use Rattle.grammar.specs.Engine.{tables_from, tables_of}
 use Rattle.items.specs.Arrays.{cell_code, ActionsIn}

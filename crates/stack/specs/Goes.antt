@@ -16,7 +16,7 @@ use Rattle.grammar.specs.Automaton.States.{shift, reduce, Acts, shifts}
 use Rattle.grammar.specs.Evaluator.Decorated.{Values, Result}
 use Rattle.grammar.specs.Evaluator.Machine.{Frame, Popped, popped, pop}
 use Rattle.grammar.specs.Evaluator.PremisesLaws.{dotted, start_only, go_there, go-back}
-use Rattle.grammar.specs.Evaluator.TakenPremises.{premises}
+use Rattle.grammar.proofs.Evaluator.TakenPremises.{premises}
 use Rattle.grammar.specs.Refusal.{Sound}
 use Rattle.grammar.specs.Engine.{tables_from, tables_of}
 use Rattle.book.specs.Layout.{symbol_code}

@@ -18,8 +18,8 @@ use Rattle.grammar.specs.Evaluator.Decorated.{Values, Result, values, place_valu
 use Rattle.grammar.specs.Evaluator.Rows.{Row, row_of_node, owned}
 use Rattle.grammar.specs.Evaluator.RowsLaws.{owned-same}
 use Rattle.grammar.specs.Evaluator.Machine.{Frame, frame, Config, cell, pop}
-use Rattle.grammar.specs.Evaluator.Moves as moves
-use Rattle.grammar.specs.Evaluator.TakenPremises.{premises}
+use Rattle.grammar.proofs.Evaluator.Moves as moves
+use Rattle.grammar.proofs.Evaluator.TakenPremises.{premises}
 use Rattle.grammar.specs.Engine.{tables_of}
 use Rattle.grammar.specs.Data.ListLaws.{member-at}
 use Rattle.book.specs.Held.{no_synthesized}

@@ -10,7 +10,7 @@ use Rattle.grammar.specs.Automaton.States.{Action}
 use Rattle.grammar.specs.Evaluator.Tree.{Token, next, TokensOf}
 use Rattle.grammar.specs.Evaluator.Rows.{Row}
 use Rattle.grammar.specs.Evaluator.Machine.{Frame, Config, config, more, cell, step}
-use Rattle.grammar.specs.Evaluator.TakenPremises.{premises}
+use Rattle.grammar.proofs.Evaluator.TakenPremises.{premises}
 use Rattle.grammar.specs.Refusal.{Sound}
 use Rattle.grammar.specs.Engine.{tables_of}
 use Rattle.book.specs.Held.{RulesIn, DefinitionsIn}

@@ -11,9 +11,10 @@ use lib.ListN.{length, drop, get_or, drop_of_length-le}
 use borrow.Author.Tests.{eq-eqb}
 use Rattle.text.specs.Class.{class_of}
 use Rattle.text.specs.Rest.{rest, must, mark, mark_in}
-use Rattle.text.specs.RestLaws.{rest_in, rest_out, rest_at, rest_end, drop_more, mark-class, mark-other}
+use Rattle.text.proofs.RestLaws.{rest_in, rest_out, rest_at, rest_end, drop_more, mark-class, mark-other}
 use Rattle.text.specs.Numeral.{System, letters, Read, bad, got, digit_of, digits, numeral, read, number_of, rest_of, value, past, keyword}
-use Rattle.text.specs.Positional.{no_digit, digit-below, digits-stop, digits-over, digits_more, numeral-zero, numeral-none, numeral-first}
+use Rattle.text.specs.Positional.{no_digit}
+use Rattle.text.proofs.Positional.{digit-below, digits-stop, digits-over, digits_more, numeral-zero, numeral-none, numeral-first}
 use Rattle.text.specs.Reading.{Valid, Reads, Amid, Answers}
 
 -- One byte

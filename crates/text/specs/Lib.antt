@@ -1,10 +1,7 @@
 pub mod Class
-pub mod ClassLaws
 pub mod Examples
 pub mod Numeral
-pub mod NumeralLaws
 pub mod Positional
 pub mod Reading
 pub mod Rest
-pub mod RestLaws
 pub mod Table

@@ -1,12 +1,11 @@
 -- What the readers in code ask of their callers and what they answer, by name.
 -- Assumes nothing.
 use Rattle.std.specs.Prelude.{ℕ, ◌≤◌, ◌≡◌, List, length}
-use Rattle.std.proofs.Common.{arith}
 use Rattle.text.specs.declared.Notation.{Notation}
 use Rattle.text.specs.Table.{table}
 use Rattle.text.specs.Rest.{rest}
-use Rattle.text.specs.Numeral.{System, decimal, letters, Read, number_of, rest_of, value, past}
-use Rattle.text.specs.Positional.{Positional, decimal-positional, letters-positional}
+use Rattle.text.specs.Numeral.{System, Read, number_of, rest_of, value, past}
+use Rattle.text.specs.Positional.{Positional}
 
 -- what is lent to a reader: the table of classes, and a text that is not too long
 pub record Lent (classes text : List ℕ) : Type 0 where
@@ -22,12 +21,6 @@ pub record Valid (S : System) : Type 0 where
   pub one_digit : S.base ≤ S.limit
   pub base_fits : S.base ≤ 256
   pub limit_fits : S.limit ≤ 4294967295
-
-pub decimal-valid : Valid decimal
-decimal-valid = record { positional = decimal-positional; one_digit = omega arith; base_fits = omega arith; limit_fits = omega arith }
-
-pub letters-valid : Valid letters
-letters-valid = record { positional = letters-positional; one_digit = omega arith; base_fits = omega arith; limit_fits = omega arith }
 
 -- the number that stands at a position, and the position after it
 pub record Reads (S : System) (text : List ℕ) (at number next : ℕ) : Type 0 where

@@ -14,7 +14,7 @@ use mathlib.Core.List.{List, [], ◌∷◌, Memᴰ as Mem}
 use Rattle.std.proofs.Math.Dec.{eqb}
 use borrow.Author.Tests.{eqb-true, eqb-false}
 use Rattle.sets.specs.Sets.{bit, single}
-use Rattle.sets.specs.SetsLaws.{bit-single}
+use Rattle.sets.proofs.SetsLaws.{bit-single}
 use Rattle.grammar.specs.Data.Symbol.{Symbol, terminal, nonterminal, Rule, after}
 use Rattle.grammar.specs.Automaton.States.{Action, Action-discrete, shift}
 use Rattle.grammar.specs.Automaton.CoreItems.{Core, core}

@@ -11,7 +11,7 @@ use mathlib.Core.List.{List, [], ◌∷◌, Memᴰ as Mem}
 use native.Mathlib.Omega.{arith}
 use Rattle.std.proofs.Math.ListN.{length}
 use Rattle.sets.specs.Sets.{bit}
-use Rattle.sets.specs.SetsLaws.{bit-lt, union-lt}
+use Rattle.sets.proofs.SetsLaws.{bit-lt, union-lt}
 use Rattle.grammar.specs.Automaton.TestLaws.{by-test}
 use Rattle.grammar.specs.Automaton.Members.{none_in, member}
 use Rattle.grammar.specs.Data.Symbol.{Symbol, terminal, nonterminal, Rule, left_of, right_of, after}

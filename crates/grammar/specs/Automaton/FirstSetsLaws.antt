@@ -7,7 +7,7 @@ use Rattle.std.proofs.Math.Bool.{true, false}
 use Rattle.std.proofs.Math.Logic.{⊎_elim}
 use mathlib.Core.List.{List, [], ◌∷◌}
 use Rattle.sets.specs.Sets.{bit, single, union}
-use Rattle.sets.specs.SetsLaws.{bit-lt, single-lt, union-lt, union_left, union_right, union-either}
+use Rattle.sets.proofs.SetsLaws.{bit-lt, single-lt, union-lt, union_left, union_right, union-either}
 use Rattle.grammar.specs.Automaton.TestLaws.{by-test, true-false}
 use Rattle.grammar.specs.Automaton.Members.{none_in, single-in, single-is}
 use Rattle.grammar.specs.Data.Symbol.{Symbol, terminal, nonterminal, Rule, left_of, right_of}

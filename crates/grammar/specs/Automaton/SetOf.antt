@@ -7,7 +7,7 @@ use mathlib.Core.List.Memᴰ.{head as in_head}
 use mathlib.Core.List.Memᴰ.{tail as in_Tail}
 use mathlib.Core.List.{List, [], ◌∷◌, Memᴰ as Mem}
 use Rattle.sets.specs.Sets.{bit, empty, single, with, subset}
-use Rattle.sets.specs.SetsLaws.{bit-empty, bit-single, bit-lt, with-lt, union-either, with-keeps, with-self, subset-holds, subset-true}
+use Rattle.sets.proofs.SetsLaws.{bit-empty, bit-single, bit-lt, with-lt, union-either, with-keeps, with-self, subset-holds, subset-true}
 use Rattle.grammar.specs.Automaton.ClosureSets.{set_of}
 use Rattle.grammar.specs.Conditions.Decides.{Decides}
 

@@ -7,10 +7,10 @@ use Rattle.std.proofs.Common.{ap, ◌∙◌, append_assoc, arith}
 use Rattle.std.proofs.Math.Bool.{true, false}
 use Rattle.text.specs.Class.{open-bracket, close-bracket, space, class_of}
 use Rattle.text.specs.Rest.{Rest, left, found, must, mark_in, mark, size}
-use Rattle.text.specs.RestLaws.{size-mark, less-mark, found-mark}
+use Rattle.text.proofs.RestLaws.{size-mark, less-mark, found-mark}
 use Rattle.text.specs.Numeral.{decimal, letters, digit_of, write, value, past, word_of}
 use Rattle.text.specs.Positional.{no_digit}
-use Rattle.text.specs.NumeralLaws.{value-number, past-number, mark-number, size-past, less-past}
+use Rattle.text.proofs.NumeralLaws.{value-number, past-number, mark-number, size-past, less-past}
 use Rattle.grammar.specs.Data.Term.{Operator, add, sub, min, max, number, leaf, both, pick}
 use Rattle.grammar.specs.Data.Book.{Place, own, at, val, Expr}
 use Rattle.grammar.specs.Data.Postfix.{Step, push, load, operate, select, postfix, term-postfix}

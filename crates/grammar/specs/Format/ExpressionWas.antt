@@ -5,10 +5,10 @@ use Rattle.std.proofs.Math.Path.{refl}
 use Rattle.std.proofs.Common.{sym, ap, ◌∙◌, append_assoc, arith, eqb-true}
 use Rattle.text.specs.Class.{open-bracket, close-bracket, space}
 use Rattle.text.specs.Rest.{Rest, lost, left, found, mark, size}
-use Rattle.text.specs.RestLaws.{lost≢left, left_is, found_left}
+use Rattle.text.proofs.RestLaws.{lost≢left, left_is, found_left}
 use Rattle.text.specs.Numeral.{decimal, letters, write, value, past, word_of, keyword}
-use Rattle.text.specs.NumeralLaws.{past-got}
-use Rattle.text.specs.Positional.{letters-positional}
+use Rattle.text.proofs.NumeralLaws.{past-got}
+use Rattle.text.proofs.Positional.{letters-positional}
 use Rattle.grammar.specs.Data.Term.{Operator, add, sub, min, max, number, leaf, both, pick}
 use Rattle.grammar.specs.Data.Book.{Place, own, at, val, Expr}
 use Rattle.grammar.specs.Data.Postfix.{Step, push, load, operate, select, postfix, term_of, term-postfix}

@@ -5,10 +5,11 @@ use Rattle.std.proofs.Common.{ap, ◌∙◌, arith, eqb-true, eq-eqb, ltb-true, 
 use Rattle.std.proofs.lemmas.Bool.{false≢true}
 use Rattle.text.specs.Class.{space}
 use Rattle.text.specs.Rest.{Rest, left, found, mark, size}
-use Rattle.text.specs.RestLaws.{left_is, must-got, found-mark}
+use Rattle.text.proofs.RestLaws.{left_is, must-got, found-mark}
 use Rattle.text.specs.Numeral.{decimal, letters, value, write, word_of}
-use Rattle.text.specs.NumeralLaws.{past-got}
-use Rattle.text.specs.Positional.{letters-positional, no_digit}
+use Rattle.text.proofs.NumeralLaws.{past-got}
+use Rattle.text.specs.Positional.{no_digit}
+use Rattle.text.proofs.Positional.{letters-positional}
 use Rattle.grammar.specs.Data.Symbol.{Symbol, terminal, nonterminal, Rule}
 use Rattle.grammar.specs.Data.Book.{InheritedDefinition, SynthesizedDefinition, Kernel, Go}
 use Rattle.grammar.specs.Format.Printer.{Printer, ◌·◌, literal, numeral, each}

@@ -2,7 +2,7 @@
 -- Assumes nothing.
 use Rattle.std.specs.Prelude.{ℕ, ◌≡◌, List, [], ◌∷◌}
 use Rattle.text.specs.Rest.{Rest, left}
-use Rattle.text.specs.RestLaws.{left_is}
+use Rattle.text.proofs.RestLaws.{left_is}
 use Rattle.text.specs.Numeral.{letters, write, word_of}
 use Rattle.grammar.specs.Format.Print.{print_header, print_inherited, print_synthesized, print_rule, print_inherited_definition, print_synthesized_definition}
 use Rattle.grammar.specs.Format.Print.{print_kernel, print_go, print_book}

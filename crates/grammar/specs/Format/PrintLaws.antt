@@ -5,7 +5,7 @@ use Prim.Native.String.{String}
 use Rattle.std.proofs.lemmas.Bool.{false≢true}
 use Rattle.std.proofs.Common.{arith, leb-true, ltb-true, ltb-false}
 use Rattle.text.specs.Numeral.{decimal, written, write}
-use Rattle.text.specs.Positional.{written_small, written-large}
+use Rattle.text.proofs.Positional.{written_small, written-large}
 use Rattle.grammar.specs.Data.Symbol.{Symbol, terminal, nonterminal, Rule}
 use Rattle.grammar.specs.Data.Term.{Operator, add, sub, min, max, number, leaf, both, pick}
 use Rattle.grammar.specs.Data.Book.{Place, own, at, val, Expr, InheritedDefinition, SynthesizedDefinition, Kernel, Go, Book}

@@ -4,14 +4,15 @@ use Rattle.std.specs.Prelude.{ℕ, ◌≤◌, ◌<◌, ◌≡◌, Bool, true, Li
 use Rattle.std.proofs.Math.Path.{ap}
 use Rattle.std.proofs.Common.{◌∙◌, arith, eqb-true}
 use Rattle.text.specs.Class.{digit, open-bracket, close-bracket, space, line-feed, class_of}
-use Rattle.text.specs.ClassLaws.{byte_of}
+use Rattle.text.proofs.ClassLaws.{byte_of}
 use Rattle.text.specs.Rest.{Rest, left, found, must, mark_in, mark, size}
-use Rattle.text.specs.RestLaws.{must-got, found-got, found_left, size-must, size-mark, found-mark}
-use Rattle.text.specs.RestLaws.{mark-got as mark-text}
+use Rattle.text.proofs.RestLaws.{must-got, found-got, found_left, size-must, size-mark, found-mark}
+use Rattle.text.proofs.RestLaws.{mark-got as mark-text}
 use Rattle.text.specs.Numeral.{decimal, letters, got, digit_of, digits, numeral, number_of, rest_of, read, value, past, spelled, written, write, keyword}
-use Rattle.text.specs.Positional.{no_digit, digits-stop}
-use Rattle.text.specs.NumeralLaws.{number-written, written-head, size-past, size-keyword}
-use Rattle.text.specs.NumeralLaws.{number-got as number-text, keyword-got as keyword-text}
+use Rattle.text.specs.Positional.{no_digit}
+use Rattle.text.proofs.Positional.{digits-stop}
+use Rattle.text.proofs.NumeralLaws.{number-written, written-head, size-past, size-keyword}
+use Rattle.text.proofs.NumeralLaws.{number-got as number-text, keyword-got as keyword-text}
 use Rattle.grammar.specs.Format.Printer.{bytes, literal}
 use Rattle.grammar.specs.Format.Ordered.{Fits}
 use Rattle.grammar.specs.Format.Reader.{result, remaining, opening, closing, naming}

@@ -8,7 +8,7 @@ use Rattle.std.proofs.Math.Bool.{true, false}
 use mathlib.Core.List.{List, [], ◌∷◌}
 use native.Mathlib.Omega.{arith}
 use Rattle.text.specs.Rest.{Rest, lost, left, found, size}
-use Rattle.text.specs.RestLaws.{lost≢left, left_is}
+use Rattle.text.proofs.RestLaws.{lost≢left, left_is}
 use Rattle.grammar.specs.Format.Printer.{Printer}
 use Rattle.grammar.specs.Format.Reader.{Parsed, parsed, result, remaining, Reader, many, section}
 

@@ -1,5 +1,5 @@
 use mathlib.Core.Path.{sym}
-use Rattle.sets.specs.Operations.{meets-and}
+use Rattle.sets.proofs.Operations.{meets-and}
 use Rattle.sets.proofs.meets.Goals as goal
 
 pub returns : goal.returns

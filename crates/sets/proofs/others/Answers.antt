@@ -1,4 +1,4 @@
-use Rattle.sets.specs.Operations.{bit-others}
+use Rattle.sets.proofs.Operations.{bit-others}
 use Rattle.sets.proofs.others.Goals as goal
 
 pub returns : goal.returns

@@ -1,5 +1,5 @@
 use mathlib.Core.Path.{sym}
-use Rattle.sets.specs.Operations.{subset-and}
+use Rattle.sets.proofs.Operations.{subset-and}
 use Rattle.sets.proofs.subset.Goals as goal
 
 pub returns : goal.returns

@@ -1,5 +1,5 @@
 use mathlib.Core.Path.{sym}
-use Rattle.sets.specs.Operations.{union-or}
+use Rattle.sets.proofs.Operations.{union-or}
 use Rattle.sets.proofs.union.Goals as goal
 
 pub returns : goal.returns

@@ -2,7 +2,7 @@ use Prim.Native.Nat.{ℕ}
 use mathlib.Core.Path.{ap, ◌∙◌}
 use mathlib.Core.List.{List}
 use lib.ListN.{get_or}
-use Rattle.text.specs.Table.{rule}
+use Rattle.text.proofs.Table.{rule}
 use borrow.Author.Rules.{rules}
 use Rattle.text.proofs.class.Goals as goal
 

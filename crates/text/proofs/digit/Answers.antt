@@ -1,7 +1,7 @@
 use native.Mathlib.Omega.{arith}
 use mathlib.Core.Path.{sym, ◌∙◌}
 use Rattle.text.specs.Reading.{system_of}
-use Rattle.text.specs.Positional.{digit_is, digit-none}
+use Rattle.text.proofs.Positional.{digit_is, digit-none}
 use borrow.Author.Rules.{rules}
 use Rattle.text.proofs.digit.Goals as goal
 

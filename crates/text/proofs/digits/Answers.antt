@@ -2,7 +2,7 @@ use Prim.Native.Nat.{◌-◌}
 use native.Mathlib.Omega.{arith}
 use lib.ListN.{length, get_or}
 use Rattle.text.specs.Reading.{system_of}
-use Rattle.text.specs.Positional.{digit-most}
+use Rattle.text.proofs.Positional.{digit-most}
 use Rattle.text.proofs.Steps.{Going, going_start, going-stop, going-over, going-turn, going_end, next_fits}
 use borrow.Author.Rules.{rules}
 use Rattle.text.proofs.digits.Goals as goal

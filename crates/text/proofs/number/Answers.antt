@@ -1,4 +1,4 @@
-use Rattle.text.specs.Reading.{decimal-valid}
+use Rattle.text.proofs.Reading.{decimal-valid}
 use borrow.Author.Rules.{rules}
 use Rattle.text.proofs.number.Goals as goal
 

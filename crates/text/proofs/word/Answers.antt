@@ -1,4 +1,4 @@
-use Rattle.text.specs.Reading.{letters-valid}
+use Rattle.text.proofs.Reading.{letters-valid}
 use borrow.Author.Rules.{rules}
 use Rattle.text.proofs.word.Goals as goal
 

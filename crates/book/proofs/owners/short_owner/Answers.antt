@@ -1,5 +1,5 @@
 use native.Mathlib.Omega.{arith}
-use Rattle.text.specs.ClassLaws.{letter-range}
+use Rattle.text.proofs.ClassLaws.{letter-range}
 use Rattle.book.specs.Lines.{owner_of}
 use Rattle.book.specs.Numbered.{brief-numbered}
 use Rattle.book.specs.Short.{keyword-at, end-at}

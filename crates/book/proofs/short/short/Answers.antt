@@ -3,7 +3,7 @@ use mathlib.Core.Path.{◌≡◌, sym, ◌∙◌}
 use native.Mathlib.Omega.{arith}
 use lib.ListN.{get_or}
 use Rattle.text.specs.Class.{class_of, digit}
-use Rattle.text.specs.ClassLaws.{digit-range}
+use Rattle.text.proofs.ClassLaws.{digit-range}
 use Rattle.book.specs.Short.{brief-none, one_digit, two_digits, three-digits}
 use borrow.Author.Rules.{rules}
 use Rattle.book.proofs.short.short.Goals as goal

@@ -1,4 +1,4 @@
-use Rattle.console.specs.Taking.{taking-start, taking-turn}
+use Rattle.console.proofs.Taking.{taking-start, taking-turn}
 use Rattle.console.proofs.input.all_bytes.Goals as goal
 
 pub loop-k-init : goal.loop-k-init

@@ -1,4 +1,4 @@
-use Rattle.console.specs.HoldsLaws.{book-full, book-goes-on, book-line, book-ends}
+use Rattle.console.proofs.HoldsLaws.{book-full, book-goes-on, book-line, book-ends}
 use native.Mathlib.Omega.{arith}
 use mathlib.Core.Path.{sym, ◌∙◌}
 use Rattle.console.proofs.input.book_byte.Goals as goal

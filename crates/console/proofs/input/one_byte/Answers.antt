@@ -1,4 +1,4 @@
-use Rattle.console.specs.Settled.{settled-more}
+use Rattle.console.proofs.Settled.{settled-more}
 use Rattle.console.specs.Holds.{held-refused}
 use Rattle.console.proofs.input.one_byte.Goals as goal
 

@@ -1,5 +1,5 @@
 use Rattle.console.specs.Lines.{when_true, when_false}
-use Rattle.console.specs.HoldsLaws.{tokens-full, tokens-go-on, token-misspelt, token-read}
+use Rattle.console.proofs.HoldsLaws.{tokens-full, tokens-go-on, token-misspelt, token-read}
 use borrow.Author.Tests.{not-true, not-false}
 use native.Mathlib.Omega.{arith}
 use mathlib.Core.Path.{sym, ◌∙◌}

@@ -2,7 +2,7 @@ use mathlib.Core.Path.{◌≡◌, sym, ◌∙◌}
 use native.Mathlib.Omega.{arith}
 use lib.ListN.{get_or}
 use Rattle.text.specs.Class.{class_of, digit}
-use Rattle.text.specs.ClassLaws.{digit-range}
+use Rattle.text.proofs.ClassLaws.{digit-range}
 use Rattle.definitions.specs.Ended.{Second, second-of, one-stands, two-stand}
 use Rattle.definitions.proofs.ended.ended.Goals as goal
 

@@ -1,5 +1,5 @@
 use lib.Seq.{length-take-le}
-use Rattle.console.specs.Settled.{settled-end}
+use Rattle.console.proofs.Settled.{settled-end}
 use Rattle.console.specs.Printing.{printed-same}
 use Rattle.console.specs.Holds.{held-book, held-tokens, held-refused}
 use Rattle.desk.specs.Answers.{book-answered}

@@ -1,0 +1,9 @@
+pub mod Steps
+pub mod Settled
+pub mod HoldsLaws
+pub mod TokenLines
+pub mod Meaning
+pub mod Cases
+pub mod BookLines
+pub mod Stands
+pub mod Taking

@@ -1,0 +1,2 @@
+pub mod CasesProof
+pub mod FormulaCheckCases

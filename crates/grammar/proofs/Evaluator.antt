@@ -1,0 +1,9 @@
+pub mod Chains
+pub mod Complete
+pub mod DemandProof
+pub mod Moves
+pub mod RunLaws
+pub mod RunRefusals
+pub mod Simulate
+pub mod Soundness
+pub mod TakenPremises

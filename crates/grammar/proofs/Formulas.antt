@@ -1,0 +1,9 @@
+pub mod FormulaCheckAll
+pub mod FormulaCheckLaws
+pub mod FormulaCheckSteps
+pub mod FormulaTable
+pub mod OneFormulaLaws
+pub mod PartialLaws
+pub mod PlanLaws
+pub mod SlotsLaws
+pub mod SlotsTests

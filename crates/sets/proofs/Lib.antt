@@ -1,0 +1,4 @@
+pub mod Bits
+pub mod SetsLaws
+pub mod Operations
+pub mod Examples

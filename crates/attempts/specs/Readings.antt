@@ -52,9 +52,9 @@ module _ (text : List ℕ) (lent : ℕ) where
       go false e = rw (e, read_book, read_number)
 
   -- as it is answered
-  pub read_number : {number : ℕ} → number ≡ (read_book text lent).number → number ≡ read_number text lent
+  pub read_number_lem : {number : ℕ} → number ≡ (read_book text lent).number → number ≡ read_number text lent
   unfolding reading_of
-  read_number e = e ∙ ap (λ (reading : Reading). reading.number) read_is ∙ go (read_number text lent)
+  read_number_lem e = e ∙ ap (λ (reading : Reading). reading.number) read_is ∙ go (read_number text lent)
     where
       go : (n : ℕ) → (reading_of n text lent).number ≡ n
       go zero = refl

@@ -11,7 +11,7 @@ use Rattle.grammar.specs.Engine.{Reading, read_book, tables_of, evaluate_words}
 use Rattle.grammar.specs.Demands.{Reads as Reads-right, wrong_lengths, takes, refuses}
 use Rattle.grammar.specs.Demands.{Stored, book_of, numbers_of, Evaluates as Evaluates-right, Figures}
 use Rattle.grammar.proofs.DemandsProof.{taken-right, refusal-right, reading-right, evaluating-right, tables-right, figures-right}
-use Rattle.attempts.specs.Readings.{Reads, text-number, read_number}
+use Rattle.attempts.specs.Readings.{Reads, text-number, read_number_lem}
 use Rattle.attempts.specs.Evaluations.{Evaluates}
 
 -- ---- message_book_read: the number r, and the words afterwards
@@ -27,7 +27,7 @@ module _ (text : List ℕ) (lent : ℕ) {r : ℕ} {words : List ℕ} (h : Reads 
   -- demand 2: a text is taken exactly if it meets all conditions, and refused with n exactly if condition n is broken and none before it
   pub read-verdict : length text ≤ MAX_TEXT → lent ≡ BOOK_WORDS → (n : ℕ) → (r ≡ n) ↔ Verdict text n
   read-verdict s l n =
-      let e = read_number text lent h.number_is ∙ text-number text lent s l in
+      let e = read_number_lem text lent h.number_is ∙ text-number text lent s l in
       (λ q. (refusal-right text n).0 (sym e ∙ q), λ v. e ∙ (refusal-right text n).1 v)
 
 -- ---- message_book_evaluate: the number r, the rows and the row count afterwards

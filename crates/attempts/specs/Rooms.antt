@@ -2,7 +2,7 @@
 -- Assumes nothing.
 use Rattle.std.specs.Prelude.{ℕ, ◌+◌, ◌*◌, ◌≤◌, ◌≡◌, refl, Bool, true, false, List, length, replicate, take}
 use Rattle.std.proofs.Common.{◌∙◌, arith, length-take}
-use Rattle.grammar.specs.Limits.{BOOK_WORDS, MAX_DEFINITIONS, MAX_KERNELS, MAX_GOES, MAX_STATES, MAX_RULES}
+use Rattle.grammar.specs.Limits.{BOOK_WORDS, MAX_DEFINITIONS, MAX_KERNELS, MAX_GOES, MAX_RULES}
 use Rattle.book.specs.declared.Book.{Book}
 use Rattle.book.specs.declared.Room.{Room}
 use Rattle.book.specs.Rooms.{full_room}

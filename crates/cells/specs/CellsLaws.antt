@@ -1,5 +1,5 @@
 -- Laws of the cell that is set: the words that are cleared, and a loop over the lines of a plan. Assumes nothing.
-use Rattle.std.specs.Prelude.{◌≡◌, ℕ, zero, suc, ◌+◌, ◌-◌, ◌<◌, ◌≤◌, List, length, drop, slice_index, slice_set, refl}
+use Rattle.std.specs.Prelude.{◌≡◌, ℕ, zero, suc, ◌+◌, ◌<◌, ◌≤◌, List, length, drop, slice_index, slice_set, refl}
 use Rattle.std.proofs.Common.{zero-le, ◌∙◌, arith, length-set, drop_of_length-le, get_or-set_same, get_or-set_other, drop-cons}
 use Rattle.std.proofs.Math.Decide.{ℕ_discrete}
 use Rattle.std.proofs.Math.Numerals.{add-one}

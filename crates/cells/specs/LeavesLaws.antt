@@ -1,5 +1,5 @@
 -- Laws of the words that leaves read. Assumes nothing.
-use Rattle.std.specs.Prelude.{◌≡◌, ℕ, ◌+◌, ◌-◌, ◌*◌, ◌<◌, ◌≤◌, List, length, take, drop, slice_index}
+use Rattle.std.specs.Prelude.{◌≡◌, ℕ, ◌+◌, ◌*◌, ◌<◌, ◌≤◌, List, length, take, drop, slice_index}
 use Rattle.std.proofs.Common.{◌∙◌, arith, length-take, length-drop, get_or-take, get_or-drop}
 use Rattle.formulas.specs.declared.nodes.Stack.{Stack}
 use Rattle.formulas.specs.declared.nodes.Stack.TheVariants.{Inherited, Synthesized}

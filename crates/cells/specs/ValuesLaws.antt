@@ -6,7 +6,7 @@ use Rattle.std.proofs.Math.ListN.{length-set, drop_of_length-le}
 use Rattle.grammar.specs.Limits.{MAX_NODES}
 use Rattle.grammar.specs.Data.Term.{nodes, choose, eval, Leaves}
 use Rattle.grammar.specs.Data.Postfix.{Step, push, load, operate, select, postfix, evaluating, step, run, length-postfix, run-eval}
-use Rattle.grammar.specs.Data.Book.{Place, at, Expr}
+use Rattle.grammar.specs.Data.Book.{Place, Expr}
 use Rattle.book.specs.Held.{node_at}
 use Rattle.formulas.specs.PostfixLaws.{takes, Ready, Fits, fits, ready-takes}
 use Rattle.cells.specs.Values.{MayRead, step_value}

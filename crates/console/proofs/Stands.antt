@@ -1,6 +1,6 @@
 -- A text in front and a line after it that stand at the beginning of a buffer: up to m and from m to n.
 -- Assumes nothing.
-use Rattle.std.specs.Prelude.{ℕ, ◌+◌, ◌-◌, ◌≤◌, ◌<◌, ◌≡◌, refl, List, [], ◌∷◌, ◌++◌, length, take, drop, set}
+use Rattle.std.specs.Prelude.{ℕ, ◌+◌, ◌-◌, ◌<◌, ◌≡◌, refl, List, [], ◌∷◌, ◌++◌, length, take, drop, set}
 use Rattle.std.proofs.Common.{sym, ap, ◌∙◌, append-nil, append_assoc, arith, add-one, length-set, length-append, take-suc-set, take-add, take_at, drop_at, length-take-le}
 use Rattle.console.proofs.Steps.{◌▷◌, length_more}
 use Rattle.console.specs.Stands.{Stands}

@@ -6,7 +6,7 @@ use Rattle.std.proofs.Math.Option.{some}
 use Rattle.text.specs.Numeral.{decimal}
 use Rattle.text.proofs.Positional.{write-front}
 use Rattle.grammar.specs.Evaluator.Tree.{Token}
-use Rattle.grammar.specs.Format.Printer.{Printer, bytes, literal, numeral, each}
+use Rattle.grammar.specs.Format.Printer.{bytes, literal, numeral, each}
 use Rattle.grammar.specs.Format.Ordered.{Every, every-[], every-∷, Fits}
 use Rattle.grammar.specs.Format.ReaderLaws.{number-reads, reading}
 use Rattle.grammar.specs.Demands.{numbers_of}

@@ -2,7 +2,7 @@
 -- Assumes nothing.
 use Rattle.std.specs.Prelude.{ℕ, ◌≡◌}
 use mathlib.Core.List.{List}
-use Rattle.console.specs.Desk.{Input, all_bytes, refused, answer, answer_to}
+use Rattle.console.specs.Desk.{Input, all_bytes, refused, answer_to}
 
 -- whatever else is read, the answer is n
 pub record Settled (n : ℕ) (i : Input) : Type 0 where

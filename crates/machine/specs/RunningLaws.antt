@@ -1,5 +1,5 @@
 -- The moves of a run come to the machine's answer: from the start, move by move, to the move that stops. Assumes that the book is taken.
-use Rattle.std.specs.Prelude.{ℕ, ◌+◌, ◌*◌, ◌-◌, ◌≤◌, ◌<◌, ◌≡◌, refl, false, List, [], length, get_or, set}
+use Rattle.std.specs.Prelude.{ℕ, ◌+◌, ◌*◌, ◌-◌, ◌≤◌, ◌<◌, ◌≡◌, refl, List, [], length, get_or, set}
 use Rattle.std.proofs.Common.{◌∙◌, arith, get_or-set_same}
 use Rattle.grammar.specs.Data.Book.{Book}
 use Rattle.grammar.specs.Evaluator.Tree.{Token}

@@ -9,7 +9,7 @@ use Rattle.grammar.specs.Data.Symbol.{terminal}
 use Rattle.grammar.specs.Data.ListLaws.{drop-step}
 use Rattle.grammar.specs.Data.Book.{Book}
 use Rattle.grammar.specs.Automaton.States.{shift}
-use Rattle.grammar.specs.Evaluator.Tree.{Token, next}
+use Rattle.grammar.specs.Evaluator.Tree.{Token}
 use Rattle.grammar.specs.Evaluator.Decorated.{token}
 use Rattle.grammar.specs.Evaluator.Rows.{Row, row_of_token}
 use Rattle.grammar.specs.Evaluator.Machine.{Frame, frame, Config, cell}

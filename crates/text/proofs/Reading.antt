@@ -1,12 +1,7 @@
 -- What the readers in code ask of their callers and what they answer, by name.
 -- Assumes nothing.
-use Rattle.std.specs.Prelude.{ℕ, ◌≤◌, ◌≡◌, List, length}
 use Rattle.std.proofs.Common.{arith}
-use Rattle.text.specs.declared.Notation.{Notation}
-use Rattle.text.specs.Table.{table}
-use Rattle.text.specs.Rest.{rest}
-use Rattle.text.specs.Numeral.{System, decimal, letters, Read, number_of, rest_of, value, past}
-use Rattle.text.specs.Positional.{Positional}
+use Rattle.text.specs.Numeral.{decimal, letters}
 use Rattle.text.proofs.Positional.{decimal-positional, letters-positional}
 use Rattle.text.specs.Reading.{Valid}
 

@@ -1,6 +1,6 @@
 -- The values of chains: the cell that is set at a partial state has the values that the rules' definitions give over the stack.
 -- Assumes the premises of demand 3.
-use Prim.Native.Nat.{ℕ, zero, suc, ◌-◌, ◌≤◌}
+use Prim.Native.Nat.{ℕ, zero, suc}
 use Rattle.std.proofs.Common.{arith, ◌∙◌}
 use Rattle.std.specs.Prelude.{◌≡◌, List, [], ◌∷◌}
 use Rattle.std.proofs.Math.Path.{refl, ap, sym}
@@ -10,8 +10,8 @@ use Rattle.grammar.specs.Data.TermLaws.{eval-replace, eval-same}
 use Rattle.grammar.specs.Data.Book.{Place, own, at, val, Book, inherited_owner, inherited_expr}
 use Rattle.grammar.specs.Automaton.Items.{derives, KernelItem, Chain, one, longer}
 use Rattle.grammar.specs.Formulas.Formula.{Formula, becomes, own_below, gives, formula}
-use Rattle.grammar.specs.Evaluator.Decorated.{Values, no_values, Result, child_at, synthesized_of, token_value_of, place_value, inherited_from}
-use Rattle.grammar.specs.Evaluator.Machine.{Tables, Frame, frame, inherited_at, result_at, leaf_value, formula_value, cell}
+use Rattle.grammar.specs.Evaluator.Decorated.{Values, no_values, Result, place_value, inherited_from}
+use Rattle.grammar.specs.Evaluator.Machine.{Tables, Frame, frame, inherited_at, leaf_value, formula_value, cell}
 use Rattle.grammar.specs.Evaluator.Premises.{MayRead, reads_own, reads_at, reads_val, Premises}
 use Rattle.grammar.specs.Automaton.KernelItems.{start_dot}
 use Rattle.grammar.specs.Evaluator.PremisesLaws.{inherited-leaves, owner-apart}

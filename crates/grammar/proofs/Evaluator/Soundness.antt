@@ -1,5 +1,5 @@
 -- An accepted run has a tree: it has the tokens for its leaves and stands for rule 0's right symbol. Assumes the premises of demand 3.
-use Prim.Native.Nat.{ℕ, zero, suc, ◌+◌, ◌<◌}
+use Prim.Native.Nat.{ℕ, zero, suc, ◌<◌}
 use native.Mathlib.Omega.{arith}
 use Rattle.std.proofs.Math.Path.{◌≡◌, refl}
 use Rattle.std.specs.Prelude.{◌≢◌, length}

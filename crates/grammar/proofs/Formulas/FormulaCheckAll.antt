@@ -7,12 +7,10 @@ use Rattle.std.specs.Prelude.{◌≡◌, Bool, get_or, set}
 use Rattle.std.proofs.Math.Path.{refl, ap}
 use Rattle.std.proofs.Common.{sym, ◌∙◌}
 use Rattle.std.proofs.Math.Bool.{true, false}
-use mathlib.Core.List.{List, Memᴰ as Mem}
-use Rattle.sets.specs.Sets.{bit}
+use mathlib.Core.List.{List}
 use Rattle.grammar.specs.Conditions.Decides.{Decides, decides-same, equivalent, eq-decides, and-decides, then-decides, any-decides, all_below}
 use Rattle.grammar.specs.Conditions.DecidesSteps.{Some, below-zero}
 use Rattle.grammar.specs.Automaton.TestLaws.{true-false}
-use Rattle.grammar.specs.Data.Symbol.{after}
 use Rattle.grammar.specs.Data.Book.{Book}
 use Rattle.grammar.specs.Format.Ordered.{Ordered}
 use Rattle.grammar.specs.Conditions.Meaning.{WithinLimits, Declared, Owned, Defined}
@@ -21,8 +19,8 @@ use Rattle.grammar.specs.Automaton.Items.{Partial}
 use Rattle.grammar.specs.Formulas.Formula.{lr_attributed}
 use Rattle.grammar.specs.Formulas.ChainLaws.{chain-partial, chain-to, OneFormula}
 use Rattle.grammar.specs.Automaton.FirstSets.{Sets, sets_of}
-use Rattle.grammar.specs.Automaton.ReachSets.{reach_sets, reach_with}
-use Rattle.grammar.specs.Automaton.CoreItems.{Core, core, core_items}
+use Rattle.grammar.specs.Automaton.ReachSets.{reach_sets}
+use Rattle.grammar.specs.Automaton.CoreItems.{Core, core}
 use Rattle.grammar.specs.Automaton.ItemsRight.{ItemsRight}
 use Rattle.grammar.specs.Automaton.ItemsRightLaws.{book-items-right}
 use Rattle.grammar.specs.BookFacts.{small-book}

@@ -1,6 +1,6 @@
 -- Every tree has the values that the rules give, from left to right, and no others. Uniqueness and obedience assume the premises of demand 3:
 -- a definition of an inherited attribute reads only to the left.
-use Rattle.std.specs.Prelude.{ℕ, suc, ◌+◌, ◌-◌, ◌≡◌, List, [], ◌∷◌, ◌++◌, length}
+use Rattle.std.specs.Prelude.{ℕ, suc, ◌-◌, ◌≡◌, List, [], ◌∷◌, ◌++◌, length}
 use Rattle.std.proofs.Common.{arith, ap, ap₂, sym, subst, append_assoc, length-append}
 use Rattle.std.proofs.Math.Path.{refl}
 use Rattle.std.proofs.Math.ListN.{get_or-append}

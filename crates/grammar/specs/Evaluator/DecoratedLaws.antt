@@ -1,5 +1,5 @@
 -- What a rule's definitions give depends only on what they may read. Assumes the premises of demand 3.
-use Prim.Native.Nat.{ℕ, suc, ◌-◌, ◌<◌, ◌≤◌}
+use Prim.Native.Nat.{ℕ, suc, ◌<◌, ◌≤◌}
 use Rattle.std.specs.Prelude.{◌≡◌, refl, List, length}
 use Rattle.std.proofs.Math.Path.{fun_ext}
 use Rattle.grammar.specs.Data.Symbol.{nonterminal, left_of, right_of}

@@ -1,7 +1,7 @@
 -- The check of all partial states decides lr_attributed (10) and so answers what the tables' check answers; terminals with the same items have the same
 -- answer. Laws for loops besides. Assumes nothing.
 use Prim.Native.Nat.{ℕ, ◌<◌}
-use Rattle.std.specs.Prelude.{◌≡◌, Bool, set}
+use Rattle.std.specs.Prelude.{◌≡◌, Bool}
 use Rattle.std.proofs.Math.Bool.{true}
 use mathlib.Core.List.{List, Memᴰ as Mem}
 use Rattle.sets.specs.Sets.{bit}

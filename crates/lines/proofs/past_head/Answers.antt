@@ -1,8 +1,6 @@
 use native.Mathlib.Omega.{arith}
-use borrow.Author.Tests.{not-false}
 use Rattle.grammar.specs.Format.Reader.{opening}
 use Rattle.lines.specs.Heads.{head_read}
-use borrow.Author.Rules.{rules}
 use Rattle.lines.proofs.past_head.Goals as goal
 
 pub returns-then-n-m : goal.returns-then-n-m

@@ -1,6 +1,4 @@
-use native.Mathlib.Omega.{arith}
 use Rattle.parsing.specs.SpellingLaws.{spelling-steps}
-use borrow.Author.Rules.{rules}
 use Rattle.parsing.proofs.spelling.Goals as goal
 
 pub returns : goal.returns

@@ -1,7 +1,6 @@
 use native.Mathlib.Omega.{arith}
 use lib.Dec.{lit<}
 use lib.Pow.{shl_exact}
-use borrow.Author.Rules.{rules}
 use Rattle.sets.specs.Sets.{single}
 use Rattle.sets.proofs.single.Goals as goal
 

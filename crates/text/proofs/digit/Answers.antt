@@ -1,8 +1,6 @@
-use native.Mathlib.Omega.{arith}
 use mathlib.Core.Path.{sym, ◌∙◌}
 use Rattle.text.specs.Reading.{system_of}
 use Rattle.text.proofs.Positional.{digit_is, digit-none}
-use borrow.Author.Rules.{rules}
 use Rattle.text.proofs.digit.Goals as goal
 
 pub returns-then-class-s : goal.returns-then-class-s

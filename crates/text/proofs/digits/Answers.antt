@@ -1,10 +1,7 @@
-use Prim.Native.Nat.{◌-◌}
 use native.Mathlib.Omega.{arith}
-use lib.ListN.{length, get_or}
-use Rattle.text.specs.Reading.{system_of}
+use lib.ListN.{get_or}
 use Rattle.text.proofs.Positional.{digit-most}
-use Rattle.text.proofs.Steps.{Going, going_start, going-stop, going-over, going-turn, going_end, next_fits}
-use borrow.Author.Rules.{rules}
+use Rattle.text.proofs.Steps.{going-stop, going-over, going-turn, going_end, next_fits}
 use Rattle.text.proofs.digits.Goals as goal
 
 pub returns-then-d-base : goal.returns-then-d-base

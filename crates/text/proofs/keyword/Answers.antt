@@ -1,5 +1,4 @@
 use Rattle.text.proofs.Steps.{keyword-at}
-use borrow.Author.Rules.{rules}
 use Rattle.text.proofs.keyword.Goals as goal
 
 pub returns : goal.returns

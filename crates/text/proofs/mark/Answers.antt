@@ -1,6 +1,5 @@
 use mathlib.Core.Path.{sym, ◌∙◌}
 use Rattle.text.proofs.Steps.{mark-out, mark-not, mark-at}
-use borrow.Author.Rules.{rules}
 use Rattle.text.proofs.mark.Goals as goal
 
 pub returns-then-n-at : goal.returns-then-n-at

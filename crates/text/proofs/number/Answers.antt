@@ -1,5 +1,4 @@
 use Rattle.text.proofs.Reading.{decimal-valid}
-use borrow.Author.Rules.{rules}
 use Rattle.text.proofs.number.Goals as goal
 
 pub numeral-requires : goal.numeral-requires

@@ -1,6 +1,5 @@
 use native.Mathlib.Omega.{arith}
 use Rattle.text.proofs.Steps.{first_fits, reads-out, reads-zero, reads_none, reads-some}
-use borrow.Author.Rules.{rules}
 use Rattle.text.proofs.numeral.Goals as goal
 
 pub returns-then-n-at : goal.returns-then-n-at

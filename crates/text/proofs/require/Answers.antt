@@ -1,7 +1,6 @@
 use mathlib.Core.Path.{sym, ◌∙◌}
 use native.Mathlib.Omega.{arith}
 use Rattle.text.proofs.RestLaws.{rest_out, must-true, must-false}
-use borrow.Author.Rules.{rules}
 use Rattle.text.proofs.require.Goals as goal
 
 pub returns-then-fine : goal.returns-then-fine

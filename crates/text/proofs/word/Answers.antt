@@ -1,5 +1,4 @@
 use Rattle.text.proofs.Reading.{letters-valid}
-use borrow.Author.Rules.{rules}
 use Rattle.text.proofs.word.Goals as goal
 
 pub numeral-requires : goal.numeral-requires

@@ -2,7 +2,6 @@ use mathlib.Core.Path.{refl, ◌∙◌}
 use mathlib.Core.Bool.{false}
 use mathlib.Core.Option.{none}
 use lib.ListN.{replicate}
-use borrow.Author.Rules.{rules}
 use Rattle.agreement.specs.CheckLaws.{begun, check-is}
 use Rattle.agreement.proofs.check.check.Goals as goal
 

@@ -1,11 +1,9 @@
 use Prim.Native.Nat.{suc}
 use mathlib.Core.Path.{sym, ◌∙◌}
 use native.Mathlib.Omega.{arith}
-use borrow.Author.Rules.{rules}
 use Rattle.grammar.specs.Formulas.FormulaCheck as grammar
 use Rattle.attributes.specs.Checking.{member_of}
 use Rattle.attributes.specs.Wanted.{check-whole, all-below}
-use Rattle.agreement.specs.CheckLaws.{room-kept}
 use Rattle.agreement.proofs.check.check_state.Goals as goal
 
 pub returns-then-check : goal.returns-then-check

@@ -1,4 +1,3 @@
-use borrow.Author.Rules.{rules}
 use Rattle.attributes.specs.CheckingLaws.{enter-new, enter-old, enter-other}
 use Rattle.agreement.proofs.check.enter.Goals as goal
 

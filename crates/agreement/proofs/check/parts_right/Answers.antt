@@ -1,17 +1,13 @@
 use mathlib.Core.Bool.{not}
-use Prim.Native.Nat.{ℕ, suc, ◌+◌, ◌-◌, ◌<◌, ◌≤◌}
+use Prim.Native.Nat.{ℕ, ◌<◌}
 use mathlib.Core.Path.{◌≡◌, refl, sym, ap, ◌∙◌}
-use mathlib.Core.Bool.{Bool, true}
+use mathlib.Core.Bool.{Bool}
 use native.Mathlib.Omega.{arith}
-use lib.ListN.{length}
-use borrow.Author.Rules.{rules}
-use borrow.Author.Tests.{not-false}
-use Rattle.grammar.specs.Conditions.Decides.{all_below}
 use Rattle.grammar.specs.Data.Book.{Book}
 use Rattle.grammar.specs.Formulas.FormulaCheck as grammar
 use Rattle.attributes.specs.Checking.{member_of, member_in, CheckHeld}
-use Rattle.agreement.specs.CheckLaws.{room-kept, all_start, all-turn, one-fails}
-use Rattle.agreement.specs.Alike.{Right, right-start, right-more}
+use Rattle.agreement.specs.CheckLaws.{all_start, all-turn, one-fails}
+use Rattle.agreement.specs.Alike.{right-start, right-more}
 use Rattle.attributes.specs.Wanted.{check-single}
 use Rattle.agreement.proofs.check.parts_right.Goals as goal
 
@@ -21,8 +17,7 @@ loop-a-init c = (omega arith, refl, refl, refl, refl, refl, λ b H e. all_start 
 pub loop-a-preserved-then-has : goal.loop-a-preserved-then-has
 loop-a-preserved-then-has c =
     let answer : Book → ℕ → Bool = λ b a. grammar.check b (member_of c.args.masks.now a) in
-    let low : c.loop-a.a < 32 = omega (arith, c.loop-a-test.true, c.requires.1) in
-    (
+    let low : c.loop-a.a < 32 = omega (arith, c.loop-a-test.true, c.requires.1) in (
       omega (arith, c.loop-a-test.true),
       c.loop-a.invariant.1,
       c.loop-a.invariant.2,
@@ -59,8 +54,7 @@ loop-a-preserved c =
     → c.check.result ≡ answer b c.loop-a.a = λ b H e. c.check.ensures b H e
     ∙ ap (λ (set : ℕ). grammar.check b (member_in c.args.masks.now set))
     c.single.ensures
-    ∙ check-single b c.args.masks.now c.loop-a.a (low) in
-    (
+    ∙ check-single b c.args.masks.now c.loop-a.a (low) in (
       omega (arith, c.loop-a-test.true),
       c.check.auto.slots ∙ c.loop-a.invariant.1,
       c.check.auto.done ∙ c.loop-a.invariant.2,

@@ -1,17 +1,12 @@
-use Prim.Native.Nat.{ℕ, suc, ◌+◌, ◌-◌, ◌<◌, ◌≤◌}
-use mathlib.Core.Path.{◌≡◌, refl, sym, ap, ◌∙◌}
-use mathlib.Core.Bool.{Bool, true}
-use native.Mathlib.Omega.{arith}
+use Prim.Native.Nat.{◌+◌, ◌-◌, ◌≤◌}
+use mathlib.Core.Path.{◌≡◌}
+use mathlib.Core.Bool.{true}
 use lib.ListN.{length}
-use borrow.Author.Rules.{rules}
-use borrow.Author.Tests.{not-false}
 use Rattle.grammar.specs.Conditions.Decides.{all_below}
 use Rattle.grammar.specs.Data.Book.{Book}
 use Rattle.grammar.specs.Formulas.FormulaCheck as grammar
-use Rattle.attributes.specs.Checking.{member_of, member_in, CheckHeld}
-use Rattle.agreement.specs.CheckLaws.{room-kept, all_start, all-turn, one-fails}
-use Rattle.agreement.specs.Alike.{Right, right-start, right-more}
-use Rattle.attributes.specs.Wanted.{check-single}
+use Rattle.attributes.specs.Checking.{member_of, CheckHeld}
+use Rattle.agreement.specs.Alike.{Right}
 use Rattle.agreement.proofs.check.parts_right.Given as goal
 
 abbrev pub invariant-loop-a : goal.invariant-loop-a

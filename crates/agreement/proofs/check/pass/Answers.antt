@@ -1,31 +1,24 @@
-use Prim.Native.Nat.{◌+◌, ◌-◌, ◌<◌, ◌≤◌}
-use mathlib.Core.Path.{◌≡◌, refl}
-use mathlib.Core.Bool.{Bool, false}
-use mathlib.Core.List.{List}
+use Prim.Native.Nat.{◌+◌}
+use mathlib.Core.Path.{refl}
 use native.Mathlib.Omega.{arith}
-use lib.ListN.{length, get_or}
+use lib.ListN.{get_or}
 use borrow.Author.Rules.{rules}
-use Rattle.grammar.specs.Data.Book.{Book}
-use Rattle.grammar.specs.Formulas.Slots.{Slots}
-use Rattle.grammar.specs.Formulas.Passes.{visits}
-use Rattle.grammar.specs.Formulas.FormulaCheck as grammar
-use Rattle.grammar.specs.Formulas.FormulaCheck.{progress, visit}
-use Rattle.attributes.specs.Checking.{member_in, CheckHeld, ProgressIn, Reached}
+use Rattle.grammar.specs.Formulas.FormulaCheck.{progress}
 use Rattle.agreement.specs.PassLaws.{reached-stands, pass-start, pass-split, pass-turn}
 use Rattle.attributes.specs.Skips.{Skip, visits-skip}
 use Rattle.agreement.proofs.check.pass.Goals as goal
 
 pub loop-i-init : goal.loop-i-init
 loop-i-init c = let S = c.requires.1.skip 0 (omega arith) (omega arith) in (
-      S.high,
-      c.requires.2,
-      refl,
-      refl,
-      refl,
-      refl,
-      refl,
-      λ b slots done H e R. rw (← visits-skip H e S (progress slots done)) (pass-start b _ R c.requires.2),
-    )
+  S.high,
+  c.requires.2,
+  refl,
+  refl,
+  refl,
+  refl,
+  refl,
+  λ b slots done H e R. rw (← visits-skip H e S (progress slots done)) (pass-start b _ R c.requires.2),
+)
 
 pub visit-p-requires : goal.visit-p-requires
 visit-p-requires c = let at = c.loop-i in

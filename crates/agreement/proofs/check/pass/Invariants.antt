@@ -1,18 +1,14 @@
-use Prim.Native.Nat.{◌+◌, ◌-◌, ◌<◌, ◌≤◌}
-use mathlib.Core.Path.{◌≡◌, refl}
+use Prim.Native.Nat.{◌-◌, ◌≤◌}
+use mathlib.Core.Path.{◌≡◌}
 use mathlib.Core.Bool.{Bool, false}
 use mathlib.Core.List.{List}
-use native.Mathlib.Omega.{arith}
-use lib.ListN.{length, get_or}
-use borrow.Author.Rules.{rules}
+use lib.ListN.{length}
 use Rattle.grammar.specs.Data.Book.{Book}
 use Rattle.grammar.specs.Formulas.Slots.{Slots}
 use Rattle.grammar.specs.Formulas.Passes.{visits}
 use Rattle.grammar.specs.Formulas.FormulaCheck as grammar
 use Rattle.grammar.specs.Formulas.FormulaCheck.{progress, visit}
 use Rattle.attributes.specs.Checking.{member_in, CheckHeld, ProgressIn, Reached}
-use Rattle.agreement.specs.PassLaws.{reached-stands, pass-start, pass-split, pass-turn}
-use Rattle.attributes.specs.Skips.{Skip, visits-skip}
 use Rattle.agreement.proofs.check.pass.Given as goal
 
 abbrev pub invariant-loop-i : goal.invariant-loop-i

@@ -1,16 +1,7 @@
-use Prim.Native.Nat.{◌-◌}
-use mathlib.Core.Path.{◌≡◌, refl}
-use mathlib.Core.Bool.{Bool, false}
-use mathlib.Core.List.{List}
+use mathlib.Core.Path.{◌≡◌}
 use native.Mathlib.Omega.{arith}
-use lib.ListN.{length}
 use borrow.Author.Rules.{rules}
-use Rattle.grammar.specs.Data.Book.{Book}
-use Rattle.grammar.specs.Formulas.Slots.{Slots}
-use Rattle.grammar.specs.Formulas.FormulaCheck as grammar
-use Rattle.grammar.specs.Formulas.FormulaCheck.{progress}
-use Rattle.attributes.specs.Checking.{member_in, CheckHeld, ProgressIn}
-use Rattle.agreement.specs.PassesLaws.{Passing, few-done, passing-split, passing-turn, passing-further, passing-end}
+use Rattle.agreement.specs.PassesLaws.{few-done, passing-split, passing-turn, passing-further, passing-end}
 use Rattle.agreement.proofs.check.passes.Goals as goal
 
 pub pass-p-requires : goal.pass-p-requires

@@ -1,16 +1,14 @@
 use Prim.Native.Nat.{◌-◌}
-use mathlib.Core.Path.{◌≡◌, refl}
+use mathlib.Core.Path.{◌≡◌}
 use mathlib.Core.Bool.{Bool, false}
 use mathlib.Core.List.{List}
-use native.Mathlib.Omega.{arith}
 use lib.ListN.{length}
-use borrow.Author.Rules.{rules}
 use Rattle.grammar.specs.Data.Book.{Book}
 use Rattle.grammar.specs.Formulas.Slots.{Slots}
 use Rattle.grammar.specs.Formulas.FormulaCheck as grammar
 use Rattle.grammar.specs.Formulas.FormulaCheck.{progress}
 use Rattle.attributes.specs.Checking.{member_in, CheckHeld, ProgressIn}
-use Rattle.agreement.specs.PassesLaws.{Passing, few-done, passing-split, passing-turn, passing-further, passing-end}
+use Rattle.agreement.specs.PassesLaws.{Passing}
 use Rattle.agreement.proofs.check.passes.Given as goal
 
 abbrev pub invariant-loop-p : goal.invariant-loop-p

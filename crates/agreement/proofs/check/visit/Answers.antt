@@ -4,10 +4,9 @@ use mathlib.Core.Path.{◌≡◌, refl}
 use mathlib.Core.Bool.{true}
 use native.Mathlib.Omega.{arith}
 use lib.ListN.{get_or, set}
-use borrow.Author.Rules.{rules}
 use Rattle.grammar.specs.Formulas.Slots.{own_at}
 use Rattle.grammar.specs.Formulas.FormulaCheck.{dot_of, formula_of, line_at}
-use Rattle.attributes.specs.CheckingLaws.{ position_low, attribute_low, line_low, visit-done, visit-undue, visit-enters, count_low, asked-line, formed-means, formed-low, formed-progress, }
+use Rattle.attributes.specs.CheckingLaws.{attribute_low, visit-done, visit-undue, visit-enters, count_low, asked-line, formed-means, formed-low, formed-progress}
 use Rattle.agreement.proofs.check.visit.Goals as goal
 
 pub returns-then-done-line-ne0 : goal.returns-then-done-line-ne0

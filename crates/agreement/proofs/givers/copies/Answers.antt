@@ -1,4 +1,3 @@
-use borrow.Author.Rules.{rules}
 use Rattle.agreement.specs.Given.{copies-told}
 use Rattle.agreement.proofs.givers.copies.Goals as goal
 

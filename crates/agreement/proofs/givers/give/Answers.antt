@@ -1,11 +1,9 @@
-use Prim.Native.Nat.{◌-◌, ◌≤◌, ◌<◌, ◌+◌, ◌*◌}
+use Prim.Native.Nat.{◌<◌}
 use mathlib.Core.Path.{refl}
 use native.Mathlib.Omega.{arith}
 use lib.Dec.{lit<}
-use lib.ListN.{length, get_or}
 use lib.Pow.{shl_exact}
-use borrow.Author.Rules.{rules}
-use Rattle.attributes.specs.CheckingLaws.{rule_there, rule_low, position_low, position_high, attribute_low}
+use Rattle.attributes.specs.CheckingLaws.{rule_low}
 use Rattle.agreement.specs.Given.{given-behind, given-front}
 use Rattle.agreement.proofs.givers.give.Goals as goal
 

@@ -1,13 +1,7 @@
-use Prim.Native.Nat.{ℕ, ◌*◌, ◌-◌, ◌≤◌}
-use mathlib.Core.Path.{◌≡◌, refl}
-use mathlib.Core.List.{List}
+use mathlib.Core.Path.{◌≡◌}
 use native.Mathlib.Omega.{arith}
-use lib.ListN.{length}
 use borrow.Author.Rules.{rules}
-use Rattle.grammar.specs.Data.Book.{Book}
 use Rattle.grammar.specs.Formulas.FormulaCheck as grammar
-use Rattle.attributes.specs.Checking.{CheckHeld}
-use Rattle.agreement.specs.Given.{GivenIn, given-none}
 use Rattle.agreement.proofs.givers.mark_givers.Goals as goal
 
 pub loop-i-preserved : goal.loop-i-preserved

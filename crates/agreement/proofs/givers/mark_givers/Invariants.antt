@@ -1,13 +1,11 @@
 use Prim.Native.Nat.{ℕ, ◌*◌, ◌-◌, ◌≤◌}
-use mathlib.Core.Path.{◌≡◌, refl}
+use mathlib.Core.Path.{◌≡◌}
 use mathlib.Core.List.{List}
-use native.Mathlib.Omega.{arith}
 use lib.ListN.{length}
-use borrow.Author.Rules.{rules}
 use Rattle.grammar.specs.Data.Book.{Book}
 use Rattle.grammar.specs.Formulas.FormulaCheck as grammar
 use Rattle.attributes.specs.Checking.{CheckHeld}
-use Rattle.agreement.specs.Given.{GivenIn, given-none}
+use Rattle.agreement.specs.Given.{GivenIn}
 use Rattle.agreement.proofs.givers.mark_givers.Given as goal
 
 abbrev pub invariant-loop-i : goal.invariant-loop-i

@@ -1,7 +1,6 @@
 use mathlib.Core.Path.{refl, sym, ◌∙◌}
 use native.Mathlib.Omega.{arith}
-use borrow.Author.Rules.{rules}
-use Rattle.attributes.specs.FormulasHeld.{owned-all, owner_low, rules-low}
+use Rattle.attributes.specs.FormulasHeld.{owned-all, owner_low}
 use Rattle.agreement.specs.OneFormula.{states-told}
 use Rattle.agreement.proofs.one_formula.one_formula.Goals as goal
 

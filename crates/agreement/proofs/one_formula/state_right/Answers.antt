@@ -1,6 +1,5 @@
 use native.Mathlib.Omega.{arith}
 use mathlib.Core.Path.{◌∙◌}
-use borrow.Author.Rules.{rules}
 use Rattle.attributes.specs.FormulasHeld.{terminals-low, held-check}
 use Rattle.agreement.specs.OneFormula.{state-told, state-single}
 use Rattle.agreement.proofs.one_formula.state_right.Goals as goal

@@ -1,21 +1,10 @@
 use mathlib.Core.Path.{ap}
 use mathlib.Core.Bool.{not}
-use Prim.Native.Nat.{ℕ, ◌-◌, ◌≤◌}
-use mathlib.Core.Path.{◌≡◌, refl, sym}
-use mathlib.Core.Bool.{true}
-use mathlib.Core.List.{List}
+use mathlib.Core.Path.{refl}
 use native.Mathlib.Omega.{arith}
-use lib.ListN.{length}
 use borrow.Author.Rules.{rules}
-use Rattle.grammar.specs.Conditions.Decides.{all_below}
-use Rattle.grammar.specs.Data.Book.{Book}
-use Rattle.grammar.specs.Formulas.Slots.{attributes}
-use Rattle.grammar.specs.Formulas.FormulaCheck as grammar
-use Rattle.attributes.specs.Owned.{OwnedIn}
-use Rattle.agreement.specs.Given.{GivenIn}
-use Rattle.agreement.specs.CheckLaws.{room-kept, all_start, all-turn, one-fails}
-use Rattle.attributes.specs.FormulasHeld.{states-low}
-use Rattle.agreement.specs.OneFormula.{FrontsHeld, state_right}
+use Rattle.agreement.specs.CheckLaws.{all_start, all-turn, one-fails}
+use Rattle.agreement.specs.OneFormula.{state_right}
 use Rattle.agreement.proofs.one_formula.states_right.Goals as goal
 
 pub loop-state-init : goal.loop-state-init
@@ -28,14 +17,14 @@ returns-then-not-state_right c = λ b begins H O L.
 
 pub loop-state-preserved : goal.loop-state-preserved
 loop-state-preserved c = (
-      omega (arith, c.loop-state-test.true),
-      search rules,
-      search rules,
-      search rules,
-      search rules,
-      search rules,
-      search rules,
-      λ b begins H O L.
-          all-turn (state_right b) c.loop-state.state (c.loop-state.invariant.7 b begins H O L)
-          (c.state_right.ensures b begins c.args.states H O L c.loop-state-test.true) (ap not c.if-not-state_right.false),
-    )
+  omega (arith, c.loop-state-test.true),
+  search rules,
+  search rules,
+  search rules,
+  search rules,
+  search rules,
+  search rules,
+  λ b begins H O L.
+      all-turn (state_right b) c.loop-state.state (c.loop-state.invariant.7 b begins H O L)
+      (c.state_right.ensures b begins c.args.states H O L c.loop-state-test.true) (ap not c.if-not-state_right.false),
+)

@@ -1,18 +1,14 @@
 use Prim.Native.Nat.{ℕ, ◌-◌, ◌≤◌}
-use mathlib.Core.Path.{◌≡◌, refl, sym}
+use mathlib.Core.Path.{◌≡◌}
 use mathlib.Core.Bool.{true}
 use mathlib.Core.List.{List}
-use native.Mathlib.Omega.{arith}
 use lib.ListN.{length}
-use borrow.Author.Rules.{rules}
 use Rattle.grammar.specs.Conditions.Decides.{all_below}
 use Rattle.grammar.specs.Data.Book.{Book}
 use Rattle.grammar.specs.Formulas.Slots.{attributes}
 use Rattle.grammar.specs.Formulas.FormulaCheck as grammar
 use Rattle.attributes.specs.Owned.{OwnedIn}
 use Rattle.agreement.specs.Given.{GivenIn}
-use Rattle.agreement.specs.CheckLaws.{room-kept, all_start, all-turn, one-fails}
-use Rattle.attributes.specs.FormulasHeld.{states-low}
 use Rattle.agreement.specs.OneFormula.{FrontsHeld, state_right}
 use Rattle.agreement.proofs.one_formula.states_right.Given as goal
 

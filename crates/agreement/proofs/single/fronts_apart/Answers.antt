@@ -1,11 +1,8 @@
-use Prim.Native.Nat.{◌+◌, ◌-◌, ◌<◌}
+use Prim.Native.Nat.{◌+◌, ◌<◌}
 use mathlib.Core.Path.{refl}
 use native.Mathlib.Omega.{arith}
-use lib.Bits.{bit_and}
-use lib.ListN.{length, get_or}
-use borrow.Author.Rules.{rules}
-use Rattle.grammar.specs.Automaton.TestLaws.{true-false}
-use Rattle.agreement.specs.SingleState.{Walk, and_first, walk_first, walk-last, walk-there, walk_more}
+use lib.ListN.{length}
+use Rattle.agreement.specs.SingleState.{and_first, walk-last, walk-there, walk_more}
 use Rattle.agreement.proofs.single.fronts_apart.Goals as goal
 
 pub overflow_add-rule : goal.overflow_add-rule

@@ -1,11 +1,7 @@
-use Prim.Native.Nat.{◌+◌, ◌-◌, ◌<◌}
-use mathlib.Core.Path.{refl}
-use native.Mathlib.Omega.{arith}
+use Prim.Native.Nat.{◌-◌}
 use lib.Bits.{bit_and}
-use lib.ListN.{length, get_or}
-use borrow.Author.Rules.{rules}
-use Rattle.grammar.specs.Automaton.TestLaws.{true-false}
-use Rattle.agreement.specs.SingleState.{Walk, and_first, walk_first, walk-last, walk-there, walk_more}
+use lib.ListN.{get_or}
+use Rattle.agreement.specs.SingleState.{Walk}
 use Rattle.agreement.proofs.single.fronts_apart.Given as goal
 
 abbrev pub invariant-loop-rest : goal.invariant-loop-rest

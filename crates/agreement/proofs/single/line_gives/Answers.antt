@@ -1,6 +1,5 @@
-use Prim.Native.Nat.{◌≤◌, ◌<◌}
+use Prim.Native.Nat.{◌≤◌}
 use native.Mathlib.Omega.{arith}
-use borrow.Author.Rules.{rules}
 use Rattle.automaton.specs.StatesIn.{KernelLow, kernel-low, kernel-rule}
 use Rattle.agreement.proofs.single.line_gives.Goals as goal
 

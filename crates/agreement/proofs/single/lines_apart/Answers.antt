@@ -1,10 +1,5 @@
-use Prim.Native.Nat.{◌-◌, ◌≤◌}
-use mathlib.Core.Path.{refl}
 use native.Mathlib.Omega.{arith}
-use borrow.Author.Rules.{rules}
-use Rattle.grammar.specs.Automaton.TestLaws.{true-false}
-use Rattle.agreement.specs.Apart.{Apart, apart_none, apart_more, apart-all}
-use Rattle.agreement.specs.SingleState.{line_word}
+use Rattle.agreement.specs.Apart.{apart_more}
 use Rattle.agreement.proofs.single.lines_apart.Goals as goal
 
 pub loop-i-preserved : goal.loop-i-preserved

@@ -1,9 +1,5 @@
 use Prim.Native.Nat.{◌-◌, ◌≤◌}
-use mathlib.Core.Path.{refl}
-use native.Mathlib.Omega.{arith}
-use borrow.Author.Rules.{rules}
-use Rattle.grammar.specs.Automaton.TestLaws.{true-false}
-use Rattle.agreement.specs.Apart.{Apart, apart_none, apart_more, apart-all}
+use Rattle.agreement.specs.Apart.{Apart}
 use Rattle.agreement.specs.SingleState.{line_word}
 use Rattle.agreement.proofs.single.lines_apart.Given as goal
 

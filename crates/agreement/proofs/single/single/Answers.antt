@@ -1,8 +1,5 @@
-use mathlib.Core.Path.{refl}
 use native.Mathlib.Omega.{arith}
 use borrow.Author.Tests.{not-false}
-use borrow.Author.Rules.{rules}
-use Rattle.grammar.specs.Automaton.TestLaws.{true-false}
 use Rattle.automaton.specs.StatesIn.{state-range}
 use Rattle.agreement.specs.SingleState.{single-state}
 use Rattle.agreement.proofs.single.single.Goals as goal

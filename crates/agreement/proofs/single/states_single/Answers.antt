@@ -1,18 +1,5 @@
-use Prim.Native.Nat.{ℕ, ◌-◌, ◌<◌, ◌≤◌}
-use mathlib.Core.Path.{◌≡◌, refl}
-use mathlib.Core.List.{List}
 use native.Mathlib.Omega.{arith}
-use borrow.Author.Tests.{not-false}
-use borrow.Author.Rules.{rules}
 use Rattle.sets.proofs.Bits.{below_suc}
-use Rattle.grammar.specs.Data.Book.{Book}
-use Rattle.grammar.specs.Format.Ordered.{Ordered}
-use Rattle.grammar.specs.Automaton.FirstSets.{sets_of}
-use Rattle.grammar.specs.Automaton.TestLaws.{true-false}
-use Rattle.grammar.specs.Formulas.FormulaCheck as grammar
-use Rattle.automaton.specs.StatesIn.{ItemsIn}
-use Rattle.automaton.specs.Fronts.{FrontsIn}
-use Rattle.agreement.specs.Given.{GivenIn}
 use Rattle.agreement.specs.SingleState.{Single}
 use Rattle.agreement.proofs.single.states_single.Goals as goal
 

@@ -1,6 +1,4 @@
-use borrow.Author.Tests.{not-true, not-false}
 use Rattle.attempts.specs.Evaluations.{asked-rows, asked-odd, asked-long, asked-kinds, asked-all}
-use borrow.Author.Rules.{rules}
 use Rattle.attempts.proofs.evaluating.asked.Goals as goal
 
 pub returns-then-lent-ne-PAGE_WORDS : goal.returns-then-lent-ne-PAGE_WORDS

@@ -1,7 +1,6 @@
 use native.Mathlib.Omega.{arith}
-use borrow.Author.Tests.{not-true, not-false}
-use Rattle.attempts.specs.Attempts.{book-taken, states-within, attempts-part, attempts-none, attempts-asked, attempts-run}
-use borrow.Author.Rules.{rules}
+use borrow.Author.Tests.{not-false}
+use Rattle.attempts.specs.Attempts.{book-taken, states-within, attempts-none, attempts-asked, attempts-run}
 use Rattle.attempts.proofs.evaluating.respond.Goals as goal
 
 pub returns-then-compiled-ne0 : goal.returns-then-compiled-ne0

@@ -1,8 +1,4 @@
-use Prim.Native.Nat.{◌-◌, ◌*◌, ◌/◌}
-use mathlib.Core.Path.{◌≡◌, refl}
-use lib.ListN.{length, drop}
-use Rattle.attempts.specs.Tokens.{kinds_right, kinds-low, kinds-high, kinds-turn, kinds-end}
-use borrow.Author.Rules.{rules}
+use Rattle.attempts.specs.Tokens.{kinds-low, kinds-high, kinds-turn, kinds-end}
 use Rattle.attempts.proofs.tokens.kinds_right.Goals as goal
 
 pub returns-then-kind-eq0 : goal.returns-then-kind-eq0

@@ -1,8 +1,7 @@
 use Prim.Native.Nat.{◌-◌, ◌*◌, ◌/◌}
-use mathlib.Core.Path.{◌≡◌, refl}
+use mathlib.Core.Path.{◌≡◌}
 use lib.ListN.{length, drop}
-use Rattle.attempts.specs.Tokens.{kinds_right, kinds-low, kinds-high, kinds-turn, kinds-end}
-use borrow.Author.Rules.{rules}
+use Rattle.attempts.specs.Tokens.{kinds_right}
 use Rattle.attempts.proofs.tokens.kinds_right.Given as goal
 
 abbrev pub invariant-loop-i : goal.invariant-loop-i

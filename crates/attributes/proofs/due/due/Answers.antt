@@ -1,9 +1,6 @@
-use Prim.Native.Nat.{◌≤◌, ◌<◌}
 use mathlib.Core.Bool.{not}
 use mathlib.Core.Path.{◌∙◌, ap}
-use native.Mathlib.Omega.{arith}
-use borrow.Author.Rules.{rules}
-use Rattle.attributes.specs.CheckingLaws.{rule_there, rule_low, rule_place, position_low, position_high, left_below, due-absent, due-behind, due-front}
+use Rattle.attributes.specs.CheckingLaws.{due-absent, due-behind, due-front}
 use Rattle.attributes.proofs.due.due.Goals as goal
 
 pub returns-then-not-meets : goal.returns-then-not-meets

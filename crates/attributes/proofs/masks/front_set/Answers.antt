@@ -1,8 +1,6 @@
-use Prim.Native.Nat.{◌<◌}
 use mathlib.Core.Path.{◌∙◌}
 use native.Mathlib.Omega.{arith}
-use borrow.Author.Rules.{rules}
-use Rattle.attributes.specs.MarkFronts.{left_word, front-none, front-some}
+use Rattle.attributes.specs.MarkFronts.{front-none, front-some}
 use Rattle.attributes.proofs.masks.front_set.Goals as goal
 
 pub returns-then-own-eq0 : goal.returns-then-own-eq0

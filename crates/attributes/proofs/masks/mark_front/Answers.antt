@@ -1,9 +1,8 @@
-use Prim.Native.Nat.{◌+◌, ◌*◌, ◌<◌, ◌≤◌}
+use Prim.Native.Nat.{◌<◌}
 use native.Mathlib.Omega.{arith}
 use mathlib.Core.Path.{sym, ◌∙◌}
 use lib.ListN.{length}
-use borrow.Author.Rules.{rules}
-use Rattle.attributes.specs.CheckingLaws.{rule_there, rule_low, rule-word, position-word, position_low, position_high, place_is}
+use Rattle.attributes.specs.CheckingLaws.{rule_there, rule-word, position-word, position_low, place_is}
 use Rattle.attributes.specs.MarkFronts.{front-behind, front-first, fronts-more}
 use Rattle.attributes.proofs.masks.mark_front.Goals as goal
 

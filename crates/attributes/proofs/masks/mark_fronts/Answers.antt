@@ -1,16 +1,6 @@
-use Prim.Native.Nat.{ℕ, ◌*◌, ◌-◌, ◌≤◌}
-use mathlib.Core.Path.{◌≡◌, refl}
-use mathlib.Core.List.{List}
+use mathlib.Core.Path.{◌≡◌}
 use native.Mathlib.Omega.{arith}
-use lib.ListN.{length}
 use borrow.Author.Rules.{rules}
-use Rattle.grammar.specs.Data.Book.{Book}
-use Rattle.grammar.specs.Automaton.FirstSets.{Sets}
-use Rattle.grammar.specs.Formulas.FormulaCheck as grammar
-use Rattle.items.specs.Arrays.{SuffixesIn, ReachesIn}
-use Rattle.attributes.specs.Checking.{CheckHeld}
-use Rattle.attributes.specs.Marks.{room-kept}
-use Rattle.attributes.specs.MarkFronts.{LooksIn, FrontsMarked, fronts-start}
 use Rattle.attributes.proofs.masks.mark_fronts.Goals as goal
 
 pub loop-i-preserved : goal.loop-i-preserved

@@ -1,16 +1,13 @@
 use Prim.Native.Nat.{ℕ, ◌*◌, ◌-◌, ◌≤◌}
-use mathlib.Core.Path.{◌≡◌, refl}
+use mathlib.Core.Path.{◌≡◌}
 use mathlib.Core.List.{List}
-use native.Mathlib.Omega.{arith}
 use lib.ListN.{length}
-use borrow.Author.Rules.{rules}
 use Rattle.grammar.specs.Data.Book.{Book}
 use Rattle.grammar.specs.Automaton.FirstSets.{Sets}
 use Rattle.grammar.specs.Formulas.FormulaCheck as grammar
 use Rattle.items.specs.Arrays.{SuffixesIn, ReachesIn}
 use Rattle.attributes.specs.Checking.{CheckHeld}
-use Rattle.attributes.specs.Marks.{room-kept}
-use Rattle.attributes.specs.MarkFronts.{LooksIn, FrontsMarked, fronts-start}
+use Rattle.attributes.specs.MarkFronts.{LooksIn, FrontsMarked}
 use Rattle.attributes.proofs.masks.mark_fronts.Given as goal
 
 abbrev pub invariant-loop-i : goal.invariant-loop-i

@@ -1,8 +1,4 @@
-use Prim.Native.Nat.{◌+◌, ◌*◌, ◌<◌}
-use native.Mathlib.Omega.{arith}
-use lib.ListN.{length}
-use borrow.Author.Rules.{rules}
-use Rattle.attributes.specs.MarkLines.{line-below, item-place, item-rule, item-dot, line-marks}
+use Rattle.attributes.specs.MarkLines.{item-rule, item-dot, line-marks}
 use Rattle.attributes.proofs.masks.mark_line.Goals as goal
 
 pub returns : goal.returns

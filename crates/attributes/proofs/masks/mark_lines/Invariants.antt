@@ -1,16 +1,14 @@
 use Prim.Native.Nat.{ℕ, ◌≤◌}
-use mathlib.Core.Path.{◌≡◌, refl}
+use mathlib.Core.Path.{◌≡◌}
 use mathlib.Core.List.{List, ◌++◌}
-use native.Mathlib.Omega.{arith}
 use lib.ListN.{length}
 use lib.Seq.{slice}
-use borrow.Author.Rules.{rules}
 use Rattle.grammar.specs.Data.Book.{Book}
 use Rattle.grammar.specs.Automaton.FirstSets.{Sets}
 use Rattle.grammar.specs.Automaton.CoreItems.{Core, of_kernels}
 use Rattle.items.specs.Arrays.{SuffixesIn, ReachesIn}
-use Rattle.attributes.specs.Marks.{MarksIn, room-kept}
-use Rattle.attributes.specs.MarkLines.{ItemLinesIn, marks-start, marks-turn}
+use Rattle.attributes.specs.Marks.{MarksIn}
+use Rattle.attributes.specs.MarkLines.{ItemLinesIn}
 use Rattle.attributes.proofs.masks.mark_lines.Given as goal
 
 abbrev pub invariant-loop-i : goal.invariant-loop-i

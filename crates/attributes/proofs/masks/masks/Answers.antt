@@ -1,11 +1,10 @@
 use mathlib.Core.Path.{refl}
-use native.Mathlib.Omega.{arith}
 use Rattle.grammar.specs.Automaton.FirstSets.{sets_of}
 use Rattle.grammar.specs.Automaton.ReachSets.{reach_sets}
 use Rattle.grammar.specs.Automaton.ClosureSets.{closure_sets}
 use borrow.Author.Rules.{rules}
 use Rattle.attributes.specs.MarkFronts.{fronts-marked}
-use Rattle.attributes.specs.StateMarks.{marks-room, item-lines, state-looks, looks-below, bounds-below, range, marks-state}
+use Rattle.attributes.specs.StateMarks.{marks-room, item-lines, state-looks, looks-below, range, marks-state}
 use Rattle.attributes.proofs.masks.masks.Goals as goal
 
 pub mark_fronts-requires : goal.mark_fronts-requires

@@ -1,6 +1,5 @@
 use mathlib.Core.Path.{sym, ◌∙◌}
 use Rattle.attributes.specs.ReachWith.{reach-null, reach-full}
-use borrow.Author.Rules.{rules}
 use Rattle.attributes.proofs.masks.reach_with.Goals as goal
 
 pub returns-then-nullables-place-eq0 : goal.returns-then-nullables-place-eq0

@@ -1,12 +1,8 @@
-use Prim.Native.Nat.{ℕ, ◌-◌, ◌<◌, ◌≤◌}
-use mathlib.Core.Path.{◌≡◌, sym}
-use mathlib.Core.List.{List}
+use Prim.Native.Nat.{◌<◌}
+use mathlib.Core.Path.{sym}
 use native.Mathlib.Omega.{arith}
-use lib.ListN.{length, get_or}
-use borrow.Author.Rules.{rules}
-use Rattle.grammar.specs.Limits.{MAX_INHERITED}
-use Rattle.book.specs.Held.{OwnersIn}
-use Rattle.attributes.specs.Owned.{OwnedIn, owned-start, owned-turn}
+use lib.ListN.{get_or}
+use Rattle.attributes.specs.Owned.{owned-start, owned-turn}
 use Rattle.attributes.proofs.owned.owned.Goals as goal
 
 pub loop-i-init : goal.loop-i-init

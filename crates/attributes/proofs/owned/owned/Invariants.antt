@@ -1,12 +1,10 @@
-use Prim.Native.Nat.{ℕ, ◌-◌, ◌<◌, ◌≤◌}
-use mathlib.Core.Path.{◌≡◌, sym}
+use Prim.Native.Nat.{ℕ, ◌-◌, ◌≤◌}
+use mathlib.Core.Path.{◌≡◌}
 use mathlib.Core.List.{List}
-use native.Mathlib.Omega.{arith}
-use lib.ListN.{length, get_or}
-use borrow.Author.Rules.{rules}
+use lib.ListN.{length}
 use Rattle.grammar.specs.Limits.{MAX_INHERITED}
 use Rattle.book.specs.Held.{OwnersIn}
-use Rattle.attributes.specs.Owned.{OwnedIn, owned-start, owned-turn}
+use Rattle.attributes.specs.Owned.{OwnedIn}
 use Rattle.attributes.proofs.owned.owned.Given as goal
 
 abbrev pub invariant-loop-i : goal.invariant-loop-i

@@ -1,8 +1,6 @@
-use Prim.Native.Nat.{◌-◌, ◌≤◌, ◌<◌}
-use mathlib.Core.Path.{◌≡◌}
+use Prim.Native.Nat.{◌-◌, ◌<◌}
 use native.Mathlib.Omega.{arith}
-use borrow.Author.Rules.{rules}
-use Rattle.attributes.specs.Skips.{Skip, SkipsFrom, skip-none, skip_step, skips-start, skips-more}
+use Rattle.attributes.specs.Skips.{Skip, skip_step, skips-more}
 use Rattle.attributes.proofs.skips.skip.Goals as goal
 
 pub loop-i-preserved : goal.loop-i-preserved

@@ -1,8 +1,5 @@
-use Prim.Native.Nat.{◌-◌, ◌≤◌, ◌<◌}
-use mathlib.Core.Path.{◌≡◌}
-use native.Mathlib.Omega.{arith}
-use borrow.Author.Rules.{rules}
-use Rattle.attributes.specs.Skips.{Skip, SkipsFrom, skip-none, skip_step, skips-start, skips-more}
+use Prim.Native.Nat.{◌≤◌}
+use Rattle.attributes.specs.Skips.{Skip, SkipsFrom}
 use Rattle.attributes.proofs.skips.skip.Given as goal
 
 abbrev pub invariant-loop-i : goal.invariant-loop-i

@@ -1,4 +1,3 @@
-use borrow.Author.Rules.{rules}
 use Rattle.automaton.specs.ActionRows.{among-is}
 use Rattle.automaton.proofs.actions.among.Goals as goal
 

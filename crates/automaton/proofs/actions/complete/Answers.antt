@@ -1,7 +1,5 @@
-use Prim.Native.Nat.{◌-◌, ◌≤◌}
 use native.Mathlib.Omega.{arith}
-use Rattle.automaton.specs.ActionRows.{Completing, completing-none, completing-more, completing-all, among-low}
-use borrow.Author.Rules.{rules}
+use Rattle.automaton.specs.ActionRows.{completing-none, completing-more, completing-all, among-low}
 use Rattle.automaton.proofs.actions.complete.Goals as goal
 
 pub loop-a-init : goal.loop-a-init

@@ -1,7 +1,5 @@
 use Prim.Native.Nat.{◌-◌, ◌≤◌}
-use native.Mathlib.Omega.{arith}
-use Rattle.automaton.specs.ActionRows.{Completing, completing-none, completing-more, completing-all, among-low}
-use borrow.Author.Rules.{rules}
+use Rattle.automaton.specs.ActionRows.{Completing}
 use Rattle.automaton.proofs.actions.complete.Given as goal
 
 abbrev pub invariant-loop-a : goal.invariant-loop-a

@@ -1,6 +1,5 @@
 use native.Mathlib.Omega.{arith}
 use Rattle.automaton.specs.ActionRows.{complete-turn}
-use borrow.Author.Rules.{rules}
 use Rattle.automaton.proofs.actions.complete_at.Goals as goal
 
 pub returns : goal.returns

@@ -1,10 +1,5 @@
-use Prim.Native.Nat.{◌-◌}
-use mathlib.Core.Path.{refl, ◌≡◌, ◌∙◌}
-use lib.ListN.{length}
-use native.Mathlib.Omega.{arith}
-use borrow.Author.Tests.{not-true, not-false}
-use Rattle.automaton.specs.ActionTable.{StatesActing, states-none, states-more, states-fail, states-all}
-use borrow.Author.Rules.{rules}
+use mathlib.Core.Path.{◌∙◌}
+use Rattle.automaton.specs.ActionTable.{states-more, states-fail, states-all}
 use Rattle.automaton.proofs.actions.fill_actions.Goals as goal
 
 pub returns-then-not-state_acts : goal.returns-then-not-state_acts

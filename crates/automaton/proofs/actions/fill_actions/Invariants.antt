@@ -1,10 +1,7 @@
 use Prim.Native.Nat.{◌-◌}
-use mathlib.Core.Path.{refl, ◌≡◌, ◌∙◌}
+use mathlib.Core.Path.{◌≡◌}
 use lib.ListN.{length}
-use native.Mathlib.Omega.{arith}
-use borrow.Author.Tests.{not-true, not-false}
-use Rattle.automaton.specs.ActionTable.{StatesActing, states-none, states-more, states-fail, states-all}
-use borrow.Author.Rules.{rules}
+use Rattle.automaton.specs.ActionTable.{StatesActing}
 use Rattle.automaton.proofs.actions.fill_actions.Given as goal
 
 abbrev pub invariant-loop-state : goal.invariant-loop-state

@@ -2,8 +2,7 @@ use Prim.Native.Nat.{◌+◌, ◌*◌, ◌<◌}
 use native.Mathlib.Omega.{arith}
 use lib.ListN.{get_or}
 use Rattle.items.specs.GrammarIn.{RuleLow, rule_low}
-use Rattle.automaton.specs.ActionItems.{item-complete, item-nonterminal, item-terminal}
-use borrow.Author.Rules.{rules}
+use Rattle.automaton.specs.ActionItems.{item-nonterminal, item-terminal}
 use Rattle.automaton.proofs.actions.give_item.Goals as goal
 
 pub word-symbol-requires : goal.word-symbol-requires

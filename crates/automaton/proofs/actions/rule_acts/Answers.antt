@@ -1,7 +1,4 @@
-use native.Mathlib.Omega.{arith}
-use Rattle.items.specs.GrammarIn.{RuleLow, rule_low, set-place}
 use Rattle.automaton.specs.ActionItems.{rule-idle, rule-busy}
-use borrow.Author.Rules.{rules}
 use Rattle.automaton.proofs.actions.rule_acts.Goals as goal
 
 pub returns-then-set-eq0 : goal.returns-then-set-eq0

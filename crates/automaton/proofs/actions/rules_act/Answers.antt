@@ -1,9 +1,4 @@
-use Prim.Native.Nat.{◌+◌, ◌-◌, ◌<◌}
-use mathlib.Core.Path.{◌∙◌}
-use native.Mathlib.Omega.{arith}
-use borrow.Author.Tests.{not-true, not-false}
-use Rattle.automaton.specs.Fronts.{rest-there}
-use Rattle.automaton.specs.ActionItems.{RulesActing, acting-none, acting-stands, acting-more, acting-fail, acting-all}
+use Rattle.automaton.specs.ActionItems.{acting-none, acting-more, acting-fail, acting-all}
 use Rattle.automaton.proofs.actions.rules_act.Goals as goal
 
 pub loop-rest-init : goal.loop-rest-init

@@ -1,9 +1,5 @@
-use Prim.Native.Nat.{◌+◌, ◌-◌, ◌<◌}
-use mathlib.Core.Path.{◌∙◌}
-use native.Mathlib.Omega.{arith}
-use borrow.Author.Tests.{not-true, not-false}
-use Rattle.automaton.specs.Fronts.{rest-there}
-use Rattle.automaton.specs.ActionItems.{RulesActing, acting-none, acting-stands, acting-more, acting-fail, acting-all}
+use Prim.Native.Nat.{◌-◌}
+use Rattle.automaton.specs.ActionItems.{RulesActing}
 use Rattle.automaton.proofs.actions.rules_act.Given as goal
 
 abbrev pub invariant-loop-rest : goal.invariant-loop-rest

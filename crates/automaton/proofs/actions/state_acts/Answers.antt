@@ -1,7 +1,5 @@
-use borrow.Author.Tests.{not-true, not-false}
 use mathlib.Core.Path.{refl}
 use Rattle.automaton.specs.ActionItems.{state-fail, state-rest}
-use borrow.Author.Rules.{rules}
 use Rattle.automaton.proofs.actions.state_acts.Goals as goal
 
 pub returns-then-not-rules_act : goal.returns-then-not-rules_act

@@ -2,7 +2,7 @@ use Prim.Native.Nat.{◌+◌, ◌*◌, ◌<◌}
 use native.Mathlib.Omega.{arith}
 use lib.ListN.{length, get_or}
 use Rattle.items.specs.GrammarIn.{RuleLow, rule_low}
-use Rattle.automaton.specs.Advances.{advances-complete, advances-nowhere, advances-found, target-range, target-within, target_low}
+use Rattle.automaton.specs.Advances.{advances-complete, advances-nowhere, advances-found, target-range, target-within}
 use Rattle.automaton.proofs.go_rules.advances.Goals as goal
 
 pub returns-then-dot-word : goal.returns-then-dot-word

@@ -1,9 +1,5 @@
 use Prim.Native.Nat.{◌-◌}
-use mathlib.Core.Path.{sym, ◌∙◌}
-use native.Mathlib.Omega.{arith}
-use borrow.Author.Tests.{not-true, not-false}
-use Rattle.automaton.specs.Comes.{AllCome, come-none, come-more, come-fail, come-all}
-use borrow.Author.Rules.{rules}
+use Rattle.automaton.specs.Comes.{AllCome}
 use Rattle.automaton.proofs.go_rules.all_come.Given as goal
 
 abbrev pub invariant-loop-i : goal.invariant-loop-i

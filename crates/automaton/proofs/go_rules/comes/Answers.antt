@@ -3,7 +3,6 @@ use native.Mathlib.Omega.{arith}
 use Rattle.items.specs.GrammarIn.{RuleLow, rule_low}
 use Rattle.automaton.specs.StatesIn.{stands-back}
 use Rattle.automaton.specs.Comes.{comes-front, comes-other, comes-item}
-use borrow.Author.Rules.{rules}
 use Rattle.automaton.proofs.go_rules.comes.Goals as goal
 
 pub returns-then-dot-eq0 : goal.returns-then-dot-eq0

@@ -1,5 +1,4 @@
 use mathlib.Core.Path.{sym, ◌∙◌}
-use borrow.Author.Tests.{not-true, not-false}
 use Rattle.automaton.specs.StatesIn.{items}
 use Rattle.automaton.specs.GoRules.{go-fail, go-rest}
 use Rattle.automaton.proofs.go_rules.go_rules.Goals as goal

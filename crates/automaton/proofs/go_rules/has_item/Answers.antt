@@ -1,9 +1,6 @@
-use mathlib.Core.Logic.{⊎_elim}
 use native.Mathlib.Omega.{arith}
-use Rattle.items.specs.GrammarIn.{RuleLow, rule_low, set-place}
-use Rattle.automaton.specs.StatesIn.{state-bounds, state-range}
+use Rattle.automaton.specs.StatesIn.{state-range}
 use Rattle.automaton.specs.Comes.{searched, has_kernel, has-rule}
-use borrow.Author.Rules.{rules}
 use Rattle.automaton.proofs.go_rules.has_item.Goals as goal
 use Rattle.automaton.proofs.go_rules.has_item.Goals.{else-dot-eq0, then-dot-eq0+else-closures-state-ne0}
 

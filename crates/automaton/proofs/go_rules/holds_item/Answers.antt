@@ -1,7 +1,5 @@
 use mathlib.Core.Path.{sym, ◌∙◌}
-use Prim.Native.Nat.{◌-◌}
-use Rattle.automaton.specs.HoldsItem.{Searched, searched-none, searched-more, searched-found, searched-all}
-use borrow.Author.Rules.{rules}
+use Rattle.automaton.specs.HoldsItem.{searched-more, searched-found, searched-all}
 use Rattle.automaton.proofs.go_rules.holds_item.Goals as goal
 
 pub returns-then-is_item : goal.returns-then-is_item

@@ -1,5 +1,4 @@
 use Rattle.automaton.specs.HoldsItem.{other-rule, other-dot, same_dot}
-use borrow.Author.Rules.{rules}
 use Rattle.automaton.proofs.go_rules.is_item.Goals as goal
 
 pub returns-then-word-rule : goal.returns-then-word-rule

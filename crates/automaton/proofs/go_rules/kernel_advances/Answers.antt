@@ -1,5 +1,3 @@
-use native.Mathlib.Omega.{arith}
-use Rattle.automaton.specs.StatesIn.{KernelLow, kernel-low}
 use Rattle.automaton.specs.Advances.{kernel-stands, kernel-advances}
 use Rattle.automaton.proofs.go_rules.kernel_advances.Goals as goal
 

@@ -1,6 +1,4 @@
 use Rattle.automaton.specs.Comes.{line-words}
-use native.Mathlib.Omega.{arith}
-use Rattle.automaton.specs.StatesIn.{KernelLow, kernel-low}
 use Rattle.automaton.specs.Advances.{kernel-stands}
 use Rattle.automaton.proofs.go_rules.kernel_comes.Goals as goal
 

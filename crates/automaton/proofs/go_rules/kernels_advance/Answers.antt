@@ -1,10 +1,7 @@
-use borrow.Author.Tests.{not-true, not-false}
-use Prim.Native.Nat.{◌-◌}
 use mathlib.Core.Path.{sym, ◌∙◌}
 use native.Mathlib.Omega.{arith}
-use Rattle.automaton.specs.StatesIn.{state-range, state-bounds}
-use Rattle.automaton.specs.Advances.{KernelsAdvance, kernels-none, kernels-more, kernels-fail, kernels-all}
-use borrow.Author.Rules.{rules}
+use Rattle.automaton.specs.StatesIn.{state-range}
+use Rattle.automaton.specs.Advances.{kernels-none, kernels-more, kernels-fail, kernels-all}
 use Rattle.automaton.proofs.go_rules.kernels_advance.Goals as goal
 
 pub loop-i-init : goal.loop-i-init

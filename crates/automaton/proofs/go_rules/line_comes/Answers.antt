@@ -2,8 +2,7 @@ use mathlib.Core.Path.{◌∙◌}
 use native.Mathlib.Omega.{arith}
 use Rattle.grammar.specs.Automaton.CoreItems.{core_items}
 use Rattle.book.specs.Held.{go_at}
-use Rattle.automaton.specs.GoTable.{LineLow}
-use Rattle.automaton.specs.Comes.{go-low, go-declared, state_there, goal-there, goal-range, goal-bare, goal-comes}
+use Rattle.automaton.specs.Comes.{go-declared, state_there, goal-there, goal-range, goal-bare, goal-comes}
 use Rattle.automaton.proofs.go_rules.line_comes.Goals as goal
 
 pub word-first-requires : goal.word-first-requires

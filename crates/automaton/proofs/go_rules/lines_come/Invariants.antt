@@ -1,9 +1,5 @@
 use Prim.Native.Nat.{◌-◌}
-use mathlib.Core.Path.{sym, ◌∙◌}
-use native.Mathlib.Omega.{arith}
-use borrow.Author.Tests.{not-true, not-false}
-use Rattle.automaton.specs.Comes.{LinesCome, lines_none, lines_more, lines-fail, lines-all}
-use borrow.Author.Rules.{rules}
+use Rattle.automaton.specs.Comes.{LinesCome}
 use Rattle.automaton.proofs.go_rules.lines_come.Given as goal
 
 abbrev pub invariant-loop-i : goal.invariant-loop-i

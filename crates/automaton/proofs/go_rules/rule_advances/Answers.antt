@@ -1,5 +1,3 @@
-use native.Mathlib.Omega.{arith}
-use Rattle.items.specs.GrammarIn.{RuleLow, rule_low, set-place}
 use Rattle.automaton.specs.StatesIn.{moves, items}
 use Rattle.automaton.specs.Advances.{rule-idle, rule-busy}
 use Rattle.automaton.proofs.go_rules.rule_advances.Goals as goal

@@ -1,9 +1,5 @@
-use Prim.Native.Nat.{◌+◌, ◌-◌, ◌<◌}
 use mathlib.Core.Path.{sym, ◌∙◌}
-use native.Mathlib.Omega.{arith}
-use borrow.Author.Tests.{not-true, not-false}
-use Rattle.automaton.specs.Fronts.{rest-there}
-use Rattle.automaton.specs.Advances.{RulesAdvance, rules-none, rules-more, rules-fail, rules-all, rule-stands}
+use Rattle.automaton.specs.Advances.{rules-none, rules-more, rules-fail, rules-all}
 use Rattle.automaton.proofs.go_rules.rules_advance.Goals as goal
 
 pub loop-rest-init : goal.loop-rest-init

@@ -1,9 +1,5 @@
-use Prim.Native.Nat.{◌+◌, ◌-◌, ◌<◌}
-use mathlib.Core.Path.{sym, ◌∙◌}
-use native.Mathlib.Omega.{arith}
-use borrow.Author.Tests.{not-true, not-false}
-use Rattle.automaton.specs.Fronts.{rest-there}
-use Rattle.automaton.specs.Advances.{RulesAdvance, rules-none, rules-more, rules-fail, rules-all, rule-stands}
+use Prim.Native.Nat.{◌-◌}
+use Rattle.automaton.specs.Advances.{RulesAdvance}
 use Rattle.automaton.proofs.go_rules.rules_advance.Given as goal
 
 abbrev pub invariant-loop-rest : goal.invariant-loop-rest

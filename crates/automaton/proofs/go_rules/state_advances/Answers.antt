@@ -1,4 +1,3 @@
-use borrow.Author.Tests.{not-true, not-false}
 use mathlib.Core.Path.{sym, ◌∙◌}
 use Rattle.automaton.specs.StatesIn.{moves}
 use Rattle.automaton.specs.Advances.{state-fail, state-rest}

@@ -1,8 +1,5 @@
-use borrow.Author.Tests.{not-true, not-false}
 use mathlib.Core.Path.{sym, ◌∙◌}
-use native.Mathlib.Omega.{arith}
-use Rattle.automaton.specs.Advances.{StatesAdvance, states-none, states-more, states-fail, states-all}
-use borrow.Author.Rules.{rules}
+use Rattle.automaton.specs.Advances.{states-more, states-fail, states-all}
 use Rattle.automaton.proofs.go_rules.states_advance.Goals as goal
 
 pub returns-then-not-state_advances : goal.returns-then-not-state_advances

@@ -1,8 +1,4 @@
-use borrow.Author.Tests.{not-true, not-false}
-use mathlib.Core.Path.{sym, ◌∙◌}
-use native.Mathlib.Omega.{arith}
-use Rattle.automaton.specs.Advances.{StatesAdvance, states-none, states-more, states-fail, states-all}
-use borrow.Author.Rules.{rules}
+use Rattle.automaton.specs.Advances.{StatesAdvance}
 use Rattle.automaton.proofs.go_rules.states_advance.Given as goal
 
 abbrev pub invariant-loop-state : goal.invariant-loop-state

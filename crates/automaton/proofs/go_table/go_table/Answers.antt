@@ -1,9 +1,8 @@
 use Prim.Native.Nat.{◌*◌, ◌-◌, ◌<◌}
 use native.Mathlib.Omega.{arith}
-use mathlib.Core.Path.{◌≡◌, refl}
-use lib.ListN.{length, get_or, length-set}
-use Rattle.automaton.specs.GoTable.{LineLow, line_low, line-state, Filled, filled_none, filled_more, filled-all}
-use borrow.Author.Rules.{rules}
+use mathlib.Core.Path.{refl}
+use lib.ListN.{get_or, length-set}
+use Rattle.automaton.specs.GoTable.{LineLow, line_low, line-state, filled_none, filled_more, filled-all}
 use Rattle.automaton.proofs.go_table.go_table.Goals as goal
 
 pub loop-i-init : goal.loop-i-init

@@ -1,9 +1,6 @@
-use Prim.Native.Nat.{◌*◌, ◌-◌, ◌<◌}
-use native.Mathlib.Omega.{arith}
-use mathlib.Core.Path.{◌≡◌, refl}
-use lib.ListN.{length, get_or, length-set}
-use Rattle.automaton.specs.GoTable.{LineLow, line_low, line-state, Filled, filled_none, filled_more, filled-all}
-use borrow.Author.Rules.{rules}
+use mathlib.Core.Path.{◌≡◌}
+use lib.ListN.{length}
+use Rattle.automaton.specs.GoTable.{Filled}
 use Rattle.automaton.proofs.go_table.go_table.Given as goal
 
 abbrev pub invariant-loop-i : goal.invariant-loop-i

@@ -1,5 +1,4 @@
 use Rattle.automaton.specs.KernelWords.{end-decides}
-use borrow.Author.Rules.{rules}
 use Rattle.automaton.proofs.kernel_rules.end_alone.Goals as goal
 
 pub returns : goal.returns

@@ -1,12 +1,9 @@
-use Prim.Native.Nat.{◌-◌, ◌<◌}
+use Prim.Native.Nat.{◌<◌}
 use native.Mathlib.Omega.{arith}
-use mathlib.Core.Path.{◌≡◌, ◌∙◌}
-use lib.ListN.{length, set, length-set}
-use borrow.Author.Tests.{not-true, not-false}
+use mathlib.Core.Path.{◌≡◌}
+use lib.ListN.{length, set}
 use Rattle.grammar.specs.Data.Book.{Book}
-use Rattle.automaton.specs.KernelWords.{line-long, state_low}
 use Rattle.automaton.specs.KernelRules.{RuledIn, Walked, walked_start, ruled-none, ruled-first, ruled-lines, ruled-last}
-use borrow.Author.Rules.{rules}
 use Rattle.automaton.proofs.kernel_rules.kernel_rules.Goals as goal
 
 pub returns-then-count-eq0 : goal.returns-then-count-eq0

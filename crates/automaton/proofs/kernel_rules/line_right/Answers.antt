@@ -1,8 +1,5 @@
-use Prim.Native.Nat.{◌-◌}
 use native.Mathlib.Omega.{arith}
-use borrow.Author.Tests.{not-true, not-false}
-use Rattle.automaton.specs.KernelWords.{state_low, follows-front, follows-start, follows_same, follows_next}
-use borrow.Author.Rules.{rules}
+use Rattle.automaton.specs.KernelWords.{follows-front, follows_same, follows_next}
 use Rattle.automaton.proofs.kernel_rules.line_right.Goals as goal
 
 pub returns-then-symbol-eq64 : goal.returns-then-symbol-eq64

@@ -1,10 +1,5 @@
-use Prim.Native.Nat.{◌+◌, ◌-◌, ◌<◌}
 use native.Mathlib.Omega.{arith}
-use mathlib.Core.Path.{◌≡◌, refl}
-use lib.ListN.{length}
-use borrow.Author.Tests.{not-true, not-false}
-use Rattle.grammar.specs.Data.Book.{Book}
-use Rattle.automaton.specs.KernelRules.{RuledIn, Walked, walked-place, walked_more, walks-all, walks-fails}
+use Rattle.automaton.specs.KernelRules.{walked_more, walks-fails}
 use borrow.Author.Rules.{rules}
 use Rattle.automaton.proofs.kernel_rules.lines_right.Goals as goal
 

@@ -1,11 +1,8 @@
-use Prim.Native.Nat.{◌+◌, ◌-◌, ◌<◌}
-use native.Mathlib.Omega.{arith}
-use mathlib.Core.Path.{◌≡◌, refl}
+use Prim.Native.Nat.{◌-◌}
+use mathlib.Core.Path.{◌≡◌}
 use lib.ListN.{length}
-use borrow.Author.Tests.{not-true, not-false}
 use Rattle.grammar.specs.Data.Book.{Book}
-use Rattle.automaton.specs.KernelRules.{RuledIn, Walked, walked-place, walked_more, walks-all, walks-fails}
-use borrow.Author.Rules.{rules}
+use Rattle.automaton.specs.KernelRules.{RuledIn, Walked}
 use Rattle.automaton.proofs.kernel_rules.lines_right.Given as goal
 
 abbrev pub invariant-loop-i : goal.invariant-loop-i

@@ -1,8 +1,4 @@
-use Prim.Native.Nat.{◌+◌, ◌*◌, ◌<◌}
-use native.Mathlib.Omega.{arith}
-use lib.ListN.{length}
-use Rattle.automaton.specs.KernelWords.{word-front, word-before, before-place}
-use borrow.Author.Rules.{rules}
+use Rattle.automaton.specs.KernelWords.{word-front, word-before}
 use Rattle.automaton.proofs.kernel_rules.symbol_before.Goals as goal
 
 pub returns-then-dot-eq0 : goal.returns-then-dot-eq0

@@ -1,4 +1,3 @@
-use borrow.Author.Rules.{rules}
 use Rattle.automaton.specs.Lefts.{bits-behind}
 use Rattle.automaton.proofs.lefts.behind.Goals as goal
 

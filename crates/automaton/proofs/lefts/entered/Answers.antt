@@ -1,8 +1,4 @@
-use Prim.Native.Nat.{◌-◌}
-use mathlib.Core.Path.{◌≡◌}
-use native.Mathlib.Omega.{arith}
-use borrow.Author.Rules.{rules}
-use Rattle.automaton.specs.Lefts.{Gathered, gathered_none, gathered-more}
+use Rattle.automaton.specs.Lefts.{gathered_none, gathered-more}
 use Rattle.automaton.proofs.lefts.entered.Goals as goal
 
 pub loop-i-init : goal.loop-i-init

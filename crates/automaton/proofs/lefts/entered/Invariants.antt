@@ -1,8 +1,5 @@
 use Prim.Native.Nat.{◌-◌}
-use mathlib.Core.Path.{◌≡◌}
-use native.Mathlib.Omega.{arith}
-use borrow.Author.Rules.{rules}
-use Rattle.automaton.specs.Lefts.{Gathered, gathered_none, gathered-more}
+use Rattle.automaton.specs.Lefts.{Gathered}
 use Rattle.automaton.proofs.lefts.entered.Given as goal
 
 abbrev pub invariant-loop-i : goal.invariant-loop-i

@@ -1,9 +1,6 @@
-use Prim.Native.Nat.{◌-◌, ◌≤◌}
-use mathlib.Core.Path.{◌≡◌, refl}
 use native.Mathlib.Omega.{arith}
-use lib.ListN.{length, length-set}
-use borrow.Author.Rules.{rules}
-use Rattle.automaton.specs.Fronts.{Fronts, fronts-none, fronts-more}
+use lib.ListN.{length-set}
+use Rattle.automaton.specs.Fronts.{fronts-more}
 use Rattle.automaton.proofs.lefts.fill_fronts.Goals as goal
 
 pub loop-state-preserved : goal.loop-state-preserved

@@ -1,9 +1,7 @@
 use Prim.Native.Nat.{◌-◌, ◌≤◌}
-use mathlib.Core.Path.{◌≡◌, refl}
-use native.Mathlib.Omega.{arith}
-use lib.ListN.{length, length-set}
-use borrow.Author.Rules.{rules}
-use Rattle.automaton.specs.Fronts.{Fronts, fronts-none, fronts-more}
+use mathlib.Core.Path.{◌≡◌}
+use lib.ListN.{length}
+use Rattle.automaton.specs.Fronts.{Fronts}
 use Rattle.automaton.proofs.lefts.fill_fronts.Given as goal
 
 abbrev pub invariant-loop-state : goal.invariant-loop-state

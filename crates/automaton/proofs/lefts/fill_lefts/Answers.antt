@@ -1,11 +1,7 @@
-use Prim.Native.Nat.{ℕ, ◌-◌, ◌≤◌, ◌<◌}
-use mathlib.Core.Path.{◌≡◌, ap}
 use native.Mathlib.Omega.{arith}
 use lib.Dec.{lit<}
-use lib.ListN.{length, length-replicate}
 use lib.Pow.{shl_exact}
-use borrow.Author.Rules.{rules}
-use Rattle.automaton.specs.Lefts.{Filled, filled_none, filled_more}
+use Rattle.automaton.specs.Lefts.{filled_none, filled_more}
 use Rattle.automaton.proofs.lefts.fill_lefts.Goals as goal
 
 pub loop-rule-init : goal.loop-rule-init

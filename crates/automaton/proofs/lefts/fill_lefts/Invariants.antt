@@ -1,11 +1,5 @@
-use Prim.Native.Nat.{ℕ, ◌-◌, ◌≤◌, ◌<◌}
-use mathlib.Core.Path.{◌≡◌, ap}
-use native.Mathlib.Omega.{arith}
-use lib.Dec.{lit<}
-use lib.ListN.{length, length-replicate}
-use lib.Pow.{shl_exact}
-use borrow.Author.Rules.{rules}
-use Rattle.automaton.specs.Lefts.{Filled, filled_none, filled_more}
+use Prim.Native.Nat.{◌-◌, ◌≤◌}
+use Rattle.automaton.specs.Lefts.{Filled}
 use Rattle.automaton.proofs.lefts.fill_lefts.Given as goal
 
 abbrev pub invariant-loop-rule : goal.invariant-loop-rule

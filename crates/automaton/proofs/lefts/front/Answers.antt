@@ -1,4 +1,3 @@
-use borrow.Author.Rules.{rules}
 use Rattle.automaton.specs.Lefts.{gathered-nothing}
 use Rattle.automaton.proofs.lefts.front.Goals as goal
 

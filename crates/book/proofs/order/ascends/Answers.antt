@@ -1,6 +1,5 @@
 use Rattle.book.specs.Order.{first-stands, later-stands}
 use mathlib.Core.Path.{◌∙◌}
-use borrow.Author.Rules.{rules}
 use Rattle.book.proofs.order.ascends.Goals as goal
 
 pub returns-then-k-eq0 : goal.returns-then-k-eq0

@@ -1,5 +1,4 @@
 use Rattle.book.specs.Lines.{owner_of}
-use borrow.Author.Rules.{rules}
 use Rattle.book.proofs.owners.any_owner.Goals as goal
 
 pub returns : goal.returns

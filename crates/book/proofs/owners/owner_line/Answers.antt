@@ -1,7 +1,6 @@
 use mathlib.Core.Path.{refl}
 use Rattle.book.specs.Layout.{owner_words}
 use Rattle.book.specs.Sections.{puts_of}
-use borrow.Author.Rules.{rules}
 use Rattle.book.proofs.owners.owner_line.Goals as goal
 
 pub returns : goal.returns

@@ -1,12 +1,7 @@
-use Prim.Native.Nat.{suc}
 use native.Mathlib.Numerals.{add-one}
-use Rattle.text.specs.Rest.{rest, size}
-use Rattle.grammar.specs.Format.Reader.{opening}
-use Rattle.grammar.specs.Format.Parse.{owner_line, owner_lines}
-use Rattle.book.specs.Layout.{owner_words}
-use Rattle.book.specs.Sections.{Filling, filling-start, filling-turn, filling-less, filling-done}
+use Rattle.grammar.specs.Format.Parse.{owner_lines}
+use Rattle.book.specs.Sections.{filling-start, filling-turn, filling-less, filling-done}
 use Rattle.book.specs.Lines.{owner-shrinks}
-use borrow.Author.Rules.{rules}
 use Rattle.book.proofs.owners.owner_lines.Goals as goal
 
 pub loop-at-init : goal.loop-at-init

@@ -1,12 +1,9 @@
 use Prim.Native.Nat.{suc}
-use native.Mathlib.Numerals.{add-one}
 use Rattle.text.specs.Rest.{rest, size}
 use Rattle.grammar.specs.Format.Reader.{opening}
 use Rattle.grammar.specs.Format.Parse.{owner_line, owner_lines}
 use Rattle.book.specs.Layout.{owner_words}
-use Rattle.book.specs.Sections.{Filling, filling-start, filling-turn, filling-less, filling-done}
-use Rattle.book.specs.Lines.{owner-shrinks}
-use borrow.Author.Rules.{rules}
+use Rattle.book.specs.Sections.{Filling}
 use Rattle.book.proofs.owners.owner_lines.Given as goal
 
 abbrev pub invariant-loop-at : goal.invariant-loop-at

@@ -3,7 +3,6 @@ use Rattle.text.proofs.ClassLaws.{letter-range}
 use Rattle.book.specs.Lines.{owner_of}
 use Rattle.book.specs.Numbered.{brief-numbered}
 use Rattle.book.specs.Short.{keyword-at, end-at}
-use borrow.Author.Rules.{rules}
 use Rattle.book.proofs.owners.short_owner.Goals as goal
 
 pub overflow_add-letter : goal.overflow_add-letter

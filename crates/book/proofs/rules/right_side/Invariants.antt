@@ -1,11 +1,9 @@
-use mathlib.Core.Path.{refl}
 use Rattle.text.specs.Class.{space}
 use Rattle.text.specs.Rest.{rest, size, mark}
 use Rattle.grammar.specs.Limits.{MAX_RIGHT}
 use Rattle.grammar.specs.Format.Parse.{symbol, symbols}
-use Rattle.book.specs.Sections.{puts_of, Filling, filling-start, filling-turn, filling-less, filling-done}
-use Rattle.book.specs.Lines.{symbol_words, symbols-shrink}
-use borrow.Author.Rules.{rules}
+use Rattle.book.specs.Sections.{Filling}
+use Rattle.book.specs.Lines.{symbol_words}
 use Rattle.book.proofs.rules.right_side.Given as goal
 
 abbrev pub invariant-loop-at : goal.invariant-loop-at

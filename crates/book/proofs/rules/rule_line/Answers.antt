@@ -1,5 +1,4 @@
 use Rattle.book.specs.Lines.{rule-steps}
-use borrow.Author.Rules.{rules}
 use Rattle.book.proofs.rules.rule_line.Goals as goal
 
 pub returns : goal.returns

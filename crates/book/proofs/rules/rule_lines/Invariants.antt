@@ -1,14 +1,10 @@
 use Prim.Native.Nat.{suc}
-use native.Mathlib.Numerals.{add-one}
 use Rattle.text.specs.Rest.{rest, size}
-use Rattle.text.specs.Numeral.{word_of, spelled}
+use Rattle.text.specs.Numeral.{word_of}
 use Rattle.grammar.specs.Format.Reader.{opening}
 use Rattle.grammar.specs.Format.Parse.{rule_line, rule_lines}
-use Rattle.lines.specs.Heads.{rule-head}
 use Rattle.book.specs.Layout.{rule_words}
-use Rattle.book.specs.Sections.{Filling, filling-start, filling-turn, filling-less, filling-done}
-use Rattle.book.specs.Lines.{rule-shrinks}
-use borrow.Author.Rules.{rules}
+use Rattle.book.specs.Sections.{Filling}
 use Rattle.book.proofs.rules.rule_lines.Given as goal
 
 abbrev pub invariant-loop-head : goal.invariant-loop-head

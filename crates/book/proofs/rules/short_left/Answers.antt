@@ -1,6 +1,5 @@
 use native.Mathlib.Omega.{arith}
 use Rattle.book.specs.Numbered.{brief-numbered}
-use borrow.Author.Rules.{rules}
 use Rattle.book.proofs.rules.short_left.Goals as goal
 
 pub returns-then-text-a : goal.returns-then-text-a

@@ -4,8 +4,7 @@ use native.Mathlib.Omega.{arith}
 use lib.ListN.{get_or}
 use Rattle.text.specs.Class.{class_of, digit}
 use Rattle.text.proofs.ClassLaws.{digit-range}
-use Rattle.book.specs.Short.{brief-none, one_digit, two_digits, three-digits}
-use borrow.Author.Rules.{rules}
+use Rattle.book.specs.Short.{one_digit, two_digits, three-digits}
 use Rattle.book.proofs.short.short.Goals as goal
 use Rattle.book.proofs.short.short.Goals.{Else-class-ne-DIGIT, Else-class-ne-DIGIT-2, Else-class-ne-DIGIT-3}
 

@@ -1,5 +1,4 @@
 use Rattle.grammar.specs.Format.Reader.{naming}
-use borrow.Author.Rules.{rules}
 use Rattle.book.proofs.spelling.naming.Goals as goal
 
 pub returns : goal.returns

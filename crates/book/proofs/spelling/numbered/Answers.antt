@@ -1,7 +1,6 @@
 use Rattle.text.specs.Numeral.{spelled}
 use Rattle.grammar.specs.Format.Reader.{result, remaining}
 use Rattle.book.specs.Numbered.{numbered}
-use borrow.Author.Rules.{rules}
 use Rattle.book.proofs.spelling.numbered.Goals as goal
 
 pub returns : goal.returns

@@ -1,8 +1,5 @@
 use mathlib.Core.Path.{sym, ◌∙◌}
-use native.Mathlib.Omega.{arith}
-use lib.ListN.{length}
-use Rattle.book.specs.LayoutLaws.{put_in, put-out, room_for}
-use borrow.Author.Rules.{rules}
+use Rattle.book.specs.LayoutLaws.{put_in, put-out}
 use Rattle.book.proofs.store.put_line.Goals as goal
 
 pub returns-then-i-room : goal.returns-then-i-room

@@ -1,7 +1,4 @@
-use Prim.Native.Nat.{◌-◌}
-use lib.ListN.{length}
-use Rattle.book.specs.LayoutLaws.{Writing, writing_start, writing-turn, writing-done}
-use borrow.Author.Rules.{rules}
+use Rattle.book.specs.LayoutLaws.{writing-turn, writing-done}
 use Rattle.book.proofs.store.write_at.Goals as goal
 
 pub loop-i-preserved : goal.loop-i-preserved

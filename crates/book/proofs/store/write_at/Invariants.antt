@@ -1,7 +1,6 @@
 use Prim.Native.Nat.{◌-◌}
 use lib.ListN.{length}
-use Rattle.book.specs.LayoutLaws.{Writing, writing_start, writing-turn, writing-done}
-use borrow.Author.Rules.{rules}
+use Rattle.book.specs.LayoutLaws.{Writing}
 use Rattle.book.proofs.store.write_at.Given as goal
 
 abbrev pub invariant-loop-i : goal.invariant-loop-i

@@ -1,7 +1,6 @@
 use Rattle.text.specs.Numeral.{spelled}
 use Rattle.grammar.specs.Format.Reader.{result, remaining}
 use Rattle.grammar.specs.Format.Parse.{symbol}
-use borrow.Author.Rules.{rules}
 use Rattle.book.proofs.symbol.any_symbol.Goals as goal
 
 pub returns : goal.returns

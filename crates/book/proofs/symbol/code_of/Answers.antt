@@ -1,5 +1,4 @@
 use Rattle.book.specs.Lines.{code-none, code-terminal, code-nonterminal}
-use borrow.Author.Rules.{rules}
 use Rattle.book.proofs.symbol.code_of.Goals as goal
 
 pub returns-then-number-ge32 : goal.returns-then-number-ge32

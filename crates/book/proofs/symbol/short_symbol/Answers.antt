@@ -1,6 +1,5 @@
 use native.Mathlib.Omega.{arith}
-use Rattle.book.specs.Short.{symbol-none, terminal-by, nonterminal-by}
-use borrow.Author.Rules.{rules}
+use Rattle.book.specs.Short.{terminal-by, nonterminal-by}
 use Rattle.book.proofs.symbol.short_symbol.Goals as goal
 
 pub returns-then-letter-eq116 : goal.returns-then-letter-eq116

@@ -1,6 +1,6 @@
-use Rattle.std.proofs.Common.{◌≡◌, ◌+◌, ◌-◌, ◌≤◌, length, set, sym, refl, ap, ◌∙◌, arith, rules}
+use Rattle.std.proofs.Common.{◌+◌, set, sym, refl, ap, ◌∙◌, arith}
 use Rattle.cells.specs.Cells.{cleared}
-use Rattle.cells.specs.CellsLaws.{cleared_more, cleared-long}
+use Rattle.cells.specs.CellsLaws.{cleared_more}
 use Rattle.cells.proofs.cells.clear.Goals as goal
 
 pub loop-i-init : goal.loop-i-init

@@ -1,6 +1,5 @@
-use Rattle.std.proofs.Common.{◌≡◌, ◌+◌, ◌-◌, ◌≤◌, length, set, sym, refl, ap, ◌∙◌, arith, rules}
+use Rattle.std.proofs.Common.{◌≡◌, ◌-◌, ◌≤◌}
 use Rattle.cells.specs.Cells.{cleared}
-use Rattle.cells.specs.CellsLaws.{cleared_more, cleared-long}
 use Rattle.cells.proofs.cells.clear.Given as goal
 
 abbrev pub invariant-loop-i : goal.invariant-loop-i

@@ -1,7 +1,7 @@
-use Rattle.std.proofs.Common.{◌≡◌, ℕ, ◌+◌, ◌-◌, List, length, get_or, refl, ap, ◌∙◌, arith, rules}
+use Rattle.std.proofs.Common.{◌≡◌, ℕ, ◌+◌, List, get_or, ap, ◌∙◌, arith}
 use Rattle.grammar.specs.Data.Book.{Book}
 use Rattle.cells.specs.Cells.{LineAsked, PlanAsked, line_set}
-use Rattle.cells.specs.CellsLaws.{SettingLines, setting-start, setting-end, setting-turn}
+use Rattle.cells.specs.CellsLaws.{setting-end, setting-turn}
 use Rattle.cells.proofs.cells.set_lines.Goals as goal
 
 pub loop-i-preserved : goal.loop-i-preserved

@@ -1,7 +1,7 @@
-use Rattle.std.proofs.Common.{◌≡◌, ℕ, ◌+◌, ◌-◌, List, length, get_or, refl, ap, ◌∙◌, arith, rules}
+use Rattle.std.proofs.Common.{◌≡◌, ℕ, ◌-◌, List, length}
 use Rattle.grammar.specs.Data.Book.{Book}
-use Rattle.cells.specs.Cells.{LineAsked, PlanAsked, line_set}
-use Rattle.cells.specs.CellsLaws.{SettingLines, setting-start, setting-end, setting-turn}
+use Rattle.cells.specs.Cells.{PlanAsked}
+use Rattle.cells.specs.CellsLaws.{SettingLines}
 use Rattle.cells.proofs.cells.set_lines.Given as goal
 
 abbrev pub invariant-loop-i : goal.invariant-loop-i

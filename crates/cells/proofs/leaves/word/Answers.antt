@@ -1,5 +1,5 @@
-use Rattle.std.proofs.Common.{ℕ, List, length, get_or, ap, ◌∙◌, arith, rules}
-use Rattle.cells.specs.LeavesLaws.{part-long, part_at, width_small}
+use Rattle.std.proofs.Common.{ℕ, List, length, get_or, ap, ◌∙◌, arith}
+use Rattle.cells.specs.LeavesLaws.{part-long, part_at}
 use Rattle.cells.proofs.leaves.word.Goals as goal
 
 pub bounds-r-k : goal.bounds-r-k

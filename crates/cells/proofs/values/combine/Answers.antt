@@ -1,4 +1,4 @@
-use Rattle.std.proofs.Common.{arith, rules}
+use Rattle.std.proofs.Common.{arith}
 use Rattle.grammar.specs.Data.Term.{apply}
 use Rattle.cells.proofs.values.combine.Goals as goal
 

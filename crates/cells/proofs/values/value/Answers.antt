@@ -1,10 +1,10 @@
-use Rattle.std.proofs.Common.{[], ◌≡◌, ◌+◌, ◌-◌, ◌*◌, ◌<◌, sym, ◌∙◌, arith, rules}
+use Rattle.std.proofs.Common.{[], ◌≡◌, ◌+◌, ◌*◌, ◌<◌, ◌∙◌, arith}
 use Rattle.grammar.specs.Data.Term as term
 use Rattle.grammar.specs.Data.Book.{Expr}
 use Rattle.book.specs.Held.{node_at}
 use Rattle.formulas.specs.Steps.{step_of}
-use Rattle.cells.specs.Values.{place_in, Asked}
-use Rattle.cells.specs.ValuesLaws.{Running, only-ready, only-value, running-start, running-end, running-ready, running-takes, running-turn}
+use Rattle.cells.specs.Values.{Asked}
+use Rattle.cells.specs.ValuesLaws.{only-ready, only-value, running-start, running-end, running-ready, running-takes, running-turn}
 use Rattle.cells.proofs.values.value.Goals as goal
 use Rattle.cells.proofs.values.value.Goals.{In-loop-i, After-step_at}
 

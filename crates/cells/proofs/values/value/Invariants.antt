@@ -1,10 +1,7 @@
-use Rattle.std.proofs.Common.{◌≡◌, ◌+◌, ◌-◌, ◌*◌, ◌<◌, sym, ◌∙◌, arith, rules}
-use Rattle.grammar.specs.Data.Term as term
+use Rattle.std.proofs.Common.{◌-◌}
 use Rattle.grammar.specs.Data.Book.{Expr}
-use Rattle.book.specs.Held.{node_at}
-use Rattle.formulas.specs.Steps.{step_of}
 use Rattle.cells.specs.Values.{place_in, Asked}
-use Rattle.cells.specs.ValuesLaws.{Running, only-ready, only-value, running-start, running-end, running-ready, running-takes, running-turn}
+use Rattle.cells.specs.ValuesLaws.{Running}
 use Rattle.cells.proofs.values.value.Given as goal
 
 abbrev pub invariant-loop-i : goal.invariant-loop-i

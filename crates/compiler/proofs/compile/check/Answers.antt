@@ -1,6 +1,5 @@
 use Rattle.compiler.specs.Compiling.{asked-fronts, attributes-counted, rules_few, checked_refused, checked-formulas, checked-all}
 use native.Mathlib.Omega.{arith}
-use borrow.Author.Rules.{rules}
 use Rattle.compiler.proofs.compile.check.Goals as goal
 
 pub returns-then-first-ne0 : goal.returns-then-first-ne0

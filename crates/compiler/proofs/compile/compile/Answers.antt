@@ -1,9 +1,6 @@
-use mathlib.Core.Path.{◌∙◌}
-use borrow.Author.Tests.{not-true, not-false}
 use Rattle.grammar.specs.Automaton.TestLaws.{both_true}
 use Rattle.compiler.specs.States.{tables-room, actions-kept}
 use Rattle.compiler.specs.Compiling.{compiles-unread, compiles-checked, read_some}
-use borrow.Author.Rules.{rules}
 use Rattle.compiler.proofs.compile.compile.Goals as goal
 
 pub returns-then-not-read-whole : goal.returns-then-not-read-whole

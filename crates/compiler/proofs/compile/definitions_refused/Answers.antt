@@ -1,5 +1,4 @@
 use mathlib.Core.Path.{sym, ◌∙◌}
-use borrow.Author.Rules.{rules}
 use Rattle.compiler.specs.Conditions.{refused-declared, refused-undeclared}
 use Rattle.compiler.proofs.compile.definitions_refused.Goals as goal
 

@@ -1,6 +1,5 @@
 use mathlib.Core.Path.{refl}
 use native.Mathlib.Omega.{arith}
-use borrow.Author.Rules.{rules}
 use Rattle.attributes.specs.FormulasHeld.{limits}
 use Rattle.compiler.proofs.compile.formulas_right.Goals as goal
 

@@ -1,5 +1,4 @@
 use Rattle.compiler.specs.Prepared.{asked-tables, prepared-refused, prepared-tables}
-use borrow.Author.Rules.{rules}
 use Rattle.compiler.proofs.compile.prepare.Goals as goal
 
 pub returns-then-first-ne0 : goal.returns-then-first-ne0

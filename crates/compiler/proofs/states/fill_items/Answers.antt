@@ -1,4 +1,3 @@
-use borrow.Author.Rules.{rules}
 use Rattle.grammar.specs.Automaton.FirstSets.{sets_of}
 use Rattle.compiler.specs.States.{held-grammar, held_items}
 use Rattle.compiler.proofs.states.fill_items.Goals as goal

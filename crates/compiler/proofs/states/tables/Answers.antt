@@ -5,10 +5,8 @@ use mathlib.Core.List.{List}
 use native.Mathlib.Omega.{arith}
 use Rattle.grammar.specs.Limits.{MAX_RULES, MAX_STATES}
 use Rattle.grammar.specs.Data.Book.{Book}
-use borrow.Author.Rules.{rules}
-use borrow.Author.Tests.{not-true, not-false}
 use Rattle.grammar.specs.Automaton.FirstSets.{sets_of}
-use Rattle.compiler.specs.States.{BookHeld, held-rules, held-closures, ask-fronts, held-fronts}
+use Rattle.compiler.specs.States.{BookHeld, held-rules, held-closures, held-fronts}
 use Rattle.compiler.specs.States.{tabled-kernels, tabled-goes, tabled-acts, tabled-all}
 use Rattle.compiler.proofs.states.tables.Goals as goal
 

@@ -1,8 +1,6 @@
-use Prim.Native.Nat.{◌-◌}
-use mathlib.Core.Logic.{⊎_elim}
 use native.Mathlib.Omega.{arith}
 use borrow.Author.Rules.{rules}
-use Rattle.items.specs.KernelLines.{Beginning, begin-first, begin-more, begin-same, begin-ends}
+use Rattle.items.specs.KernelLines.{begin-more, begin-same, begin-ends}
 use Rattle.items.proofs.closure.begin.Goals as goal
 use Rattle.items.proofs.closure.begin.Goals.{else-line, then-line}
 

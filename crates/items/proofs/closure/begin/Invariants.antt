@@ -1,8 +1,5 @@
 use Prim.Native.Nat.{◌-◌}
-use mathlib.Core.Logic.{⊎_elim}
-use native.Mathlib.Omega.{arith}
-use borrow.Author.Rules.{rules}
-use Rattle.items.specs.KernelLines.{Beginning, begin-first, begin-more, begin-same, begin-ends}
+use Rattle.items.specs.KernelLines.{Beginning}
 use Rattle.items.proofs.closure.begin.Given as goal
 
 abbrev pub invariant-loop-i : goal.invariant-loop-i

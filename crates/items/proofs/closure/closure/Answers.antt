@@ -1,6 +1,4 @@
-use native.Mathlib.Omega.{arith}
-use Rattle.items.specs.Closures.{none-long, closure-done, closure-none}
-use borrow.Author.Rules.{rules}
+use Rattle.items.specs.Closures.{closure-done, closure-none}
 use Rattle.items.proofs.closure.closure.Goals as goal
 
 pub returns-then-begin : goal.returns-then-begin

@@ -1,9 +1,8 @@
 use Prim.Native.Nat.{◌+◌, ◌*◌, ◌<◌}
 use native.Mathlib.Omega.{arith}
-use lib.ListN.{length, get_or}
+use lib.ListN.{get_or}
 use Rattle.grammar.specs.Automaton.LeastLaws.{Family}
-use Rattle.items.specs.Derives.{told_none, told-end, told-terminal, told-given, symbol-place, rest-place, rest-within, word_low}
-use borrow.Author.Rules.{rules}
+use Rattle.items.specs.Derives.{told_none, told-end, told-terminal, told-given, rest-within, word_low}
 use Rattle.items.proofs.closure.derive.Goals as goal
 
 pub returns-then-own-eq0 : goal.returns-then-own-eq0

@@ -1,6 +1,5 @@
 use mathlib.Core.Path.{sym, ◌∙◌}
 use Rattle.items.specs.Derives.{first-null, first-full}
-use borrow.Author.Rules.{rules}
 use Rattle.items.proofs.closure.first_with.Goals as goal
 
 pub returns-then-nullables-place-eq0 : goal.returns-then-nullables-place-eq0

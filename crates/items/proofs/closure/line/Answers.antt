@@ -1,7 +1,6 @@
 use mathlib.Core.Path.{refl}
 use native.Mathlib.Omega.{arith}
 use Rattle.items.specs.KernelLines.{line-rule, line-told}
-use borrow.Author.Rules.{rules}
 use Rattle.items.proofs.closure.line.Goals as goal
 
 pub returns : goal.returns

@@ -1,11 +1,9 @@
-use Prim.Native.Nat.{◌+◌, ◌-◌, ◌<◌}
-use mathlib.Core.Logic.{⊎_elim}
+use Prim.Native.Nat.{◌<◌}
 use native.Mathlib.Omega.{arith}
 use lib.ListN.{length}
-use borrow.Author.Rules.{rules}
 use Rattle.grammar.specs.Automaton.LeastLaws.{Family}
-use Rattle.items.specs.Passes.{pass-begins, pass-ends, turn_more, turn-same}
-use Rattle.items.specs.ClosurePasses.{Sweeping, closure-fits}
+use Rattle.items.specs.Passes.{pass-begins, turn_more, turn-same}
+use Rattle.items.specs.ClosurePasses.{closure-fits}
 use Rattle.items.specs.Leads.{lead-on}
 use Rattle.items.proofs.closure.pass.Goals as goal
 use Rattle.items.proofs.closure.pass.Goals.{else-visit, then-visit}

@@ -1,7 +1,6 @@
-use native.Mathlib.Omega.{arith}
 use Rattle.grammar.specs.Automaton.LeastLaws.{Family}
-use Rattle.items.specs.Passes.{left, closing-begins, closing-turn, closing-ends, closing-less}
-use Rattle.items.specs.ClosurePasses.{Settling, closure-fits}
+use Rattle.items.specs.Passes.{closing-turn, closing-ends, closing-less}
+use Rattle.items.specs.ClosurePasses.{closure-fits}
 use Rattle.items.proofs.closure.passes.Goals as goal
 
 pub loop-smaller : goal.loop-smaller

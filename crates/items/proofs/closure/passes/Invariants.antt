@@ -1,7 +1,5 @@
-use native.Mathlib.Omega.{arith}
-use Rattle.grammar.specs.Automaton.LeastLaws.{Family}
-use Rattle.items.specs.Passes.{left, closing-begins, closing-turn, closing-ends, closing-less}
-use Rattle.items.specs.ClosurePasses.{Settling, closure-fits}
+use Rattle.items.specs.Passes.{left}
+use Rattle.items.specs.ClosurePasses.{Settling}
 use Rattle.items.proofs.closure.passes.Given as goal
 
 abbrev pub invariant-loop : goal.invariant-loop

@@ -1,6 +1,4 @@
-use native.Mathlib.Omega.{arith}
-use Rattle.items.specs.ClosurePasses.{left_low, rule_told}
-use borrow.Author.Rules.{rules}
+use Rattle.items.specs.ClosurePasses.{rule_told}
 use Rattle.items.proofs.closure.visit.Goals as goal
 
 pub returns : goal.returns

@@ -1,9 +1,6 @@
-use Prim.Native.Nat.{◌-◌}
-use mathlib.Core.Path.{◌≡◌, refl}
-use lib.ListN.{length}
 use borrow.Author.Rules.{rules}
 use Rattle.items.specs.KernelLines.{state-words}
-use Rattle.items.specs.Closures.{Closed, closed_none, part_none, closed-more, closed_all}
+use Rattle.items.specs.Closures.{part_none, closed-more}
 use Rattle.items.proofs.closures.state_closures.Goals as goal
 
 pub closure-requires : goal.closure-requires

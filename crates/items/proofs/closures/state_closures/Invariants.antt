@@ -1,9 +1,7 @@
 use Prim.Native.Nat.{◌-◌}
-use mathlib.Core.Path.{◌≡◌, refl}
+use mathlib.Core.Path.{◌≡◌}
 use lib.ListN.{length}
-use borrow.Author.Rules.{rules}
-use Rattle.items.specs.KernelLines.{state-words}
-use Rattle.items.specs.Closures.{Closed, closed_none, part_none, closed-more, closed_all}
+use Rattle.items.specs.Closures.{Closed}
 use Rattle.items.proofs.closures.state_closures.Given as goal
 
 abbrev pub invariant-loop-s : goal.invariant-loop-s

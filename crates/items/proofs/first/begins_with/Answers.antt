@@ -1,5 +1,4 @@
 use mathlib.Core.Path.{sym, ap, ◌∙◌}
-use borrow.Author.Rules.{rules}
 use Rattle.items.specs.GrammarOf.{terminal-of, nonterminal-of}
 use Rattle.items.specs.Rests.{begins_with}
 use Rattle.items.proofs.first.begins_with.Goals as goal

@@ -1,13 +1,6 @@
-use Prim.Native.Nat.{◌-◌}
-use mathlib.Core.Path.{◌∙◌}
-use native.Mathlib.Omega.{arith}
-use borrow.Author.Rules.{rules}
 use Rattle.grammar.specs.Automaton.FirstSets.{first_rule}
-use Rattle.grammar.specs.Automaton.LeastLaws.{Fits}
-use Rattle.items.specs.FirstLoops.{first-told}
 use Rattle.items.specs.GrammarOf.{grammar_of}
-use Rattle.items.specs.Searches.{first_fits}
-use Rattle.items.specs.Turned.{Descending, descent-begins, descent-more, descent-same, descent-ends}
+use Rattle.items.specs.Turned.{Descending}
 use Rattle.items.proofs.first.first_pass.Given as goal
 
 abbrev pub invariant-loop-p : goal.invariant-loop-p

@@ -1,8 +1,4 @@
-use Prim.Native.Nat.{◌-◌}
-use native.Mathlib.Omega.{arith}
-use borrow.Author.Tests.{not-true, not-false}
-use borrow.Author.Rules.{rules}
-use Rattle.items.specs.FirstLoops.{Beginning, beginning, beginning-turn, beginning-stops, beginning-ends}
+use Rattle.items.specs.FirstLoops.{beginning, beginning-turn, beginning-stops, beginning-ends}
 use Rattle.items.proofs.first.first_right.Goals as goal
 
 pub loop-d-init : goal.loop-d-init

@@ -1,8 +1,5 @@
 use Prim.Native.Nat.{◌-◌}
-use native.Mathlib.Omega.{arith}
-use borrow.Author.Tests.{not-true, not-false}
-use borrow.Author.Rules.{rules}
-use Rattle.items.specs.FirstLoops.{Beginning, beginning, beginning-turn, beginning-stops, beginning-ends}
+use Rattle.items.specs.FirstLoops.{Beginning}
 use Rattle.items.proofs.first.first_right.Given as goal
 
 abbrev pub invariant-loop-d : goal.invariant-loop-d

@@ -4,9 +4,9 @@ use Rattle.grammar.specs.Automaton.FirstSets.{first_rule}
 use Rattle.grammar.specs.Automaton.LeastLaws.{Fits}
 use Rattle.items.specs.FirstLoops.{first-all}
 use Rattle.items.specs.GrammarOf.{grammar_of}
-use Rattle.items.specs.Passes.{Closing, left, closing-begins, closing-turn, closing-less, closing-ends}
+use Rattle.items.specs.Passes.{closing-turn, closing-less, closing-ends}
 use Rattle.items.specs.Searches.{first_fits, first-rising}
-use Rattle.items.specs.Turned.{turned, turned-fits, turned-least}
+use Rattle.items.specs.Turned.{turned-fits, turned-least}
 use Rattle.items.proofs.first.first_sets.Goals as goal
 
 pub loop-smaller : goal.loop-smaller

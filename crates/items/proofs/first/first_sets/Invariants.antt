@@ -1,12 +1,7 @@
-use mathlib.Core.Path.{◌∙◌, ap}
-use lib.ListN.{length}
 use Rattle.grammar.specs.Automaton.FirstSets.{first_rule}
-use Rattle.grammar.specs.Automaton.LeastLaws.{Fits}
-use Rattle.items.specs.FirstLoops.{first-all}
 use Rattle.items.specs.GrammarOf.{grammar_of}
-use Rattle.items.specs.Passes.{Closing, left, closing-begins, closing-turn, closing-less, closing-ends}
-use Rattle.items.specs.Searches.{first_fits, first-rising}
-use Rattle.items.specs.Turned.{turned, turned-fits, turned-least}
+use Rattle.items.specs.Passes.{Closing, left}
+use Rattle.items.specs.Turned.{turned}
 use Rattle.items.proofs.first.first_sets.Given as goal
 
 abbrev pub invariant-loop : goal.invariant-loop

@@ -1,11 +1,7 @@
-use Prim.Native.Nat.{◌+◌, ◌-◌, ◌≤◌, ◌<◌}
-use mathlib.Core.Path.{◌≡◌, sym, ◌∙◌}
-use mathlib.Core.Logic.{⊎_elim}
-use native.Mathlib.Omega.{arith}
+use Prim.Native.Nat.{◌≤◌}
+use mathlib.Core.Path.{◌≡◌}
 use lib.ListN.{get_or}
-use lib.Seq.{get_or-set_same}
-use borrow.Author.Rules.{rules}
-use Rattle.items.specs.Leads.{Leading, leading-none, leading-here, leading-on}
+use Rattle.items.specs.Leads.{Leading}
 use Rattle.items.proofs.leads.fill_leads.Given as goal
 
 abbrev pub invariant-loop-rule : goal.invariant-loop-rule

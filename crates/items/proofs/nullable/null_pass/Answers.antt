@@ -1,9 +1,6 @@
-use Prim.Native.Nat.{◌-◌}
 use mathlib.Core.Path.{ap, ◌∙◌}
-use native.Mathlib.Omega.{arith}
-use borrow.Author.Rules.{rules}
 use Rattle.sets.specs.Sets.{with}
-use Rattle.items.specs.NullableLoops.{NullPassing, null-passing, null-found, null-left, null-visited}
+use Rattle.items.specs.NullableLoops.{null-passing, null-found, null-left}
 use Rattle.items.proofs.nullable.null_pass.Goals as goal
 
 pub loop-p-init : goal.loop-p-init

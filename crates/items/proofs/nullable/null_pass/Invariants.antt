@@ -1,9 +1,4 @@
-use Prim.Native.Nat.{◌-◌}
-use mathlib.Core.Path.{ap, ◌∙◌}
-use native.Mathlib.Omega.{arith}
-use borrow.Author.Rules.{rules}
-use Rattle.sets.specs.Sets.{with}
-use Rattle.items.specs.NullableLoops.{NullPassing, null-passing, null-found, null-left, null-visited}
+use Rattle.items.specs.NullableLoops.{NullPassing}
 use Rattle.items.proofs.nullable.null_pass.Given as goal
 
 abbrev pub invariant-loop-p : goal.invariant-loop-p

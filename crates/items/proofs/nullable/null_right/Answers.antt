@@ -1,9 +1,4 @@
-use Prim.Native.Nat.{◌-◌}
-use mathlib.Core.Path.{refl}
-use native.Mathlib.Omega.{arith}
-use borrow.Author.Tests.{not-true, not-false}
-use borrow.Author.Rules.{rules}
-use Rattle.items.specs.NullableLoops.{Vanishing, vanishing-turn, vanishing-stops, vanishing-ends}
+use Rattle.items.specs.NullableLoops.{vanishing-turn, vanishing-stops, vanishing-ends}
 use Rattle.items.proofs.nullable.null_right.Goals as goal
 
 pub returns-then-not-null_symbol : goal.returns-then-not-null_symbol

@@ -1,4 +1,4 @@
-use Rattle.items.specs.NullableLoops.{NullClosing, null_left, null-begins, null-turn, null-less, null-ends}
+use Rattle.items.specs.NullableLoops.{null-turn, null-less, null-ends}
 use Rattle.items.proofs.nullable.nullable.Goals as goal
 
 pub loop-next-smaller : goal.loop-next-smaller

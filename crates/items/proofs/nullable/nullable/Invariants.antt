@@ -1,4 +1,4 @@
-use Rattle.items.specs.NullableLoops.{NullClosing, null_left, null-begins, null-turn, null-less, null-ends}
+use Rattle.items.specs.NullableLoops.{NullClosing, null_left}
 use Rattle.items.proofs.nullable.nullable.Given as goal
 
 abbrev pub invariant-loop-next : goal.invariant-loop-next

@@ -1,5 +1,4 @@
 use mathlib.Core.Path.{refl}
-use borrow.Author.Rules.{rules}
 use Rattle.items.specs.Passes.{given-same, given-more}
 use Rattle.items.proofs.passes.give.Goals as goal
 

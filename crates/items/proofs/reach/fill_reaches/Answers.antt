@@ -1,11 +1,6 @@
-use Prim.Native.Nat.{◌-◌}
 use native.Mathlib.Omega.{arith}
-use borrow.Author.Rules.{rules}
-use Rattle.grammar.specs.Automaton.FirstSets.{sets_of}
-use Rattle.grammar.specs.Automaton.ReachSets.{reach_in}
-use Rattle.items.specs.GrammarOf.{grammar_of}
 use Rattle.items.specs.ReachLoops.{nulls-of, rests_in, rests-there, reaches-done}
-use Rattle.items.specs.Filling.{RestsFilled, rests-begin, rests-turn}
+use Rattle.items.specs.Filling.{rests-turn}
 use Rattle.items.proofs.reach.fill_reaches.Goals as goal
 
 pub reach_rests-requires : goal.reach_rests-requires

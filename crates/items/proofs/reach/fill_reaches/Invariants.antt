@@ -1,11 +1,8 @@
 use Prim.Native.Nat.{◌-◌}
-use native.Mathlib.Omega.{arith}
-use borrow.Author.Rules.{rules}
 use Rattle.grammar.specs.Automaton.FirstSets.{sets_of}
 use Rattle.grammar.specs.Automaton.ReachSets.{reach_in}
 use Rattle.items.specs.GrammarOf.{grammar_of}
-use Rattle.items.specs.ReachLoops.{nulls-of, rests_in, rests-there, reaches-done}
-use Rattle.items.specs.Filling.{RestsFilled, rests-begin, rests-turn}
+use Rattle.items.specs.Filling.{RestsFilled}
 use Rattle.items.proofs.reach.fill_reaches.Given as goal
 
 abbrev pub invariant-loop-p : goal.invariant-loop-p

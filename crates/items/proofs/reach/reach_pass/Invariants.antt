@@ -1,15 +1,8 @@
 use Prim.Native.Nat.{◌-◌}
-use mathlib.Core.Path.{◌∙◌}
-use mathlib.Core.Logic.{⊎_elim}
-use native.Mathlib.Omega.{arith}
-use borrow.Author.Rules.{rules}
 use Rattle.grammar.specs.Automaton.FirstSets.{sets_of}
 use Rattle.grammar.specs.Automaton.ReachSets.{reach_rule}
-use Rattle.grammar.specs.Automaton.LeastLaws.{Fits}
 use Rattle.items.specs.GrammarOf.{grammar_of}
-use Rattle.items.specs.Passes.{Passing, pass-begins, turn_more, turn-same, pass-ends}
-use Rattle.items.specs.ReachLoops.{nulls-of, rests_in, rests-there, reach-told}
-use Rattle.items.specs.Searches.{reach-fits}
+use Rattle.items.specs.Passes.{Passing}
 use Rattle.items.proofs.reach.reach_pass.Given as goal
 
 abbrev pub invariant-loop-p : goal.invariant-loop-p

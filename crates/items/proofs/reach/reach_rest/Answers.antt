@@ -1,5 +1,3 @@
-use native.Mathlib.Omega.{arith}
-use borrow.Author.Rules.{rules}
 use Rattle.items.specs.ReachLoops.{reach-none, reach-more}
 use Rattle.items.proofs.reach.reach_rest.Goals as goal
 

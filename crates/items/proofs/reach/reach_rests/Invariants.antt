@@ -1,7 +1,5 @@
 use Prim.Native.Nat.{◌+◌, ◌-◌}
-use native.Mathlib.Omega.{arith}
-use borrow.Author.Rules.{rules}
-use Rattle.items.specs.ReachLoops.{Reaching, reaching-begins, reaching-turn, reaching-ends}
+use Rattle.items.specs.ReachLoops.{Reaching}
 use Rattle.items.proofs.reach.reach_rests.Given as goal
 
 abbrev pub invariant-loop-d : goal.invariant-loop-d

@@ -1,12 +1,7 @@
-use mathlib.Core.Path.{◌∙◌, ap}
-use lib.ListN.{length}
 use Rattle.grammar.specs.Automaton.FirstSets.{sets_of}
 use Rattle.grammar.specs.Automaton.ReachSets.{reach_rule}
-use Rattle.grammar.specs.Automaton.LeastLaws.{Fits}
 use Rattle.items.specs.GrammarOf.{grammar_of}
-use Rattle.items.specs.Passes.{Closing, left, closing-begins, closing-turn, closing-less, closing-ends}
-use Rattle.items.specs.ReachLoops.{reach-all}
-use Rattle.items.specs.Searches.{reach-fits}
+use Rattle.items.specs.Passes.{Closing, left}
 use Rattle.items.proofs.reach.reach_sets.Given as goal
 
 abbrev pub invariant-loop : goal.invariant-loop

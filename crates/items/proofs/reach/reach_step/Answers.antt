@@ -1,4 +1,3 @@
-use borrow.Author.Rules.{rules}
 use Rattle.items.specs.Rests.{reach-terminal, reach-dead, reach-past, reach-stops}
 use Rattle.items.proofs.reach.reach_step.Goals as goal
 

@@ -1,6 +1,5 @@
 use mathlib.Core.Path.{refl}
 use native.Mathlib.Omega.{arith}
-use borrow.Author.Rules.{rules}
 use Rattle.items.specs.GrammarOf.{grammar-fits}
 use Rattle.items.specs.ReachLoops.{SetsIn}
 use Rattle.items.specs.RestSets.{sets-in, rest-sets-in, living-reaches-in}

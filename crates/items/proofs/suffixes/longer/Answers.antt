@@ -1,4 +1,3 @@
-use borrow.Author.Rules.{rules}
 use Rattle.items.specs.Rests.{rest-past, rest-stops}
 use Rattle.items.proofs.suffixes.longer.Goals as goal
 

@@ -1,8 +1,5 @@
-use Prim.Native.Nat.{◌-◌}
 use mathlib.Core.Path.{refl}
-use native.Mathlib.Omega.{arith}
-use borrow.Author.Rules.{rules}
-use Rattle.items.specs.SuffixLoops.{Suffixing, suffixing-begins, suffixing-turn, suffixing-ends}
+use Rattle.items.specs.SuffixLoops.{suffixing-begins, suffixing-turn}
 use Rattle.items.proofs.suffixes.rule_suffixes.Goals as goal
 
 pub loop-d-init : goal.loop-d-init

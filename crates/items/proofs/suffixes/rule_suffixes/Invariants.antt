@@ -1,8 +1,4 @@
-use Prim.Native.Nat.{◌-◌}
-use mathlib.Core.Path.{refl}
-use native.Mathlib.Omega.{arith}
-use borrow.Author.Rules.{rules}
-use Rattle.items.specs.SuffixLoops.{Suffixing, suffixing-begins, suffixing-turn, suffixing-ends}
+use Rattle.items.specs.SuffixLoops.{Suffixing}
 use Rattle.items.proofs.suffixes.rule_suffixes.Given as goal
 
 abbrev pub invariant-loop-d : goal.invariant-loop-d

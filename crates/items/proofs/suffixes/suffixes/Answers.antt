@@ -1,8 +1,4 @@
-use Prim.Native.Nat.{◌-◌}
-use mathlib.Core.Path.{refl}
-use native.Mathlib.Omega.{arith}
-use borrow.Author.Rules.{rules}
-use Rattle.items.specs.SuffixLoops.{SuffixesFilled, suffixes-begin, suffixes-turn, suffixes-end, living-end}
+use Rattle.items.specs.SuffixLoops.{suffixes-end, living-end}
 use Rattle.items.proofs.suffixes.suffixes.Goals as goal
 
 pub returns : goal.returns

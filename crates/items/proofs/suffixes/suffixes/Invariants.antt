@@ -1,8 +1,5 @@
 use Prim.Native.Nat.{◌-◌}
-use mathlib.Core.Path.{refl}
-use native.Mathlib.Omega.{arith}
-use borrow.Author.Rules.{rules}
-use Rattle.items.specs.SuffixLoops.{SuffixesFilled, suffixes-begin, suffixes-turn, suffixes-end, living-end}
+use Rattle.items.specs.SuffixLoops.{SuffixesFilled}
 use Rattle.items.proofs.suffixes.suffixes.Given as goal
 
 abbrev pub invariant-loop-p : goal.invariant-loop-p

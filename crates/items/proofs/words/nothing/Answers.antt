@@ -1,9 +1,5 @@
-use Prim.Native.Nat.{◌-◌, ◌≤◌}
-use mathlib.Core.Path.{◌≡◌}
 use native.Mathlib.Omega.{arith}
-use borrow.Author.Tests.{eqb-true}
-use Rattle.items.specs.NoItems.{Nothing, nothing-none, nothing-more, nothing-all}
-use borrow.Author.Rules.{rules}
+use Rattle.items.specs.NoItems.{nothing-more}
 use Rattle.items.proofs.words.nothing.Goals as goal
 
 pub loop-i-preserved : goal.loop-i-preserved

@@ -1,9 +1,6 @@
 use Prim.Native.Nat.{◌-◌, ◌≤◌}
 use mathlib.Core.Path.{◌≡◌}
-use native.Mathlib.Omega.{arith}
-use borrow.Author.Tests.{eqb-true}
-use Rattle.items.specs.NoItems.{Nothing, nothing-none, nothing-more, nothing-all}
-use borrow.Author.Rules.{rules}
+use Rattle.items.specs.NoItems.{Nothing}
 use Rattle.items.proofs.words.nothing.Given as goal
 
 abbrev pub invariant-loop-i : goal.invariant-loop-i

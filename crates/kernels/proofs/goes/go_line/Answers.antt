@@ -1,5 +1,4 @@
 use Rattle.kernels.specs.GoLines.{go-steps}
-use borrow.Author.Rules.{rules}
 use Rattle.kernels.proofs.goes.go_line.Goals as goal
 
 pub returns : goal.returns

@@ -1,12 +1,8 @@
-use Rattle.text.specs.Rest.{rest, size}
-use Rattle.text.specs.Numeral.{word_of, spelled}
-use Rattle.grammar.specs.Format.Ordered.{go_key}
-use Rattle.grammar.specs.Format.Reader.{opening}
-use Rattle.grammar.specs.Format.Parse.{go_line, go_lines}
+use Rattle.text.specs.Numeral.{spelled}
+use Rattle.grammar.specs.Format.Parse.{go_lines}
 use Rattle.lines.specs.Heads.{go-head}
-use Rattle.book.specs.Layout.{go_words}
-use Rattle.book.specs.Order.{key_of, last_key, keyed-turn}
-use Rattle.book.specs.Sections.{Filling, filling-start, filling-less, filling-done}
+use Rattle.book.specs.Order.{last_key, keyed-turn}
+use Rattle.book.specs.Sections.{filling-start, filling-less, filling-done}
 use Rattle.kernels.specs.GoLines.{go-shrinks}
 use borrow.Author.Rules.{rules}
 use Rattle.kernels.proofs.goes.go_lines.Goals as goal

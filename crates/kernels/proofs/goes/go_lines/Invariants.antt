@@ -1,14 +1,11 @@
 use Rattle.text.specs.Rest.{rest, size}
-use Rattle.text.specs.Numeral.{word_of, spelled}
+use Rattle.text.specs.Numeral.{word_of}
 use Rattle.grammar.specs.Format.Ordered.{go_key}
 use Rattle.grammar.specs.Format.Reader.{opening}
 use Rattle.grammar.specs.Format.Parse.{go_line, go_lines}
-use Rattle.lines.specs.Heads.{go-head}
 use Rattle.book.specs.Layout.{go_words}
-use Rattle.book.specs.Order.{key_of, last_key, keyed-turn}
-use Rattle.book.specs.Sections.{Filling, filling-start, filling-less, filling-done}
-use Rattle.kernels.specs.GoLines.{go-shrinks}
-use borrow.Author.Rules.{rules}
+use Rattle.book.specs.Order.{key_of, last_key}
+use Rattle.book.specs.Sections.{Filling}
 use Rattle.kernels.proofs.goes.go_lines.Given as goal
 
 abbrev pub invariant-loop-head : goal.invariant-loop-head

@@ -1,7 +1,6 @@
 use native.Mathlib.Omega.{arith}
 use Rattle.book.specs.Short.{space-at, end-at}
 use Rattle.kernels.specs.GoLines.{goes_of}
-use borrow.Author.Rules.{rules}
 use Rattle.kernels.proofs.goes.short_go.Goals as goal
 
 pub returns-then-text-c : goal.returns-then-text-c

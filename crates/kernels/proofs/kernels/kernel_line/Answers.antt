@@ -1,5 +1,4 @@
 use Rattle.kernels.specs.KernelLines.{kernel-steps}
-use borrow.Author.Rules.{rules}
 use Rattle.kernels.proofs.kernels.kernel_line.Goals as goal
 
 pub returns : goal.returns

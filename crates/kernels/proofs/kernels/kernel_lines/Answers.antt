@@ -1,12 +1,8 @@
-use Rattle.text.specs.Rest.{rest, size}
-use Rattle.text.specs.Numeral.{word_of, spelled}
-use Rattle.grammar.specs.Format.Ordered.{kernel_key}
-use Rattle.grammar.specs.Format.Reader.{opening}
-use Rattle.grammar.specs.Format.Parse.{kernel_line, kernel_lines}
+use Rattle.text.specs.Numeral.{spelled}
+use Rattle.grammar.specs.Format.Parse.{kernel_lines}
 use Rattle.lines.specs.Heads.{kernel-head}
-use Rattle.book.specs.Layout.{kernel_words}
-use Rattle.book.specs.Order.{key_of, last_key, keyed-turn}
-use Rattle.book.specs.Sections.{Filling, filling-start, filling-less, filling-done}
+use Rattle.book.specs.Order.{last_key, keyed-turn}
+use Rattle.book.specs.Sections.{filling-start, filling-less, filling-done}
 use Rattle.kernels.specs.KernelLines.{kernel-shrinks}
 use borrow.Author.Rules.{rules}
 use Rattle.kernels.proofs.kernels.kernel_lines.Goals as goal

@@ -1,7 +1,6 @@
 use native.Mathlib.Omega.{arith}
 use Rattle.book.specs.Short.{space-at}
 use Rattle.kernels.specs.KernelLines.{item_of}
-use borrow.Author.Rules.{rules}
 use Rattle.kernels.proofs.kernels.short_item.Goals as goal
 
 pub returns : goal.returns

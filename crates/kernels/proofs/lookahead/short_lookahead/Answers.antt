@@ -1,6 +1,5 @@
 use native.Mathlib.Omega.{arith}
-use Rattle.kernels.specs.Lookahead.{nearby-none, nearby-of}
-use borrow.Author.Rules.{rules}
+use Rattle.kernels.specs.Lookahead.{nearby-of}
 use Rattle.kernels.proofs.lookahead.short_lookahead.Goals as goal
 
 pub returns-then-text-at : goal.returns-then-text-at

@@ -1,10 +1,6 @@
 use native.Mathlib.Omega.{arith}
-use borrow.Author.Tests.{not-false}
-use Rattle.text.specs.Rest.{rest, size}
 use Rattle.sets.specs.Sets.{empty}
-use Rattle.grammar.specs.Format.Parse.{lookaheads}
-use Rattle.kernels.specs.KernelLines.{Looking, looking-start, looking-closed, looking-less, looking-turn}
-use borrow.Author.Rules.{rules}
+use Rattle.kernels.specs.KernelLines.{looking-start, looking-closed, looking-less, looking-turn}
 use Rattle.kernels.proofs.lookaheads.lookaheads.Goals as goal
 
 pub loop-terminal-init : goal.loop-terminal-init

@@ -1,10 +1,6 @@
-use native.Mathlib.Omega.{arith}
-use borrow.Author.Tests.{not-false}
 use Rattle.text.specs.Rest.{rest, size}
-use Rattle.sets.specs.Sets.{empty}
 use Rattle.grammar.specs.Format.Parse.{lookaheads}
-use Rattle.kernels.specs.KernelLines.{Looking, looking-start, looking-closed, looking-less, looking-turn}
-use borrow.Author.Rules.{rules}
+use Rattle.kernels.specs.KernelLines.{Looking}
 use Rattle.kernels.proofs.lookaheads.lookaheads.Given as goal
 
 abbrev pub invariant-loop-terminal : goal.invariant-loop-terminal

@@ -1,9 +1,5 @@
 use native.Mathlib.Omega.{arith}
-use borrow.Author.Tests.{not-true, not-false}
-use Rattle.text.specs.Rest.{rest, size}
-use Rattle.grammar.specs.Format.Parse.{lookaheads}
-use Rattle.kernels.specs.KernelLines.{Looking, looking-done, looking-less, looking-turn, looking-out}
-use borrow.Author.Rules.{rules}
+use Rattle.kernels.specs.KernelLines.{looking-done, looking-less, looking-turn, looking-out}
 use Rattle.kernels.proofs.lookaheads.more_lookaheads.Goals as goal
 
 pub returns-then-n-terminal : goal.returns-then-n-terminal

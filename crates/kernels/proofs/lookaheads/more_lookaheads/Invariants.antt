@@ -1,9 +1,6 @@
-use native.Mathlib.Omega.{arith}
-use borrow.Author.Tests.{not-true, not-false}
 use Rattle.text.specs.Rest.{rest, size}
 use Rattle.grammar.specs.Format.Parse.{lookaheads}
-use Rattle.kernels.specs.KernelLines.{Looking, looking-done, looking-less, looking-turn, looking-out}
-use borrow.Author.Rules.{rules}
+use Rattle.kernels.specs.KernelLines.{Looking}
 use Rattle.kernels.proofs.lookaheads.more_lookaheads.Given as goal
 
 abbrev pub invariant-loop-terminal : goal.invariant-loop-terminal

@@ -1,16 +1,8 @@
-use Prim.Native.Nat.{◌-◌}
-use mathlib.Core.Path.{refl, sym, ◌∙◌}
-use mathlib.Core.List.{List}
+use mathlib.Core.Path.{refl}
 use native.Mathlib.Omega.{arith}
 use lib.ListN.{length, length-set}
-use borrow.Author.Rules.{rules}
-use Rattle.grammar.specs.Data.Book.{Book}
-use Rattle.grammar.specs.Evaluator.Tree.{Token}
-use Rattle.plans.specs.Plans.{PlansIn}
-use Rattle.machine.specs.Running.{RunIn}
-use Rattle.machine.specs.RunningLaws.{Underway, RoomsLeft, underway-start, rooms-kept}
+use Rattle.machine.specs.RunningLaws.{RoomsLeft, underway-start, rooms-kept}
 use Rattle.machine.specs.RunningLaws.{step-more, step_less, step-answers}
-use Rattle.stack.specs.Standing.{Message}
 use Rattle.machine.proofs.run.run.Goals as goal
 
 pub loop-next-init : goal.loop-next-init

@@ -1,15 +1,11 @@
 use Prim.Native.Nat.{◌-◌}
-use mathlib.Core.Path.{refl, sym, ◌∙◌}
 use mathlib.Core.List.{List}
-use native.Mathlib.Omega.{arith}
-use lib.ListN.{length, length-set}
-use borrow.Author.Rules.{rules}
+use lib.ListN.{length}
 use Rattle.grammar.specs.Data.Book.{Book}
 use Rattle.grammar.specs.Evaluator.Tree.{Token}
 use Rattle.plans.specs.Plans.{PlansIn}
 use Rattle.machine.specs.Running.{RunIn}
-use Rattle.machine.specs.RunningLaws.{Underway, RoomsLeft, underway-start, rooms-kept}
-use Rattle.machine.specs.RunningLaws.{step-more, step_less, step-answers}
+use Rattle.machine.specs.RunningLaws.{Underway, RoomsLeft}
 use Rattle.stack.specs.Standing.{Message}
 use Rattle.machine.proofs.run.run.Given as goal
 

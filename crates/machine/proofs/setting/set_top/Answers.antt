@@ -1,6 +1,4 @@
-use Prim.Native.Nat.{◌*◌, ◌<◌}
 use native.Mathlib.Omega.{arith}
-use borrow.Author.Rules.{rules}
 use Rattle.machine.specs.Setting.{top-asked, top-short, top_set}
 use Rattle.machine.proofs.setting.set_top.Goals as goal
 

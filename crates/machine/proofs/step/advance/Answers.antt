@@ -1,6 +1,5 @@
 use mathlib.Core.Path.{refl}
 use native.Mathlib.Omega.{arith}
-use borrow.Author.Rules.{rules}
 use Rattle.machine.specs.Moving.{told_accepted}
 use Rattle.machine.specs.Running.{rows-count, due-accept, due-shift, due-reduce}
 use Rattle.machine.proofs.step.advance.Goals as goal

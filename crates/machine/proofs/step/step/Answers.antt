@@ -1,6 +1,5 @@
-use mathlib.Core.Path.{◌≡◌, refl, ◌∙◌}
+use mathlib.Core.Path.{refl, ◌∙◌}
 use native.Mathlib.Omega.{arith}
-use borrow.Author.Rules.{rules}
 use Rattle.machine.specs.RunningLaws.{run-low, run-moves, run-facing, run-asked, run-set, run_none, run-due, run-stepped}
 use Rattle.machine.proofs.step.step.Goals as goal
 

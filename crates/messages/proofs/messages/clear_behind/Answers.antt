@@ -1,6 +1,5 @@
 use native.Mathlib.Omega.{arith}
-use borrow.Author.Rules.{rules}
-use Rattle.messages.specs.Pages.{rows_end, page-cleared, page-refused}
+use Rattle.messages.specs.Pages.{rows_end, page-cleared}
 use Rattle.messages.proofs.messages.clear_behind.Goals as goal
 
 pub slice_bounds-clear-count : goal.slice_bounds-clear-count

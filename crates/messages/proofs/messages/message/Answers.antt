@@ -1,5 +1,4 @@
 use mathlib.Core.Path.{◌∙◌}
-use borrow.Author.Rules.{rules}
 use Rattle.grammar.specs.Evaluator.Machine.{evaluate}
 use Rattle.grammar.specs.Engine.{tables_of}
 use Rattle.messages.proofs.messages.message.Goals as goal

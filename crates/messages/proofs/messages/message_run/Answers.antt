@@ -5,7 +5,6 @@ use Rattle.plans.specs.PlansLaws.{none-listed}
 use Rattle.messages.specs.Zeros.{no_words}
 use Rattle.messages.specs.Sides.{asked-sides}
 use Rattle.messages.specs.Driving.{places-asked, places-room, run_in, tokens-of, plans-of, run_room}
-use borrow.Author.Rules.{rules}
 use Rattle.messages.proofs.messages.message_run.Goals as goal
 
 pub fill_sides-requires : goal.fill_sides-requires

@@ -1,7 +1,5 @@
-use native.Mathlib.Omega.{arith}
 use Rattle.grammar.specs.Limits.{MAX_INHERITED, MAX_SYNTHESIZED}
 use Rattle.messages.specs.Sides.{sides-in}
-use borrow.Author.Rules.{rules}
 use Rattle.messages.proofs.sides.fill_sides.Goals as goal
 
 pub returns : goal.returns

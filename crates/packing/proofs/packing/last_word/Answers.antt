@@ -1,5 +1,4 @@
 use Rattle.packing.specs.WordsLaws.{word_at}
-use borrow.Author.Rules.{rules}
 use Rattle.packing.proofs.packing.last_word.Goals as goal
 
 pub returns : goal.returns

@@ -1,9 +1,5 @@
-use mathlib.Core.Path.{ap, ◌∙◌}
 use native.Mathlib.Omega.{arith}
-use lib.ListN.{length, length-set}
-use Rattle.grammar.specs.Format.Packing.{pack-length}
-use Rattle.packing.specs.PackingLoops.{packed_all, packed-rest}
-use borrow.Author.Rules.{rules}
+use Rattle.packing.specs.PackingLoops.{packed-rest}
 use Rattle.packing.proofs.packing.pack.Goals as goal
 
 pub returns-then-n-words : goal.returns-then-n-words

@@ -1,6 +1,4 @@
-use Prim.Native.Nat.{◌-◌}
-use Rattle.packing.specs.PackingLoops.{Packing, packing-start, packing-turn, packing-end}
-use borrow.Author.Rules.{rules}
+use Rattle.packing.specs.PackingLoops.{packing-start, packing-turn}
 use Rattle.packing.proofs.packing.pack_whole.Goals as goal
 
 pub loop-i-init : goal.loop-i-init

@@ -1,6 +1,5 @@
 use Prim.Native.Nat.{◌-◌}
-use Rattle.packing.specs.PackingLoops.{Packing, packing-start, packing-turn, packing-end}
-use borrow.Author.Rules.{rules}
+use Rattle.packing.specs.PackingLoops.{Packing}
 use Rattle.packing.proofs.packing.pack_whole.Given as goal
 
 abbrev pub invariant-loop-i : goal.invariant-loop-i

@@ -1,10 +1,6 @@
-use Prim.Native.Nat.{◌+◌, ◌-◌, ◌≤◌}
-use mathlib.Core.Path.{◌≡◌}
-use native.Mathlib.Omega.{arith}
+use Prim.Native.Nat.{◌≤◌}
 use lib.ListN.{length}
 use Rattle.packing.specs.Words.{Zeros}
-use Rattle.packing.specs.UnpackingLoops.{zeros-none, zeros-join}
-use borrow.Author.Rules.{rules}
 use Rattle.packing.proofs.unpacking.before_zeros.Given as goal
 
 abbrev pub invariant-loop-end : goal.invariant-loop-end

@@ -1,9 +1,7 @@
-use Prim.Native.Nat.{◌+◌, ◌-◌, ◌≤◌}
+use Prim.Native.Nat.{◌+◌}
 use mathlib.Core.Path.{◌≡◌}
 use native.Mathlib.Omega.{arith}
-use Rattle.packing.specs.Words.{Zeros}
-use Rattle.packing.specs.UnpackingLoops.{zeros-none, zeros-more}
-use borrow.Author.Rules.{rules}
+use Rattle.packing.specs.UnpackingLoops.{zeros-more}
 use Rattle.packing.proofs.unpacking.block_bits.Goals as goal
 
 pub loop-i-preserved : goal.loop-i-preserved

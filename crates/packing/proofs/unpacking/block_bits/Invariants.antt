@@ -1,9 +1,6 @@
 use Prim.Native.Nat.{◌+◌, ◌-◌, ◌≤◌}
 use mathlib.Core.Path.{◌≡◌}
-use native.Mathlib.Omega.{arith}
 use Rattle.packing.specs.Words.{Zeros}
-use Rattle.packing.specs.UnpackingLoops.{zeros-none, zeros-more}
-use borrow.Author.Rules.{rules}
 use Rattle.packing.proofs.unpacking.block_bits.Given as goal
 
 abbrev pub invariant-loop-i : goal.invariant-loop-i

@@ -1,6 +1,5 @@
 use mathlib.Core.Path.{refl}
 use Rattle.packing.specs.UnpackingLoops.{copied-four}
-use borrow.Author.Rules.{rules}
 use Rattle.packing.proofs.unpacking.put_four.Goals as goal
 
 pub returns : goal.returns

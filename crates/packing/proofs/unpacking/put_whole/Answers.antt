@@ -1,8 +1,5 @@
-use native.Mathlib.Omega.{arith}
-use lib.ListN.{length-set}
 use Rattle.packing.specs.Words.{bytes_of}
 use Rattle.packing.specs.PlacedLaws.{placed-four}
-use borrow.Author.Rules.{rules}
 use Rattle.packing.proofs.unpacking.put_whole.Goals as goal
 
 pub returns : goal.returns

@@ -1,9 +1,8 @@
-use Prim.Native.Nat.{◌+◌, ◌-◌, ◌≤◌}
+use Prim.Native.Nat.{◌+◌, ◌-◌}
 use mathlib.Core.Path.{◌≡◌}
 use native.Mathlib.Omega.{arith}
-use lib.ListN.{length}
-use Rattle.packing.specs.Words.{bytes_of, Zeros}
-use Rattle.packing.specs.UnpackingLoops.{zeros-front, holds_at, holds-nothing}
+use Rattle.packing.specs.Words.{bytes_of}
+use Rattle.packing.specs.UnpackingLoops.{holds_at, holds-nothing}
 use borrow.Author.Rules.{rules}
 use Rattle.packing.proofs.unpacking.text_length.Goals as goal
 

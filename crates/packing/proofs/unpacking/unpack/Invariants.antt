@@ -1,10 +1,7 @@
-use Prim.Native.Nat.{◌+◌, ◌-◌, ◌*◌, ◌≤◌}
-use mathlib.Core.Path.{◌≡◌, refl, ◌∙◌}
-use native.Mathlib.Omega.{arith}
+use Prim.Native.Nat.{◌-◌, ◌*◌, ◌≤◌}
+use mathlib.Core.Path.{◌≡◌}
 use lib.ListN.{length}
 use Rattle.packing.specs.Words.{Copied}
-use Rattle.packing.specs.UnpackingLoops.{copied_none, copied-end}
-use borrow.Author.Rules.{rules}
 use Rattle.packing.proofs.unpacking.unpack.Given as goal
 
 abbrev pub invariant-loop-k : goal.invariant-loop-k

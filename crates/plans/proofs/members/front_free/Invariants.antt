@@ -1,9 +1,6 @@
 use Prim.Native.Nat.{◌-◌, ◌≤◌}
 use mathlib.Core.Path.{◌≡◌}
-use native.Mathlib.Omega.{arith}
-use borrow.Author.Tests.{eqb-true}
-use borrow.Author.Rules.{rules}
-use Rattle.plans.specs.Places.{FrontFree, front-none, front-more, front-all}
+use Rattle.plans.specs.Places.{FrontFree}
 use Rattle.plans.proofs.members.front_free.Given as goal
 
 abbrev pub invariant-loop-i : goal.invariant-loop-i

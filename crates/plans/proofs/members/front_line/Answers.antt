@@ -1,14 +1,7 @@
-use Prim.Native.Nat.{◌<◌}
 use native.Mathlib.Omega.{arith}
-use mathlib.Core.Path.{◌≡◌, sym, ap, ◌∙◌}
-use lib.ListN.{length}
-use borrow.Author.Rules.{rules}
-use borrow.Author.Tests.{not-true, not-false}
-use Rattle.sets.specs.Sets.{bit}
-use Rattle.grammar.specs.Formulas.FormulaCheck.{dot_of, line_at}
-use Rattle.attributes.specs.CheckingLaws.{rule_there, rule-word, position-word, position_low}
-use Rattle.attributes.specs.MarkFronts.{front_word, front-behind, front-first}
-use Rattle.plans.specs.Found.{no-bit, fronts-less, fronts-more}
+use Rattle.attributes.specs.CheckingLaws.{position-word, position_low}
+use Rattle.attributes.specs.MarkFronts.{front-behind}
+use Rattle.plans.specs.Found.{no-bit, fronts-less}
 use Rattle.plans.proofs.members.front_line.Goals as goal
 
 pub returns-then-word-ne1 : goal.returns-then-word-ne1

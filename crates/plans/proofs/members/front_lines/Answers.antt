@@ -1,16 +1,7 @@
-use Prim.Native.Nat.{ℕ, ◌-◌, ◌≤◌}
-use mathlib.Core.Path.{◌≡◌, refl}
-use mathlib.Core.List.{List}
+use mathlib.Core.Path.{◌≡◌}
 use native.Mathlib.Omega.{arith}
-use lib.ListN.{length}
 use borrow.Author.Rules.{rules}
-use Rattle.grammar.specs.Data.Book.{Book}
-use Rattle.grammar.specs.Automaton.FirstSets.{Sets}
-use Rattle.grammar.specs.Formulas.FormulaCheck as grammar
-use Rattle.items.specs.Arrays.{SuffixesIn, ReachesIn}
-use Rattle.attributes.specs.Checking.{CheckHeld}
-use Rattle.attributes.specs.MarkFronts.{LooksIn}
-use Rattle.plans.specs.Found.{FrontsFound, fronts-free}
+use Rattle.plans.specs.Found.{fronts-free}
 use Rattle.plans.proofs.members.front_lines.Goals as goal
 
 pub returns-then-front_free : goal.returns-then-front_free

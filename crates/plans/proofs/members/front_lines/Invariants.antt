@@ -1,16 +1,14 @@
 use Prim.Native.Nat.{ℕ, ◌-◌, ◌≤◌}
-use mathlib.Core.Path.{◌≡◌, refl}
+use mathlib.Core.Path.{◌≡◌}
 use mathlib.Core.List.{List}
-use native.Mathlib.Omega.{arith}
 use lib.ListN.{length}
-use borrow.Author.Rules.{rules}
 use Rattle.grammar.specs.Data.Book.{Book}
 use Rattle.grammar.specs.Automaton.FirstSets.{Sets}
 use Rattle.grammar.specs.Formulas.FormulaCheck as grammar
 use Rattle.items.specs.Arrays.{SuffixesIn, ReachesIn}
 use Rattle.attributes.specs.Checking.{CheckHeld}
 use Rattle.attributes.specs.MarkFronts.{LooksIn}
-use Rattle.plans.specs.Found.{FrontsFound, fronts-free}
+use Rattle.plans.specs.Found.{FrontsFound}
 use Rattle.plans.proofs.members.front_lines.Given as goal
 
 abbrev pub invariant-loop-i : goal.invariant-loop-i

@@ -1,14 +1,8 @@
-use Prim.Native.Nat.{ℕ, ◌-◌, ◌<◌, ◌≤◌}
+use Prim.Native.Nat.{◌<◌, ◌≤◌}
 use native.Mathlib.Omega.{arith}
-use mathlib.Core.Path.{◌≡◌}
-use mathlib.Core.List.{List}
-use borrow.Author.Rules.{rules}
-use Rattle.grammar.specs.Data.Book.{Book}
 use Rattle.grammar.specs.Formulas.FormulaCheck as grammar
-use Rattle.attributes.specs.Checking.{CheckHeld}
-use Rattle.attributes.specs.CheckingLaws.{rule_low, position_low, position_high, place_is}
-use Rattle.plans.specs.LinesAdded.{Adding, adding-none, adding-more}
-use Rattle.plans.specs.DefinitionLines.{item_at}
+use Rattle.attributes.specs.CheckingLaws.{position_low, position_high, place_is}
+use Rattle.plans.specs.LinesAdded.{adding-more}
 use Rattle.plans.specs.Found.{each_more}
 use Rattle.plans.proofs.members.item_lines.Goals as goal
 

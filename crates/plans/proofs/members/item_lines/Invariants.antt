@@ -1,15 +1,11 @@
 use Prim.Native.Nat.{ℕ, ◌-◌, ◌<◌, ◌≤◌}
-use native.Mathlib.Omega.{arith}
 use mathlib.Core.Path.{◌≡◌}
 use mathlib.Core.List.{List}
-use borrow.Author.Rules.{rules}
 use Rattle.grammar.specs.Data.Book.{Book}
 use Rattle.grammar.specs.Formulas.FormulaCheck as grammar
 use Rattle.attributes.specs.Checking.{CheckHeld}
-use Rattle.attributes.specs.CheckingLaws.{rule_low, position_low, position_high, place_is}
-use Rattle.plans.specs.LinesAdded.{Adding, adding-none, adding-more}
+use Rattle.plans.specs.LinesAdded.{Adding}
 use Rattle.plans.specs.DefinitionLines.{item_at}
-use Rattle.plans.specs.Found.{each_more}
 use Rattle.plans.proofs.members.item_lines.Given as goal
 
 abbrev pub invariant-loop-line : goal.invariant-loop-line

@@ -1,10 +1,9 @@
-use Prim.Native.Nat.{◌+◌, ◌*◌, ◌-◌, ◌<◌}
+use Prim.Native.Nat.{◌+◌, ◌*◌, ◌<◌}
 use native.Mathlib.Omega.{arith}
 use mathlib.Core.Path.{sym, ◌∙◌}
 use lib.ListN.{length}
 use borrow.Author.Rules.{rules}
-use borrow.Author.Tests.{not-true, not-false}
-use Rattle.attributes.specs.MarkLines.{line-below, item-place, item-rule, item-dot}
+use Rattle.attributes.specs.MarkLines.{item-place, item-rule, item-dot}
 use Rattle.plans.specs.FoundLines.{first-within, line-none, line-idle, line-found}
 use Rattle.plans.proofs.members.kernel_line.Goals as goal
 

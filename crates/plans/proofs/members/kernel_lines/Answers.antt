@@ -1,20 +1,7 @@
-use Prim.Native.Nat.{ℕ, ◌≤◌}
 use mathlib.Core.Path.{◌≡◌, refl}
-use mathlib.Core.List.{List, ◌++◌}
 use native.Mathlib.Omega.{arith}
-use lib.ListN.{length}
-use lib.Seq.{slice}
 use borrow.Author.Rules.{rules}
-use Rattle.grammar.specs.Data.Book.{Book}
-use Rattle.grammar.specs.Format.Ordered.{Ordered}
-use Rattle.grammar.specs.Automaton.FirstSets.{Sets}
-use Rattle.grammar.specs.Automaton.CoreItems.{Core, of_kernels}
-use Rattle.grammar.specs.Formulas.FormulaCheck as grammar
-use Rattle.items.specs.Arrays.{SuffixesIn, ReachesIn}
-use Rattle.attributes.specs.Checking.{CheckHeld}
-use Rattle.attributes.specs.MarkLines.{ItemLinesIn}
-use Rattle.plans.specs.Places.{PlacesIn}
-use Rattle.plans.specs.Found.{FoundIn, found-start, found_turn}
+use Rattle.plans.specs.Found.{found-start, found_turn}
 use Rattle.plans.proofs.members.kernel_lines.Goals as goal
 
 pub loop-i-init : goal.loop-i-init

@@ -1,10 +1,8 @@
 use Prim.Native.Nat.{ℕ, ◌≤◌}
-use mathlib.Core.Path.{◌≡◌, refl}
+use mathlib.Core.Path.{◌≡◌}
 use mathlib.Core.List.{List, ◌++◌}
-use native.Mathlib.Omega.{arith}
 use lib.ListN.{length}
 use lib.Seq.{slice}
-use borrow.Author.Rules.{rules}
 use Rattle.grammar.specs.Data.Book.{Book}
 use Rattle.grammar.specs.Format.Ordered.{Ordered}
 use Rattle.grammar.specs.Automaton.FirstSets.{Sets}
@@ -14,7 +12,7 @@ use Rattle.items.specs.Arrays.{SuffixesIn, ReachesIn}
 use Rattle.attributes.specs.Checking.{CheckHeld}
 use Rattle.attributes.specs.MarkLines.{ItemLinesIn}
 use Rattle.plans.specs.Places.{PlacesIn}
-use Rattle.plans.specs.Found.{FoundIn, found-start, found_turn}
+use Rattle.plans.specs.Found.{FoundIn}
 use Rattle.plans.proofs.members.kernel_lines.Given as goal
 
 abbrev pub invariant-loop-i : goal.invariant-loop-i

@@ -1,8 +1,3 @@
-use Prim.Native.Nat.{◌-◌, ◌≤◌, ◌<◌}
-use native.Mathlib.Omega.{arith}
-use lib.ListN.{length, length-set}
-use borrow.Author.Rules.{rules}
-use Rattle.attributes.specs.CheckingLaws.{rule_there, rule_low, rule_place, position_high, left_below}
 use Rattle.plans.specs.Places.{places_behind, places-front}
 use Rattle.plans.proofs.members.mark_place.Goals as goal
 

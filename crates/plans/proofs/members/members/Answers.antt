@@ -1,11 +1,10 @@
 use mathlib.Core.Path.{ap, ◌∙◌}
 use lib.ListN.{length}
-use native.Mathlib.Omega.{arith}
 use borrow.Author.Rules.{rules}
 use Rattle.grammar.specs.Automaton.FirstSets.{sets_of}
 use Rattle.grammar.specs.Automaton.ReachSets.{reach_sets}
 use Rattle.grammar.specs.Automaton.ClosureSets.{closure_sets}
-use Rattle.attributes.specs.StateMarks.{item-lines, state-looks, looks-below, bounds-below, range}
+use Rattle.attributes.specs.StateMarks.{item-lines, state-looks, looks-below, range}
 use Rattle.attributes.specs.FormulasHeld as FormulasHeld
 use Rattle.plans.specs.Found.{fronts-found, found-lines}
 use Rattle.plans.specs.FoundLines.{none_found, found-state}

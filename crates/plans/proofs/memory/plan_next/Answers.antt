@@ -1,8 +1,6 @@
 use Prim.Native.Nat.{◌≤◌}
 use native.Mathlib.Omega.{arith}
 use mathlib.Core.Path.{refl}
-use lib.ListN.{length-set}
-use borrow.Author.Rules.{rules}
 use Rattle.grammar.specs.Limits.{MAX_INHERITED}
 use Rattle.plans.specs.MemoryLaws.{row-short, plan-filled, slot-filled, told-spare, told-new}
 use Rattle.plans.proofs.memory.plan_next.Goals as goal

@@ -1,7 +1,4 @@
-use Prim.Native.Nat.{◌+◌, ◌*◌}
 use native.Mathlib.Omega.{arith}
-use mathlib.Core.Path.{refl}
-use borrow.Author.Rules.{rules}
 use Rattle.attributes.specs.FormulasHeld as FormulasHeld
 use Rattle.plans.specs.PlansLaws.{plan-empty}
 use Rattle.plans.specs.MemoryLaws.{plans-check, told-known, told-empty}

@@ -1,13 +1,7 @@
-use Prim.Native.Nat.{ℕ, ◌+◌, ◌-◌, ◌<◌}
-use mathlib.Core.Bool.{Bool}
-use mathlib.Core.List.{List}
+use Prim.Native.Nat.{◌+◌, ◌<◌}
 use native.Mathlib.Omega.{arith}
-use Rattle.grammar.specs.Data.Book.{Book}
-use Rattle.attributes.specs.Checking.{CheckHeld}
-use Rattle.plans.specs.Planning.{Planning}
-use Rattle.plans.specs.PlanRows.{Elsewhere}
-use Rattle.plans.specs.PlanRowsLaws.{elsewhere-same, elsewhere-then}
-use Rattle.plans.specs.LinesWalk.{Walking, walk-there, walk-own, walk-next, walk_turn, walk_end}
+use Rattle.plans.specs.PlanRowsLaws.{elsewhere-then}
+use Rattle.plans.specs.LinesWalk.{walk-there, walk-own, walk-next, walk_turn, walk_end}
 use Rattle.plans.proofs.planning.half.Goals as goal
 
 pub overflow_add-line : goal.overflow_add-line
@@ -35,12 +29,12 @@ loop-rest-smaller c =
 
 pub loop-rest-preserved : goal.loop-rest-preserved
 loop-rest-preserved c = (
-      elsewhere-then c.loop-rest.invariant.0 c.visit-p.ensures.1,
-      λ b member masks s H W.
-          let X = c.loop-rest.invariant.1 b member masks s H W in
-          walk_turn X c.least-gap.ensures c.behind-rest.ensures
-          (c.visit-p.ensures.0 b member masks _ H (walk-there X c.least-gap.ensures) (walk-own X c.least-gap.ensures) (walk-next X c.least-gap.ensures)),
-    )
+  elsewhere-then c.loop-rest.invariant.0 c.visit-p.ensures.1,
+  λ b member masks s H W.
+      let X = c.loop-rest.invariant.1 b member masks s H W in
+      walk_turn X c.least-gap.ensures c.behind-rest.ensures
+      (c.visit-p.ensures.0 b member masks _ H (walk-there X c.least-gap.ensures) (walk-own X c.least-gap.ensures) (walk-next X c.least-gap.ensures)),
+)
 
 pub returns : goal.returns
 returns c = let at = c.loop-rest in

@@ -1,13 +1,11 @@
-use Prim.Native.Nat.{ℕ, ◌+◌, ◌-◌, ◌<◌}
+use Prim.Native.Nat.{ℕ, ◌+◌, ◌-◌}
 use mathlib.Core.Bool.{Bool}
 use mathlib.Core.List.{List}
-use native.Mathlib.Omega.{arith}
 use Rattle.grammar.specs.Data.Book.{Book}
 use Rattle.attributes.specs.Checking.{CheckHeld}
 use Rattle.plans.specs.Planning.{Planning}
 use Rattle.plans.specs.PlanRows.{Elsewhere}
-use Rattle.plans.specs.PlanRowsLaws.{elsewhere-same, elsewhere-then}
-use Rattle.plans.specs.LinesWalk.{Walking, walk-there, walk-own, walk-next, walk_turn, walk_end}
+use Rattle.plans.specs.LinesWalk.{Walking}
 use Rattle.plans.proofs.planning.half.Given as goal
 
 abbrev pub invariant-loop-rest : goal.invariant-loop-rest

@@ -1,5 +1,4 @@
 use Prim.Native.Nat.{ℕ, ◌^◌, ◌<◌}
-use native.Mathlib.Omega.{arith}
 use lib.ListN.{get_or}
 use Rattle.plans.specs.PlanRowsLaws.{elsewhere-then}
 use Rattle.plans.specs.LinesWalk.{walk-lower, walk-upper, walk-all}

@@ -1,16 +1,13 @@
 use Prim.Native.Nat.{ℕ, ◌+◌, ◌-◌}
-use mathlib.Core.Path.{◌≡◌}
 use mathlib.Core.Bool.{Bool}
 use mathlib.Core.List.{List}
-use native.Mathlib.Omega.{arith}
 use Rattle.grammar.specs.Limits.{MAX_INHERITED}
 use Rattle.grammar.specs.Data.Book.{Book}
 use Rattle.attributes.specs.Checking.{CheckHeld}
 use Rattle.plans.specs.Planning.{Planning}
 use Rattle.plans.specs.PlanRows.{PlanningIn, Elsewhere}
-use Rattle.plans.specs.PlanRowsLaws.{elsewhere-same, elsewhere-then}
 use Rattle.plans.specs.Lines.{LinesIn}
-use Rattle.plans.specs.PassLaws.{Passing, passing-start, passing-turn, passing-further, passing-end, few-lines}
+use Rattle.plans.specs.PassLaws.{Passing}
 use Rattle.plans.proofs.planning.passes.Given as goal
 
 abbrev pub invariant-loop-p : goal.invariant-loop-p

@@ -1,4 +1,3 @@
-use borrow.Author.Rules.{rules}
 use Rattle.plans.specs.Planning.{unplanned}
 use Rattle.plans.specs.PassLaws.{begun, ended}
 use Rattle.plans.proofs.planning.plan.Goals as goal

@@ -1,8 +1,4 @@
-use Prim.Native.Nat.{◌<◌}
 use mathlib.Core.Path.{◌∙◌}
-use native.Mathlib.Omega.{arith}
-use borrow.Author.Rules.{rules}
-use Rattle.attributes.specs.CheckingLaws.{rule_low, rule_place, left_below}
 use Rattle.plans.specs.DueLaws.{ready-behind, ready-front}
 use Rattle.plans.proofs.planning.ready.Goals as goal
 

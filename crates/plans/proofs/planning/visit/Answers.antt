@@ -3,9 +3,7 @@ use mathlib.Core.Bool.{not}
 use Prim.Native.Nat.{◌<◌}
 use mathlib.Core.Path.{sym, ◌∙◌}
 use native.Mathlib.Omega.{arith}
-use borrow.Author.Rules.{rules}
 use Rattle.grammar.specs.Limits.{MAX_INHERITED}
-use Rattle.attributes.specs.CheckingLaws.{attribute_low}
 use Rattle.plans.specs.Planning.{known_of}
 use Rattle.plans.specs.PlanRowsLaws.{elsewhere-same, elsewhere-set, known-set, visit-set, visit-waits, count_low, visit-sets}
 use Rattle.plans.proofs.planning.visit.Goals as goal
@@ -40,8 +38,7 @@ overflow_add-result c =
 pub returns : goal.returns
 returns c =
     let room : c.args.p.count < MAX_INHERITED = let g = c.requires in
-    count_low g.4 g.5 g.3 g.7 (sym c.has.ensures ∙ c.if-has.false) in
-    (
+    count_low g.4 g.5 g.3 g.7 (sym c.has.ensures ∙ c.if-has.false) in (
       λ b member masks s H l own R.
           rw c.with.ensures
           (visit-sets H l own s R (sym c.has.ensures ∙ c.if-has.false)

@@ -1,5 +1,4 @@
 use mathlib.Core.Path.{sym}
-use borrow.Author.Rules.{rules}
 use Rattle.stack.specs.Action.{code_free, code-shift, code-accept, code-conflict, code-reduce}
 use Rattle.stack.proofs.action.action_of.Goals as goal
 

@@ -2,9 +2,8 @@ use Prim.Native.Nat.{◌+◌, ◌*◌, ◌-◌, ◌≤◌, ◌<◌}
 use mathlib.Core.Path.{refl, ap}
 use native.Mathlib.Omega.{arith}
 use lib.ListN.{length, get_or}
-use borrow.Author.Rules.{rules}
 use Rattle.stack.specs.LeftLines.{left-putting}
-use Rattle.stack.specs.LeftMove.{left-ready, left-deep, left-room, left-owner, left-state, left-state-there, left-asked, left-reducing, left-pushed}
+use Rattle.stack.specs.LeftMove.{left-ready, left-deep, left-room, left-owner, left-state-there, left-asked, left-reducing, left-pushed}
 use Rattle.stack.proofs.left.put_left.Goals as goal
 
 pub word-owner-requires : goal.word-owner-requires

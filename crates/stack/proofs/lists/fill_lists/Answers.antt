@@ -1,9 +1,7 @@
-use Prim.Native.Nat.{ℕ, ◌*◌, ◌-◌, ◌≤◌, ◌<◌}
-use mathlib.Core.List.{List, []}
+use Prim.Native.Nat.{◌*◌, ◌<◌}
 use native.Mathlib.Omega.{arith}
-use lib.ListN.{length, get_or, length-set}
-use borrow.Author.Rules.{rules}
-use Rattle.stack.specs.Lists.{Listable, ListsBelow, lists-none, turn-owner, turn-there, turn-count, turn-listed, lists-done}
+use lib.ListN.{get_or}
+use Rattle.stack.specs.Lists.{Listable, ListsBelow, lists-none, turn-owner, turn-count, turn-listed, lists-done}
 use Rattle.stack.proofs.lists.fill_lists.Goals as goal
 
 pub loop-i-init : goal.loop-i-init

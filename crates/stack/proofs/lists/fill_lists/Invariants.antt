@@ -1,9 +1,6 @@
-use Prim.Native.Nat.{ℕ, ◌*◌, ◌-◌, ◌≤◌, ◌<◌}
-use mathlib.Core.List.{List, []}
-use native.Mathlib.Omega.{arith}
-use lib.ListN.{length, get_or, length-set}
-use borrow.Author.Rules.{rules}
-use Rattle.stack.specs.Lists.{Listable, ListsBelow, lists-none, turn-owner, turn-there, turn-count, turn-listed, lists-done}
+use Prim.Native.Nat.{ℕ, ◌-◌, ◌≤◌}
+use mathlib.Core.List.{List}
+use Rattle.stack.specs.Lists.{Listable, ListsBelow}
 use Rattle.stack.proofs.lists.fill_lists.Given as goal
 
 abbrev pub invariant-loop-i : goal.invariant-loop-i

@@ -1,6 +1,5 @@
 use Prim.Native.Nat.{◌*◌}
 use native.Mathlib.Omega.{arith}
-use borrow.Author.Rules.{rules}
 use Rattle.stack.specs.Records.{stored-cleared}
 use Rattle.stack.proofs.records.clear_record.Goals as goal
 

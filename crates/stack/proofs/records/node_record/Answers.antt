@@ -1,5 +1,4 @@
 use native.Mathlib.Omega.{arith}
-use borrow.Author.Rules.{rules}
 use Rattle.stack.specs.PutValues.{left-stored}
 use Rattle.stack.proofs.records.node_record.Goals as goal
 

@@ -1,12 +1,10 @@
-use Prim.Native.Nat.{◌+◌, ◌-◌, ◌≤◌, ◌<◌}
+use Prim.Native.Nat.{◌+◌, ◌<◌}
 use mathlib.Core.Path.{◌≡◌, ◌∙◌}
 use native.Mathlib.Omega.{arith}
-use lib.ListN.{length, get_or, length-set}
-use Rattle.grammar.specs.Limits.{MAX_OWNED}
-use Rattle.grammar.specs.Data.Book.{Book}
+use lib.ListN.{get_or, length-set}
 use Rattle.stack.specs.Spans.{line_count}
-use Rattle.stack.specs.LeftLines.{line_in, lines-few, LeftBefore, left-none, left-turn, left_end}
-use Rattle.stack.specs.NodeValues.{NodeAsked, LineOf, rule-lines}
+use Rattle.stack.specs.LeftLines.{line_in, lines-few, left-none, left-turn, left_end}
+use Rattle.stack.specs.NodeValues.{LineOf}
 use Rattle.stack.proofs.records.node_values.Goals as goal
 
 pub loop-i-init : goal.loop-i-init

@@ -1,12 +1,11 @@
-use Prim.Native.Nat.{◌+◌, ◌-◌, ◌≤◌, ◌<◌}
-use mathlib.Core.Path.{◌≡◌, ◌∙◌}
-use native.Mathlib.Omega.{arith}
-use lib.ListN.{length, get_or, length-set}
+use Prim.Native.Nat.{◌-◌, ◌≤◌}
+use mathlib.Core.Path.{◌≡◌}
+use lib.ListN.{length}
 use Rattle.grammar.specs.Limits.{MAX_OWNED}
 use Rattle.grammar.specs.Data.Book.{Book}
 use Rattle.stack.specs.Spans.{line_count}
-use Rattle.stack.specs.LeftLines.{line_in, lines-few, LeftBefore, left-none, left-turn, left_end}
-use Rattle.stack.specs.NodeValues.{NodeAsked, LineOf, rule-lines}
+use Rattle.stack.specs.LeftLines.{LeftBefore}
+use Rattle.stack.specs.NodeValues.{NodeAsked}
 use Rattle.stack.proofs.records.node_values.Given as goal
 
 abbrev pub invariant-loop-i : goal.invariant-loop-i

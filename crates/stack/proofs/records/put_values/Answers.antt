@@ -1,10 +1,9 @@
-use Prim.Native.Nat.{ℕ, ◌+◌, ◌*◌, ◌-◌, ◌≤◌, ◌<◌}
+use Prim.Native.Nat.{ℕ, ◌+◌, ◌<◌}
 use mathlib.Core.Path.{◌≡◌, ap, ◌∙◌}
 use native.Mathlib.Omega.{arith}
-use lib.ListN.{length, get_or}
-use borrow.Author.Rules.{rules}
+use lib.ListN.{get_or}
 use Rattle.stack.specs.Spans.{attribute_word, line_count}
-use Rattle.stack.specs.PutValues.{PuttingLines, putting-start, putting-long, putting-turn, putting-end}
+use Rattle.stack.specs.PutValues.{putting-start, putting-turn}
 use Rattle.stack.proofs.records.put_values.Goals as goal
 
 pub loop-i-init : goal.loop-i-init

@@ -1,10 +1,5 @@
-use Prim.Native.Nat.{ℕ, ◌+◌, ◌*◌, ◌-◌, ◌≤◌, ◌<◌}
-use mathlib.Core.Path.{◌≡◌, ap, ◌∙◌}
-use native.Mathlib.Omega.{arith}
-use lib.ListN.{length, get_or}
-use borrow.Author.Rules.{rules}
-use Rattle.stack.specs.Spans.{attribute_word, line_count}
-use Rattle.stack.specs.PutValues.{PuttingLines, putting-start, putting-long, putting-turn, putting-end}
+use Prim.Native.Nat.{◌+◌, ◌*◌, ◌-◌}
+use Rattle.stack.specs.PutValues.{PuttingLines}
 use Rattle.stack.proofs.records.put_values.Given as goal
 
 abbrev pub invariant-loop-i : goal.invariant-loop-i

@@ -1,8 +1,5 @@
-use Prim.Native.Nat.{◌+◌, ◌*◌, ◌-◌, ◌≤◌, ◌<◌}
 use native.Mathlib.Omega.{arith}
-use lib.ListN.{length, get_or}
-use Rattle.book.specs.LayoutLaws.{Writing, writing_start}
-use Rattle.stack.specs.Lists.{gathered, gather-turn, gather-end}
+use Rattle.stack.specs.Lists.{gather-turn, gather-end}
 use Rattle.stack.proofs.rows.gather.Goals as goal
 
 pub loop-i-preserved : goal.loop-i-preserved

@@ -1,8 +1,6 @@
-use Prim.Native.Nat.{◌+◌, ◌*◌, ◌-◌, ◌≤◌, ◌<◌}
-use native.Mathlib.Omega.{arith}
-use lib.ListN.{length, get_or}
-use Rattle.book.specs.LayoutLaws.{Writing, writing_start}
-use Rattle.stack.specs.Lists.{gathered, gather-turn, gather-end}
+use Prim.Native.Nat.{◌-◌, ◌≤◌}
+use Rattle.book.specs.LayoutLaws.{Writing}
+use Rattle.stack.specs.Lists.{gathered}
 use Rattle.stack.proofs.rows.gather.Given as goal
 
 abbrev pub invariant-loop-i : goal.invariant-loop-i

@@ -1,13 +1,11 @@
 use Prim.Native.Nat.{ℕ, ◌+◌, ◌*◌}
 use mathlib.Core.Path.{◌≡◌, ap, ◌∙◌}
 use mathlib.Core.List.{List}
-use native.Mathlib.Omega.{arith}
-use lib.ListN.{length, set, length-set}
-use borrow.Author.Rules.{rules}
+use lib.ListN.{set}
 use Rattle.book.specs.Layout.{write_at}
 use Rattle.cells.specs.Cells.{cleared}
 use Rattle.stack.specs.Lists.{gathered}
-use Rattle.stack.specs.Page.{written-long, down-long, node-parts}
+use Rattle.stack.specs.Page.{node-parts}
 use Rattle.stack.proofs.rows.node_row.Goals as goal
 
 pub returns : goal.returns

@@ -1,9 +1,7 @@
 use Prim.Native.Nat.{ℕ, ◌+◌, ◌*◌}
 use mathlib.Core.Path.{ap}
 use mathlib.Core.List.{List}
-use native.Mathlib.Omega.{arith}
-use lib.ListN.{set, length-set}
-use borrow.Author.Rules.{rules}
+use lib.ListN.{set}
 use Rattle.stack.specs.Page.{token_stored}
 use Rattle.stack.proofs.rows.token_row.Goals as goal
 

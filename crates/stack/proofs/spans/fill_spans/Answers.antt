@@ -1,7 +1,4 @@
-use Prim.Native.Nat.{◌-◌, ◌≤◌}
-use native.Mathlib.Omega.{arith}
-use borrow.Author.Rules.{rules}
-use Rattle.stack.specs.Spans.{Starting, starting-none, starting-at, starting-more, starting-done, lines-sorted, lines-room}
+use Rattle.stack.specs.Spans.{starting-more, lines-sorted, lines-room}
 use Rattle.stack.proofs.spans.fill_spans.Goals as goal
 
 pub loop-p-preserved : goal.loop-p-preserved

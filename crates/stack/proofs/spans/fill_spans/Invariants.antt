@@ -1,7 +1,5 @@
-use Prim.Native.Nat.{◌-◌, ◌≤◌}
-use native.Mathlib.Omega.{arith}
-use borrow.Author.Rules.{rules}
-use Rattle.stack.specs.Spans.{Starting, starting-none, starting-at, starting-more, starting-done, lines-sorted, lines-room}
+use Prim.Native.Nat.{◌-◌}
+use Rattle.stack.specs.Spans.{Starting}
 use Rattle.stack.proofs.spans.fill_spans.Given as goal
 
 abbrev pub invariant-loop-p : goal.invariant-loop-p

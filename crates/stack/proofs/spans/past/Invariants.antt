@@ -1,7 +1,5 @@
 use Prim.Native.Nat.{◌-◌}
-use native.Mathlib.Omega.{arith}
-use borrow.Author.Rules.{rules}
-use Rattle.stack.specs.Spans.{Run, run_none, run_more}
+use Rattle.stack.specs.Spans.{Run}
 use Rattle.stack.proofs.spans.past.Given as goal
 
 abbrev pub invariant-loop-i : goal.invariant-loop-i

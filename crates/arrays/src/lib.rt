@@ -1,4 +1,6 @@
 // Arrays for short and for long books: a text read, or a message answered, by the shorter ones where they have room.
+#![tactic(auto)]
+
 pub mod evaluating;
 pub mod reading;
 

@@ -1,4 +1,6 @@
 // The desk program: it reads a book and then token lines from standard input, and writes the rows of the message or the refusal.
+#![tactic(auto)]
+
 mod answer;
 
 ghost use Rattle.std.specs.Prelude.{◌≤◌, length};
@@ -11,6 +13,7 @@ use answer::answer;
 use book::Book;
 use console::input::{KEPT_NUMBERS, Progress, TEXT_ROOM, all_bytes};
 use console::output::OUTPUT_BYTES;
+use std::io::{Read, Write};
 
 // What was read, and whether that is all of the input.
 #[derive(Clone, Copy)]
@@ -19,31 +22,36 @@ struct Taken {
     progress: Progress,
 }
 
-// Takes standard input to its end. A proved loop has to end, and nothing says that the input does: the loop counts its turns down, from a number
-// that no run uses up.
-fn take_input(t: &[u8; 256], chunk: &mut [u8], text: &mut [u8], numbers: &mut [u32]) -> Taken
+// Takes an input to its end. A proved loop has to end, and nothing says that the input does: the loop has a number of turns that no run uses up.
+fn take_input<R: Read>(
+    input: &mut R,
+    t: &[u8; 256],
+    chunk: &mut [u8],
+    text: &mut [u8],
+    numbers: &mut [u32],
+) -> Taken
     requires { Buffers t.now text.old numbers.old }
     ensures { Reached text.new numbers.new result.progress }
 {
     let mut p = Progress::Book { line: 0, at: 0 };
-    let mut turns = u64::MAX;
-    while turns > 0 {
-        let got = libc::read(libc::STDIN_FILENO, chunk);
-        if got < 0 {
-            return Taken {
-                whole: false,
-                progress: p,
-            };
+    for _turn in 0..u64::MAX {
+        match input.read(chunk) {
+            Ok(n) => {
+                if n == 0 {
+                    return Taken {
+                        whole: true,
+                        progress: p,
+                    };
+                }
+                p = all_bytes(t, p, &chunk[..n], text, numbers);
+            }
+            Err(_) => {
+                return Taken {
+                    whole: false,
+                    progress: p,
+                };
+            }
         }
-        let n = io::count(got, chunk);
-        if n == 0 {
-            return Taken {
-                whole: true,
-                progress: p,
-            };
-        }
-        p = all_bytes(t, p, &chunk[..n], text, numbers);
-        turns -= 1;
     }
     Taken {
         whole: false,
@@ -51,8 +59,9 @@ fn take_input(t: &[u8; 256], chunk: &mut [u8], text: &mut [u8], numbers: &mut [u
     }
 }
 
-// Takes standard input, puts the answer into `out`, and says how long it is; 0 where the input cannot be read.
-fn run(
+// Takes the input, puts the answer into `out`, and says how long it is; 0 where the input cannot be read.
+fn run<R: Read>(
+    input: &mut R,
     t: &[u8; 256],
     chunk: &mut [u8],
     text: &mut [u8],
@@ -64,7 +73,7 @@ fn run(
     requires { Buffers t.now text.old numbers.old × Lengths words.old rows.old × (OUTPUT_BYTES ≤ length out.old) }
     ensures { Ran out.new result }
 {
-    let taken = take_input(t, chunk, text, numbers);
+    let taken = take_input(input, t, chunk, text, numbers);
     if !taken.whole {
         return 0;
     }
@@ -72,7 +81,15 @@ fn run(
     answer(p, text, numbers, words, rows, out)
 }
 
-fn main() {
+// Whether all of the bytes were written.
+fn written<W: Write>(output: &mut W, bytes: &[u8]) -> bool {
+    match output.write_all(bytes) {
+        Ok(()) => true,
+        Err(_) => false,
+    }
+}
+
+fn main(rt: HostRuntime) {
     let t = text::classes();
     let mut chunk = [0u8; 65536];
     let mut text = [0u8; TEXT_ROOM];
@@ -80,7 +97,9 @@ fn main() {
     let mut words = [0u32; Book::BOOK_WORDS];
     let mut rows = [0u32; Book::PAGE_WORDS];
     let mut out = [0u8; OUTPUT_BYTES];
+    let mut input = rt.stdin();
     let n = run(
+        &mut input,
         &t,
         &mut chunk,
         &mut text,
@@ -89,11 +108,13 @@ fn main() {
         &mut rows,
         &mut out,
     );
+    let mut errors = rt.stderr();
     if n == 0 {
-        io::write_all(libc::STDERR_FILENO, b"standard input cannot be read\n");
+        written(&mut errors, b"standard input cannot be read\n");
         return;
     }
-    if !io::write_all(libc::STDOUT_FILENO, &out[..n]) {
-        io::write_all(libc::STDERR_FILENO, b"standard output cannot be written\n");
+    let mut output = rt.stdout();
+    if !written(&mut output, &out[..n]) {
+        written(&mut errors, b"standard output cannot be written\n");
     }
 }

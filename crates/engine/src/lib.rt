@@ -1,4 +1,6 @@
 // The two public calls: reading and evaluating.
+#![tactic(auto)]
+
 pub mod evaluating;
 pub mod reading;
 

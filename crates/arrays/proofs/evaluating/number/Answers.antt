@@ -1,0 +1,7 @@
+use Rattle.attempts.specs.Stored.{unfit-none}
+use Rattle.attempts.specs.Evaluations.{answers-none}
+use borrow.Author.Rules.{rules}
+use Rattle.arrays.proofs.evaluating.number.Goals as goal
+
+pub returns-then-words-ne-BOOK_WORDS : goal.returns-then-words-ne-BOOK_WORDS
+returns-then-words-ne-BOOK_WORDS c = answers-none _ _ _ (unfit-none _ c.if-words-ne-BOOK_WORDS.true)

@@ -1,0 +1,14 @@
+use native.Mathlib.Omega.{arith}
+use Rattle.messages.specs.Zeros.{zeros}
+use Rattle.attempts.specs.Rooms.{full-arrays, words-lent}
+use borrow.Author.Rules.{rules}
+use Rattle.arrays.proofs.reading.long.Goals as goal
+
+pub attempt-requires : goal.attempt-requires
+attempt-requires c = (
+  omega (arith, c.requires.0),
+  c.requires.1,
+  omega (arith, c.requires.0, zeros 13107),
+  rw c.full.ensures (omega (arith, zeros 13107)),
+  rw c.full.ensures (words-lent c.args.words.now c.requires.1 full-arrays),
+)

@@ -1,0 +1,17 @@
+use Rattle.console.specs.Printing.{printed-same}
+use Rattle.console.specs.Figures.{answer-evaluated}
+use Rattle.desk.specs.Answers.{figured-few}
+use mathlib.Core.Path.{sym, ◌∙◌}
+use borrow.Author.Rules.{rules}
+use Rattle.desk.proofs.answer.respond.Goals as goal
+
+pub put_answer-requires : goal.put_answer-requires
+put_answer-requires c = record {
+  few = figured-few _ _ c.figures-f.ensures;
+  page = c.figures-f.auto.rows ∙ c.requires.1.rows_long;
+  room = c.requires.2;
+}
+
+pub returns : goal.returns
+returns c = printed-same (c.figures-f.ensures.answer_is ∙ sym (answer-evaluated _ _ c.requires.0))
+    c.put_answer.ensures

@@ -1,0 +1,16 @@
+use lib.Seq.{length-take-le}
+use mathlib.Core.Path.{sym}
+use Rattle.console.specs.Printing.{printed-same}
+use Rattle.desk.specs.Answers.{text-within, numbers-within, tokens-unended, tokens-answered}
+use lib.ListN.{length-take}
+use native.Mathlib.Omega.{arith}
+use borrow.Author.Rules.{rules}
+use Rattle.desk.proofs.answer.tokens_answer.Goals as goal
+
+pub returns-then-book-at : goal.returns-then-book-at
+returns-then-book-at c = λ i h. printed-same (tokens-unended h c.if-book-at.true) c.put_refused.ensures
+
+pub returns : goal.returns
+returns c = λ i h.
+    printed-same (tokens-answered h c.if-book-at.false)
+    c.respond.ensures

@@ -1,6 +1,4 @@
-use Rattle.desk.specs.Run.{ran-unread, reached-held, reached-end}
-use mathlib.Core.Path.{refl}
-use borrow.Author.Rules.{rules}
+use Rattle.desk.specs.Run.{reached-end}
 use Rattle.desk.proofs.run.Goals as goal
 
 pub returns : goal.returns

@@ -3,7 +3,6 @@ use Rattle.packing.specs.WordsLaws.{bytes-length}
 use Rattle.messages.specs.Zeros.{zeros}
 use Rattle.attempts.specs.Rooms.{full-arrays}
 use Rattle.attempts.specs.Stored.{found-text}
-use borrow.Author.Rules.{rules}
 use Rattle.arrays.proofs.evaluating.long.Goals as goal
 
 pub unpack-requires : goal.unpack-requires

@@ -1,6 +1,5 @@
 use Rattle.attempts.specs.Stored.{unfit-none}
 use Rattle.attempts.specs.Evaluations.{answers-none}
-use borrow.Author.Rules.{rules}
 use Rattle.arrays.proofs.evaluating.number.Goals as goal
 
 pub returns-then-words-ne-BOOK_WORDS : goal.returns-then-words-ne-BOOK_WORDS

@@ -2,7 +2,6 @@ use native.Mathlib.Omega.{arith}
 use Rattle.messages.specs.Zeros.{zeros}
 use Rattle.attempts.specs.Rooms.{short-arrays}
 use Rattle.attempts.specs.Stored.{found-text}
-use borrow.Author.Rules.{rules}
 use Rattle.arrays.proofs.evaluating.short.Goals as goal
 
 pub attempt-requires : goal.attempt-requires

@@ -1,7 +1,6 @@
 use native.Mathlib.Omega.{arith}
 use Rattle.messages.specs.Zeros.{zeros}
 use Rattle.attempts.specs.Rooms.{full-arrays, words-lent}
-use borrow.Author.Rules.{rules}
 use Rattle.arrays.proofs.reading.long.Goals as goal
 
 pub attempt-requires : goal.attempt-requires

@@ -1,12 +1,8 @@
-use lib.Seq.{length-take-le}
 use Rattle.console.proofs.Settled.{settled-end}
 use Rattle.console.specs.Printing.{printed-same}
-use Rattle.console.specs.Holds.{held-book, held-tokens, held-refused}
+use Rattle.console.specs.Holds.{held-book, held-refused}
 use Rattle.desk.specs.Answers.{book-answered}
-use lib.ListN.{length-take}
-use native.Mathlib.Omega.{arith}
 use mathlib.Core.Path.{sym}
-use borrow.Author.Rules.{rules}
 use Rattle.desk.proofs.answer.answer.Goals as goal
 
 pub returns-in-Book : goal.returns-in-Book

@@ -1,5 +1,4 @@
 use Rattle.desk.specs.Answers.{figured-refused, figured-evaluated}
-use borrow.Author.Rules.{rules}
 use Rattle.desk.proofs.answer.figures.Goals as goal
 
 pub returns-then-refusal-ne0 : goal.returns-then-refusal-ne0

@@ -2,7 +2,6 @@ use Rattle.console.specs.Printing.{printed-same}
 use Rattle.console.specs.Figures.{answer-evaluated}
 use Rattle.desk.specs.Answers.{figured-few}
 use mathlib.Core.Path.{sym, ◌∙◌}
-use borrow.Author.Rules.{rules}
 use Rattle.desk.proofs.answer.respond.Goals as goal
 
 pub put_answer-requires : goal.put_answer-requires

@@ -1,10 +1,5 @@
-use lib.Seq.{length-take-le}
-use mathlib.Core.Path.{sym}
 use Rattle.console.specs.Printing.{printed-same}
-use Rattle.desk.specs.Answers.{text-within, numbers-within, tokens-unended, tokens-answered}
-use lib.ListN.{length-take}
-use native.Mathlib.Omega.{arith}
-use borrow.Author.Rules.{rules}
+use Rattle.desk.specs.Answers.{tokens-unended, tokens-answered}
 use Rattle.desk.proofs.answer.tokens_answer.Goals as goal
 
 pub returns-then-book-at : goal.returns-then-book-at

@@ -1,8 +1,7 @@
 use Prim.Native.Nat.{ℕ}
 use mathlib.Core.Path.{ap, ◌∙◌}
 use lib.ListN.{replicate}
-use Rattle.attempts.specs.Evaluations.{evaluates-taken, evaluates-cleared}
-use borrow.Author.Rules.{rules}
+use Rattle.attempts.specs.Evaluations.{evaluates-cleared}
 use Rattle.engine.proofs.evaluating.evaluate.Goals as goal
 
 pub returns : goal.returns

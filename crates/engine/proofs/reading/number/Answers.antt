@@ -1,7 +1,6 @@
 use native.Mathlib.Omega.{arith}
 use mathlib.Core.Path.{◌∙◌, sym}
 use Rattle.attempts.specs.Readings.{long-number, unfit-number, text-number}
-use borrow.Author.Rules.{rules}
 use Rattle.engine.proofs.reading.number.Goals as goal
 
 pub returns-then-text-gt-MAX_TEXT : goal.returns-then-text-gt-MAX_TEXT

@@ -3,7 +3,6 @@ use mathlib.Core.Path.{sym, ap, ◌∙◌}
 use lib.ListN.{replicate}
 use Rattle.grammar.specs.Format.Packing.{pack}
 use Rattle.attempts.specs.Readings.{read_number, read_taken, read-refused, taken-fits}
-use borrow.Author.Rules.{rules}
 use Rattle.engine.proofs.reading.read.Goals as goal
 
 pub pack-requires : goal.pack-requires

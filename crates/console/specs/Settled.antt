@@ -1,4 +1,4 @@
--- Refusals that no further input changes: a book text that is too long, and a token line that is misspelt or too long to be spelled right.
+-- A refusal that no further input changes; which there are stands in proofs/Settled.antt.
 -- Assumes nothing.
 use Rattle.std.specs.Prelude.{ℕ, ◌≡◌}
 use mathlib.Core.List.{List}

@@ -1,4 +1,4 @@
--- Bytes of the input taken one after another: what is held of some input is afterwards held of that input with these bytes after it.
+-- Bytes of the input taken one after another: what is held of some input is held, after k of them, of that input with these bytes after it.
 -- Assumes nothing.
 use Rattle.std.specs.Prelude.{ℕ, ◌≤◌, ◌≡◌, List, length, take}
 use Rattle.console.specs.declared.input.Progress.{Progress}

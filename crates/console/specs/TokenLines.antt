@@ -1,4 +1,4 @@
--- Printed token lines: each is read as its token, and all of them one after another.
+-- Tokens that fit a line, and their lines as they are printed; that they are read so stands in proofs/TokenLines.antt.
 -- Assumes nothing.
 use Rattle.std.specs.Prelude.{List}
 use Rattle.grammar.specs.Evaluator.Tree.{Token}

@@ -246,10 +246,10 @@ numbers-low owners (suc n) A j l = by (eqb (owner_at owners n) A) l (numbers-low
         let m' : j < length known = rw (append-nil known) at m in
         before [] m' (ih m')
 
-get_d_map : (f : ℕ → ℕ) (l : List ℕ) (j : ℕ) → j < length l → get_or (map f l) j 0 ≡ f (get_or l j 0)
-get_d_map f [] j h = absurd (omega arith)
-get_d_map f (x ∷ l) zero h = refl
-get_d_map f (x ∷ l) (suc j) h = get_d_map f l j (omega arith)
+get_or-map : (f : ℕ → ℕ) (l : List ℕ) (j : ℕ) → j < length l → get_or (map f l) j 0 ≡ f (get_or l j 0)
+get_or-map f [] j h = absurd (omega arith)
+get_or-map f (x ∷ l) zero h = refl
+get_or-map f (x ∷ l) (suc j) h = get_or-map f l j (omega arith)
 
 -- word j of what is gathered
 module _ {lists : List ℕ} {A : ℕ} {source : List ℕ} {from : ℕ} (G : Gathers lists A source from) where
@@ -264,7 +264,7 @@ module _ {lists : List ℕ} {A : ℕ} {source : List ℕ} {from : ℕ} (G : Gath
   pub gathered-word : (j : ℕ) → j < get_or lists (5 * A) 0 → get_or (gathered lists A source from) j 0 ≡ get_or source (from + get_or lists (5 * A + 1 + j) 0) 0
   unfolding gathered list_at
   gathered-word j l =
-      get_d_map (λ K. get_or source (from + K) 0) (list_at lists A) j (omega (arith, list_length))
+      get_or-map (λ K. get_or source (from + K) 0) (list_at lists A) j (omega (arith, list_length))
       ∙ ap (λ K. get_or source (from + K) 0) (get_or-take (get_or lists (5 * A) 0) (drop (5 * A + 1) lists) j 0 l ∙ get_or-drop (5 * A + 1) lists j 0)
 
   -- a word more is written

@@ -1,4 +1,4 @@
--- What the readers in code ask of their callers and what they answer, by name.
+-- The two systems of digits are such as the code can read.
 -- Assumes nothing.
 use Rattle.std.proofs.Common.{arith}
 use Rattle.text.specs.Numeral.{decimal, letters}

@@ -1,4 +1,4 @@
--- The table of classes, as the code has it, and its rule: each of the 256 entries is the class of its byte.
+-- The rule of the table of classes: each of the 256 entries is the class of its byte.
 -- Assumes nothing.
 use Rattle.std.specs.Prelude.{ℕ, zero, suc, ◌+◌, ◌<◌, ◌≡◌, refl, Bool, true, false, List, [], ◌∷◌, eqb, length, get_or}
 use Rattle.std.proofs.Common.{ap, ◌∙◌, arith, eqb-true}

@@ -1,4 +1,4 @@
--- Writing and reading numbers are inverse, over any system of digits: decimal numbers and words of small letters alike.
+-- What the laws of numbers ask of a system of digits; that writing and reading are inverse stands in proofs/Positional.antt.
 -- Assumes nothing.
 use Prim.Native.Nat.{ℕ, ◌+◌, ◌≤◌, ◌<◌}
 use Rattle.std.specs.Prelude.{◌≡◌, Bool}

@@ -1,4 +1,4 @@
--- The table of classes, as the code has it, and its rule: each of the 256 entries is the class of its byte.
+-- The table of classes, as the code has it, and the test of its rule; that each of the 256 entries is the class of its byte stands in proofs/Table.antt.
 -- Assumes nothing.
 use Rattle.std.specs.Prelude.{ℕ, suc, Bool, true, false, List, [], ◌∷◌, eqb}
 use Rattle.text.specs.Class.{class_of}

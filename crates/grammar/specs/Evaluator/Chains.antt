@@ -1,5 +1,5 @@
--- The values of chains: the cell that is set at a partial state has the values that the rules' definitions give over the stack.
--- Assumes the premises of demand 3.
+-- What a leaf of a definition is on the stack, and what the top symbols hand up; the laws of chains on it stand in proofs/Evaluator/Chains.antt.
+-- Assumes nothing.
 use Prim.Native.Nat.{ℕ, ◌-◌, ◌≤◌}
 use Rattle.std.specs.Prelude.{◌≡◌, List}
 use Rattle.grammar.specs.Data.Book.{Place, own, at, val}

@@ -1,5 +1,4 @@
--- The check of all partial states decides lr_attributed (10) and so answers what the tables' check answers; terminals with the same items have the same
--- answer. Laws for loops besides. Assumes nothing.
+-- Which items a reached set tells, and tests that agree on the items of the definitions. Assumes nothing.
 use Prim.Native.Nat.{ℕ, ◌<◌}
 use Rattle.std.specs.Prelude.{◌≡◌, Bool}
 use Rattle.std.proofs.Math.Bool.{true}

@@ -1,4 +1,4 @@
--- The listed items of a partial state are those at the ends of its chains, if the listed items of its state are right.
+-- The listed items of a partial state, and what is proved of them in proofs/Formulas/PartialLaws.antt: that they are those at the ends of its chains.
 -- Assumes nothing.
 use Rattle.std.specs.Prelude.{ℕ}
 use mathlib.Core.List.{List, Memᴰ as Mem}

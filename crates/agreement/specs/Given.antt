@@ -9,7 +9,7 @@ use Rattle.std.specs.Int.Bits.{bit_or}
 use borrow.Author.Tests.{eqb-true, eq-eqb}
 use Rattle.sets.specs.Sets.{bit, single, with}
 use Rattle.sets.proofs.SetsLaws.{bit-single, with-keeps, with-self}
-use Rattle.sets.proofs.Bits.{below_suc}
+use Rattle.sets.specs.Bits.{below_suc}
 use Rattle.grammar.specs.Automaton.TestLaws.{true-false}
 use Rattle.grammar.specs.Data.Term.{number, leaf, both, pick, nodes}
 use Rattle.grammar.specs.Data.Postfix.{postfix}

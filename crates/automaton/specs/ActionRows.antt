@@ -10,7 +10,7 @@ use Rattle.std.proofs.Math.ListN.{set}
 use Rattle.std.proofs.lemmas.List.{set-get_or}
 use Rattle.std.proofs.lemmas.Bool.{eqb-false}
 use Rattle.sets.specs.Sets.{bit}
-use Rattle.sets.proofs.Bits.{bit_past}
+use Rattle.sets.specs.Bits.{bit_past}
 use Rattle.sets.proofs.Operations.{full, bit-and, bit-full}
 use Rattle.grammar.specs.Limits.{MAX_RULES}
 use Rattle.grammar.specs.Data.Symbol.{Symbol}

@@ -10,7 +10,7 @@ use Rattle.std.proofs.lemmas.List.{length-replicate, get_or-replicate}
 use borrow.Author.Tests.{eq-eqb, eqb-true}
 use Rattle.sets.specs.Sets.{bit, single}
 use Rattle.sets.proofs.SetsLaws.{bit-empty, bit-single}
-use Rattle.sets.proofs.Bits.{bit-first, bit-half, below_suc}
+use Rattle.sets.specs.Bits.{bit-first, bit-half, below_suc}
 use Rattle.sets.proofs.Operations.{bit-or}
 use Rattle.grammar.specs.Automaton.TestLaws.{true-false}
 use Rattle.items.specs.NoItems.{Nothing}

@@ -1,5 +1,5 @@
--- The desk program (01, "S, run by the desk program"), as a function from the bytes of standard input to the bytes of standard output. Meaning.antt says
--- what it gives for an input that is spelled right, Cases.antt computes 01's example. Assumes nothing.
+-- The desk program (01, "S, run by the desk program"), as a function from the bytes of standard input to the bytes of standard output.
+-- proofs/Meaning.antt says what it gives for an input that is spelled right, proofs/Cases.antt computes 01's example. Assumes nothing.
 use Rattle.std.specs.Prelude.{ℕ, zero, suc, Bool, true, false, List, [], ◌∷◌, ◌++◌, leb, eqb, length, take, drop}
 use Rattle.std.proofs.Math.Option.{Option, none, some}
 use Rattle.text.specs.Class.{space}

@@ -12,7 +12,7 @@ use Rattle.grammar.specs.Conditions.Decides.{Decides, by-decided, false_of}
 use Rattle.grammar.specs.Conditions.Meaning.{WithinLimits, Declared, Owned, Defined}
 use Rattle.grammar.specs.Conditions.TestsLaws.{within_limits-decides, declared-decides, owned-decides, defined-decides}
 use Rattle.grammar.specs.Automaton.States.{KernelRules, GoRules, NoConflict}
-use Rattle.grammar.specs.Formulas.Formula.{lr_attributed}
+use Rattle.grammar.specs.Formulas.Formula.{LrAttributed}
 use Rattle.grammar.specs.Automaton.StatesCheck.{kernel_rules, go_rules}
 use Rattle.grammar.specs.Automaton.FirstSets.{sets_of}
 use Rattle.grammar.specs.Automaton.ReachSets.{reach_sets}
@@ -53,7 +53,7 @@ module _ {b : Book} (spelled : Spelled b) (limits : WithinLimits b) (names : Dec
   conflicts-decides = no_conflict-decides named right
 
   formulas-decides : Owned b → KernelRules b
-      → Decides (one_formula b (parts_table b (sets_of b.rules) (reach_sets b.rules (sets_of b.rules)) (items_table b (sets_of b.rules)))) (lr_attributed b)
+      → Decides (one_formula b (parts_table b (sets_of b.rules) (reach_sets b.rules (sets_of b.rules)) (items_table b (sets_of b.rules)))) (LrAttributed b)
   formulas-decides attributes kernels = one_formula-decides right (formula-premises limits names attributes kernels)
 
 module _ (b : Book) (spelled : Spelled b) where

@@ -1,5 +1,5 @@
 -- The three demands, as promises about the two calls (Engine.antt): `read_book` from a text and the number of lent words, `evaluate_words` from stored
--- words, token numbers and the number of lent row words. Stated here, proved in DemandsProof.antt. What to believe: books as data and their text
+-- words, token numbers and the number of lent row words. Stated here, proved in proofs/DemandsProof.antt. What to believe: books as data and their text
 -- (Data/Book, Format/Print, Format/Ordered), the conditions (Conditions/Meaning, Automaton/States, Formulas/Formula, gathered in Refusal), trees and
 -- their values (Evaluator/Tree, Decorated, Rows), the stack evaluator (Evaluator/Machine), the filling of words (Format/Packing). Assumes nothing.
 use Rattle.std.specs.Prelude.{ℕ, ◌≤◌, ◌≡◌, ◌≢◌, ◌↔◌, List, [], ◌∷◌, length, replicate}

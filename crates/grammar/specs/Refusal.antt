@@ -9,7 +9,7 @@ use Rattle.grammar.specs.Format.Parse.{parse_book}
 use Rattle.grammar.specs.Conditions.Meaning.{WithinLimits, Declared, Owned, Defined}
 use Rattle.grammar.specs.Conditions.Tests.{within_limits, declared, owned, defined}
 use Rattle.grammar.specs.Automaton.States.{KernelRules, GoRules, NoConflict}
-use Rattle.grammar.specs.Formulas.Formula.{lr_attributed}
+use Rattle.grammar.specs.Formulas.Formula.{LrAttributed}
 use Rattle.grammar.specs.Automaton.Compiled.{states_refusal}
 
 -- what is asked of a book that is spelled right, 3 to 10
@@ -21,7 +21,7 @@ pub record Sound (b : Book) : Type 0 where
   pub kernel-rules : KernelRules b
   pub go-rules : GoRules b
   pub no-conflict : NoConflict b
-  pub one-formula : lr_attributed b
+  pub one-formula : LrAttributed b
 
 -- "A book is taken exactly when it meets" all of it
 pub record Taken (text : List ℕ) : Type 0 where
@@ -39,7 +39,7 @@ pub data Breaks (b : Book) : ℕ → Type 0 where
   breaks_kernel_rules : WithinLimits b → Declared b → Owned b → Defined b → (KernelRules b → ⊥) → Breaks b 7
   breaks_go_rules : WithinLimits b → Declared b → Owned b → Defined b → KernelRules b → (GoRules b → ⊥) → Breaks b 8
   breaks_no_conflict : WithinLimits b → Declared b → Owned b → Defined b → KernelRules b → GoRules b → (NoConflict b → ⊥) → Breaks b 9
-  breaks_one_formula : WithinLimits b → Declared b → Owned b → Defined b → KernelRules b → GoRules b → NoConflict b → (lr_attributed b → ⊥) → Breaks b 10
+  breaks_one_formula : WithinLimits b → Declared b → Owned b → Defined b → KernelRules b → GoRules b → NoConflict b → (LrAttributed b → ⊥) → Breaks b 10
 
 -- what 01 answers to a text: 0 where it is taken, 2 where it is no book's text, else "lowest number first"
 pub data Verdict (text : List ℕ) : ℕ → Type 0 where

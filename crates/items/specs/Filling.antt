@@ -3,7 +3,7 @@
 use Rattle.std.specs.Prelude.{ℕ, ◌+◌, ◌*◌, ◌-◌, ◌≤◌, ◌<◌, ◌≡◌, refl, Bool, true, false, List, [], ◌∷◌, eqb, length, get_or, set, drop}
 use Rattle.std.proofs.Common.{sym, ap, ◌∙◌, subst, arith, add-one, length-set, get_or-set_same, get_or-set_other, eqb-true}
 use Rattle.std.proofs.lemmas.Bool.{eqb-false}
-use Rattle.sets.proofs.Bits.{below_suc}
+use Rattle.sets.specs.Bits.{below_suc}
 use Rattle.grammar.specs.Data.Symbol.{Symbol, right_of, after}
 use Rattle.items.specs.GrammarOf.{
   symbol_of,

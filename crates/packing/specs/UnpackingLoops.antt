@@ -6,7 +6,7 @@ use Rattle.std.proofs.Math.Path.{refl}
 use Rattle.std.proofs.Common.{sym, ap, ◌∙◌, arith, take-add, take-take}
 use Rattle.std.specs.Int.Bits.{bit_or}
 use Rattle.std.proofs.Math.ListN.{get_or, get_or-eq_default}
-use Rattle.sets.proofs.Bits.{below_suc}
+use Rattle.sets.specs.Bits.{below_suc}
 use Rattle.sets.proofs.Operations.{or-none}
 use Rattle.text.proofs.Positional.{by_less}
 use Rattle.text.proofs.RestLaws.{drop_more}

@@ -103,7 +103,7 @@ module _ {text inherited₀ inherited synthesized₀ synthesized rules₀ rules 
     (synthesized-defined : Defines (definitions false (rest text p₅)) room.definitions d text definitions₁ e p₆ definitions₂)
     (kernels-read : Fills kernel_words room.kernels (kernel_lines (rest text p₆)) text kernels₀ k p₇ kernels)
     (goes-read : Fills go_words room.goes (go_lines (rest text p₇)) text goes₀ g p₈ goes)
-    (End-read : rest text p₉ ≡ end_line (rest text p₈)) where
+    (end_read : rest text p₉ ≡ end_line (rest text p₈)) where
   abbrev read : Lines
   read = whole text numbers p₁ p₂ p₃ p₄ p₅ p₆ p₇
 
@@ -123,7 +123,7 @@ module _ {text inherited₀ inherited synthesized₀ synthesized rules₀ rules 
         ← synthesized-defined.remaining_is,
         ← kernels-read.remaining_is,
         ← goes-read.remaining_is,
-        ← End-read,
+        ← end_read,
       )
 
   parse-is : parse_book text ≡ ended (parsed read (rest text p₉))
@@ -160,7 +160,7 @@ module _ {text inherited₀ inherited synthesized₀ synthesized rules₀ rules 
       let sixth : 0 < size (rest text p₆) =
       omega (
         arith,
-        ap size End-read,
+        ap size end_read,
         end-size (rest text p₈),
         ap size goes-read.remaining_is,
         goes-size (rest text p₇),

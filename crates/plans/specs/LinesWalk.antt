@@ -8,7 +8,7 @@ use Rattle.std.specs.Prelude.{◌≡◌, Bool, true, List, get_or}
 use Rattle.std.proofs.Common.{sym, ◌∙◌, pow_mono}
 use Rattle.std.proofs.Math.Path.{ap}
 use Rattle.sets.specs.Sets.{bit}
-use Rattle.sets.proofs.Bits.{bit_past}
+use Rattle.sets.specs.Bits.{bit_past}
 use Rattle.grammar.specs.Automaton.TestLaws.{true-false}
 use Rattle.grammar.specs.Data.Book.{Book}
 use Rattle.grammar.specs.Formulas.Passes.{visits}

@@ -1,4 +1,2 @@
-pub mod Bits
 pub mod SetsLaws
 pub mod Operations
-pub mod Examples

@@ -7,7 +7,7 @@ use Rattle.std.proofs.Common.{sym, ap, ◌∙◌, arith, eq-eqb, ne_eqb, eqb-tru
 use Rattle.std.specs.Int.Bits.{bit_and, bit_or, bit_xor, differ, and_step, or_step, xor_step, and_lt, or_add_and}
 use Rattle.std.proofs.lemmas.Nat.{and_shr, or_shr, xor_shr, or_lt, and_le_l, and_le_r}
 use Rattle.sets.specs.Sets.{bit, empty, collect, union, subset, meets}
-use Rattle.sets.proofs.Bits.{bit-collect}
+use Rattle.sets.specs.Bits.{bit-collect}
 use Rattle.sets.proofs.SetsLaws.{bit-empty, bit-union, empty-lt, union-lt, same_set, subset-holds, subset-true, meets-holds, meets-false}
 
 -- ---- the bits of `|` and `&`

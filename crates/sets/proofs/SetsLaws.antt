@@ -5,7 +5,7 @@ use Rattle.std.proofs.Common.{sym, ap, ◌∙◌, subst, inl, inr, ⊎_elim, ari
 use Rattle.std.proofs.Math.Bool.{or-true}
 use Rattle.std.proofs.Math.Pow.{pow-lt}
 use Rattle.sets.specs.Sets.{bit, empty, single, union, with, subset, meets}
-use Rattle.sets.proofs.Bits.{bit_past, bit-top, bit-under, bits-le, collect-lt, bit-collect, every_holds, every_true, exists-holds, exists-true}
+use Rattle.sets.specs.Bits.{bit_past, bit-top, bit-under, bits-le, collect-lt, bit-collect, every_holds, every_true, exists-holds, exists-true}
 
 -- ---- what a set holds
 

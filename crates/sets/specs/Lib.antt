@@ -1,1 +1,3 @@
 pub mod Sets
+pub mod Bits
+pub mod Examples

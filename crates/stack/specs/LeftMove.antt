@@ -73,6 +73,6 @@ module _ {b : Book} {ks : List Token} {c : Config} {rules definitions table span
         → StartOf starts (top.depth - n) n top.position start → NodeValues b P (top.depth - n) inherited synthesized fresh
         → target ≡ get_or table (64 * get_or states (top.depth - n) 0 + (32 + owner)) 0
         → GoesOn b ks c states' inherited synthesized' starts' rows' next
-    left-pushed L cells push start_of_lem Fresh-in target_is =
-        reduce-on A.book_in A.left_in P L cells (rw same_size at push) (owner_is ∙ left-ready.owner_is) (rw same_size at start_of_lem)
-        (rw same_size at Fresh-in) (rw same_size at target_is) A.config_in A.cell_in A.action_is (omega (arith, A.room, same_size)) A.rows_low
+    left-pushed L cells push start_of_is fresh_in target_is =
+        reduce-on A.book_in A.left_in P L cells (rw same_size at push) (owner_is ∙ left-ready.owner_is) (rw same_size at start_of_is)
+        (rw same_size at fresh_in) (rw same_size at target_is) A.config_in A.cell_in A.action_is (omega (arith, A.room, same_size)) A.rows_low

@@ -111,7 +111,7 @@ module _ {b : Book} {rules definitions table spans down up : List ℕ} (B : Book
     module _ (room : length st < length starts + size) (line : length rs < MAX_ROWS) {target owner start : ℕ} {fresh : List ℕ} {next : Top}
         {states' synthesized' starts' rows' : List ℕ} (L : Stacks states synthesized starts rows) (cells : length inherited ≡ 16 * length starts + 16)
         (push : NodePushed top target P size owner start fresh down inherited up states synthesized starts rows states' synthesized' starts' rows' next)
-        (owner_is : owner ≡ left_of b.rules P) (start_is : start ≡ taken-off.start) (Fresh-in : NodeValues b P low inherited synthesized fresh) where
+        (owner_is : owner ≡ left_of b.rules P) (start_is : start ≡ taken-off.start) (fresh_in : NodeValues b P low inherited synthesized fresh) where
       low-is : top.depth - size ≡ low
       unfolding low
       low-is = ap (λ n. n - size) C.depth_is
@@ -130,10 +130,10 @@ module _ {b : Book} {rules definitions table spans down up : List ℕ} (B : Book
       record-next = rw (← low-is) push.record_is
 
       value-next : (K : ℕ) → K < 32 → left_values K ≡ get_or fresh (1 + K) 0
-      value-next K h = sym (Fresh-in.value_is K h ∙ synthesized-value taken-off b P K (left-reads K))
+      value-next K h = sym (fresh_in.value_is K h ∙ synthesized-value taken-off b P K (left-reads K))
 
       result-next : ResultIn (values left_values) synthesized' low
-      result-next = values-in low record-next left_values Fresh-in.no_token value-next (left-past taken-off.cell taken-off.results)
+      result-next = values-in low record-next left_values fresh_in.no_token value-next (left-past taken-off.cell taken-off.results)
 
       -- the row has the values of the cell and of the record
       down-row : gathered down owner inherited (16 * low) ≡ owned b.inherited_owners (left_of b.rules P) taken-off.cell
@@ -262,8 +262,8 @@ module _ {b : Book} {rules definitions table spans down up : List ℕ} (B : Book
   module _ {ks : List Token} {states inherited synthesized starts rows : List ℕ} {top next : Top} {target owner start : ℕ} {fresh : List ℕ}
       {states' synthesized' starts' rows' : List ℕ} (L : Stacks states synthesized starts rows) (cells : length inherited ≡ 16 * length starts + 16)
       (push : NodePushed top target P size owner start fresh down inherited up states synthesized starts rows states' synthesized' starts' rows' next)
-      (owner_is : owner ≡ left_of b.rules P) (start_of_lem : StartOf starts (top.depth - size) size top.position start)
-      (Fresh-in : NodeValues b P (top.depth - size) inherited synthesized fresh)
+      (owner_is : owner ≡ left_of b.rules P) (start_of_is : StartOf starts (top.depth - size) size top.position start)
+      (fresh_in : NodeValues b P (top.depth - size) inherited synthesized fresh)
       (target_is : target ≡ get_or table (64 * get_or states (top.depth - size) 0 + (32 + owner)) 0) where
     pub reduce-on : {c : Config} → ConfigIn b ks states inherited synthesized starts rows top c → CellIn b inherited c
         → action_of b c ≡ some (reduce P) → top.depth < length starts + size → top.rows < 512 → GoesOn b ks c states' inherited synthesized' starts' rows' next
@@ -281,7 +281,7 @@ module _ {b : Book} {rules definitions table spans down up : List ℕ} (B : Book
         record {
           then = reduced_to C e s target;
           moves = moves.reduce-moves b (tables_of b) st z p rs e off.below off.popped_is go line (omega (arith, room, L.starts_long));
-          holds = stands (reduce-stands C e s room line L cells push owner_is (start-by (dec_lt 0 size)) (rw low-is at Fresh-in) go);
+          holds = stands (reduce-stands C e s room line L cells push owner_is (start-by (dec_lt 0 size)) (rw low-is at fresh_in) go);
         }
       where
         off : PoppedIn states inherited synthesized starts (low C e s) size p (pop size S (cell (tables_of b) S (kind z) st) p st [])
@@ -294,5 +294,5 @@ module _ {b : Book} {rules definitions table spans down up : List ℕ} (B : Book
         left_there = (B.sound.names.left_sides P (complete C e s).later (complete C e s).there).high
 
         start-by : Dec (0 < size) → start ≡ off.start
-        start-by (yes m) = start_of_lem.filled (omega arith) ∙ ap (λ n. get_or starts n 0) low-is ∙ off.start_is (omega arith)
-        start-by (no m) = start_of_lem.empty (omega arith) ∙ C.position_is ∙ sym (off.start_same (omega arith))
+        start-by (yes m) = start_of_is.filled (omega arith) ∙ ap (λ n. get_or starts n 0) low-is ∙ off.start_is (omega arith)
+        start-by (no m) = start_of_is.empty (omega arith) ∙ C.position_is ∙ sym (off.start_same (omega arith))

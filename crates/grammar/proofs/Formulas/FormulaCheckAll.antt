@@ -1,4 +1,4 @@
--- The check of all partial states decides lr_attributed (10) and so answers what the tables' check answers; terminals with the same items have the same
+-- The check of all partial states decides LR-attributed (10) and so answers what the tables' check answers; terminals with the same items have the same
 -- answer. Laws for loops besides. Assumes nothing.
 use Prim.Native.Nat.{ℕ, zero, suc, ◌≤◌, ◌<◌}
 use native.Mathlib.Omega.{arith}
@@ -16,7 +16,7 @@ use Rattle.grammar.specs.Format.Ordered.{Ordered}
 use Rattle.grammar.specs.Conditions.Meaning.{WithinLimits, Declared, Owned, Defined}
 use Rattle.grammar.specs.Automaton.States.{KernelRules}
 use Rattle.grammar.specs.Automaton.Items.{Partial}
-use Rattle.grammar.specs.Formulas.Formula.{lr_attributed}
+use Rattle.grammar.specs.Formulas.Formula.{LrAttributed}
 use Rattle.grammar.specs.Formulas.ChainLaws.{chain-partial, chain-to, OneFormula}
 use Rattle.grammar.specs.Automaton.FirstSets.{Sets, sets_of}
 use Rattle.grammar.specs.Automaton.ReachSets.{reach_sets}
@@ -126,7 +126,7 @@ module _ (b : Book) (member : ℕ → ℕ → Bool) where
 
 module _ {b : Book} {F : Sets} {R : List ℕ} (right : ItemsRight b F R) (H : FormulaPremises b) (L : DefinitionPremises b)
     (members : ℕ → ℕ → ℕ → ℕ → Bool) (tells : (S a : ℕ) → S < b.states → a ≤ b.terminals → Tells b S a (members S a)) where
-  pub check_all-decides : Decides (check_all b members) (lr_attributed b)
+  pub check_all-decides : Decides (check_all b members) (LrAttributed b)
   unfolding check_all
   check_all-decides =
       equivalent everywhere (λ h S l a m. h S a) (below-decides b.states λ S l. below-decides (suc b.terminals) λ a m. one S a l (omega arith))
@@ -135,7 +135,7 @@ module _ {b : Book} {F : Sets} {R : List ℕ} (right : ItemsRight b F R) (H : Fo
       one S a l m = check-decides b H L S a _ (partial-items right S a) (members S a) (tells S a l m)
 
       -- there are chains only at the states and terminals of the book
-      everywhere : ((S : ℕ) → S < b.states → (a : ℕ) → a < suc b.terminals → OneFormula b S a) → lr_attributed b
+      everywhere : ((S : ℕ) → S < b.states → (a : ℕ) → a < suc b.terminals → OneFormula b S a) → LrAttributed b
       everywhere h S a P D c P' D' c' B K β β' chain =
           let terminal : a ≤ b.terminals = H.chain_terminal S a P D c chain in
           h S (H.chain_state S a P D c chain) a (omega arith) P D c P' D' c' B K β β' chain

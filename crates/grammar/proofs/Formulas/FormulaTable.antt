@@ -1,4 +1,4 @@
--- The formulas in the tables of a book that is lr_attributed: what stands at a state, a terminal and an attribute is the formula of a chain, and every
+-- The formulas in the tables of a book that is LR-attributed: what stands at a state, a terminal and an attribute is the formula of a chain, and every
 -- chain's formula stands there. Assumes what is right about the book's sets (ItemsRight) and conditions 3 to 5 and 7 (FormulaPremises).
 use Prim.Native.Nat.{ℕ, zero, suc, ◌≤◌, ◌<◌}
 use native.Mathlib.Omega.{arith}
@@ -10,7 +10,7 @@ use mathlib.Core.List.{List, [], ◌∷◌}
 use Rattle.grammar.specs.Data.Symbol.{Symbol, nonterminal, after}
 use Rattle.grammar.specs.Data.Book.{Book, inherited_owner}
 use Rattle.grammar.specs.Automaton.Items.{Chain}
-use Rattle.grammar.specs.Formulas.Formula.{Formula, formula, lr_attributed}
+use Rattle.grammar.specs.Formulas.Formula.{Formula, formula, LrAttributed}
 use Rattle.grammar.specs.Formulas.ChainLaws.{FromChain}
 use Rattle.grammar.specs.Automaton.FirstSets.{Sets}
 use Rattle.grammar.specs.Automaton.CoreItems.{core_items}
@@ -67,7 +67,7 @@ module _ {b : Book} {F : Sets} {R : List ℕ} (right : ItemsRight b F R) (H : Fo
   chain-at : {S a P D c : ℕ} → Chain b S a P D c → (K : ℕ) → formula_at (formula_table b F R) S a K ≡ slot_at (slots_of b (partial_at b F R S a)) K
   chain-at {S} {a} {P} {D} {c} chain K = formula-at b F R S a K (H.chain_state S a P D c chain) (H.chain_terminal S a P D c chain)
 
-  module _ (attributed : lr_attributed b) where
+  module _ (attributed : LrAttributed b) where
     -- what stands is the formula of a chain that ends before the owner
     pub formula-some : (S a K : ℕ) (f : Formula) → formula_at (formula_table b F R) S a K ≡ some f → FromChain b S a K f
     formula-some S a K f e =

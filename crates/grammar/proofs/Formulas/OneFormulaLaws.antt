@@ -1,4 +1,4 @@
--- The one-formula check over the tables decides lr_attributed (10): "all chains of one partial state that end before the same nonterminal give each of
+-- The one-formula check over the tables decides LR-attributed (10): "all chains of one partial state that end before the same nonterminal give each of
 -- its attributes the same formula". Assumes what is right about the book's sets (ItemsRight) and conditions 3 to 5 and 7 (FormulaPremises).
 use Prim.Native.Nat.{ℕ, zero, suc, ◌+◌, ◌≤◌, ◌<◌, zero-le}
 use Rattle.std.proofs.Common.{arith}
@@ -6,7 +6,7 @@ use Rattle.std.proofs.Math.Decide.{ℕ_discrete}
 use Rattle.std.specs.Prelude.{◌≡◌, Bool, true, false, List}
 use Rattle.grammar.specs.Conditions.Decides.{Decides, true-decides, equivalent, then-decides}
 use Rattle.grammar.specs.Data.Book.{Book}
-use Rattle.grammar.specs.Formulas.Formula.{lr_attributed}
+use Rattle.grammar.specs.Formulas.Formula.{LrAttributed}
 use Rattle.grammar.specs.Formulas.ChainLaws.{OneFormula}
 use Rattle.grammar.specs.Automaton.FirstSets.{Sets}
 use Rattle.grammar.specs.Automaton.CoreItems.{core_items}
@@ -55,12 +55,12 @@ module _ {b : Book} {F : Sets} {R : List ℕ} (right : ItemsRight b F R) (H : Fo
   states-decide i (suc n) = from_next i n (one_formula_in-decides i 0 (suc b.terminals)) (states-decide (suc i) n)
 
   -- 10
-  pub one_formula-decides : Decides (one_formula b (parts_table b F R (items_table b F))) (lr_attributed b)
+  pub one_formula-decides : Decides (one_formula b (parts_table b F R (items_table b F))) (LrAttributed b)
   unfolding items_table
   one_formula-decides = equivalent everywhere (λ h S p l a q m. h S a) (states-decide 0 b.states)
     where
       -- there are chains only at the states and terminals of the book
-      everywhere : From EachTerminal 0 b.states → lr_attributed b
+      everywhere : From EachTerminal 0 b.states → LrAttributed b
       everywhere h S a P D c P' D' c' B K β β' chain =
           let state : S < b.states = H.chain_state S a P D c chain in
           let terminal : a ≤ b.terminals = H.chain_terminal S a P D c chain in

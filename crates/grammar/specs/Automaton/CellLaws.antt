@@ -125,9 +125,9 @@ module _ (G : List Rule) (a : ℕ) where
 
 module _ {Given : Action → Type 0} where
   pub one_at_most : {cell : Cell} → Sums Given cell → cell ≢ conflict → (x y : Action) → Given x → Given y → x ≡ y
-  one_at_most (no_action n) Free-of x y g h = absurd (n x g)
-  one_at_most (one_action g u) Free-of x y h k = u x h ∙ sym (u y k)
-  one_at_most (two_actions g h n) Free-of x y k l = absurd (Free-of refl)
+  one_at_most (no_action n) free_of x y g h = absurd (n x g)
+  one_at_most (one_action g u) free_of x y h k = u x h ∙ sym (u y k)
+  one_at_most (two_actions g h n) free_of x y k l = absurd (free_of refl)
 
   pub not-conflict : {cell : Cell} → Sums Given cell → ((x y : Action) → Given x → Given y → x ≡ y) → cell ≢ conflict
   not-conflict (no_action n) one e = let z : ◌≡◌ {A = ℕ} 0 1 = cc in omega arith
@@ -142,6 +142,6 @@ module _ {Given : Action → Type 0} where
 
   pub given-found : {cell : Cell} → Sums Given cell → cell ≢ conflict → (x : Action) → Given x → action_of cell ≡ some x
   unfolding action_of
-  given-found (no_action n) Free-of x g = absurd (n x g)
-  given-found (one_action g u) Free-of x h = rw (u x h)
-  given-found (two_actions g h n) Free-of x k = absurd (Free-of refl)
+  given-found (no_action n) free_of x g = absurd (n x g)
+  given-found (one_action g u) free_of x h = rw (u x h)
+  given-found (two_actions g h n) free_of x k = absurd (free_of refl)

@@ -14,7 +14,7 @@ use mathlib.Core.List.Memᴰ.{append_left}
 use mathlib.Core.List.Memᴰ.{append_right}
 use mathlib.Core.List.Memᴰ.{cast}
 use Rattle.sets.specs.Sets.{bit}
-use Rattle.sets.proofs.Bits.{below_suc}
+use Rattle.sets.specs.Bits.{below_suc}
 use Rattle.grammar.specs.Automaton.Members.{some-not-none, member}
 use Rattle.grammar.specs.Data.Symbol.{Rule, left_of}
 use Rattle.grammar.specs.Data.Book.{Book, Kernel}

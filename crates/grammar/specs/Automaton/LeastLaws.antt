@@ -10,7 +10,7 @@ use Rattle.std.proofs.lemmas.List.{length-replicate, set-get_or}
 use Rattle.std.proofs.Math.Seq.{get_or-set_same, get_or-set_other}
 use Rattle.std.proofs.lemmas.Bool.{eqb-false}
 use Rattle.sets.specs.Sets.{bit, union}
-use Rattle.sets.proofs.Bits.{below_suc}
+use Rattle.sets.specs.Bits.{below_suc}
 use Rattle.sets.proofs.SetsLaws.{bit-lt, union-lt, union_left, union_right, union-either, union_more}
 use Rattle.grammar.specs.Automaton.Fixpoint.{set_at, same_sets, Constraint, visit, visits, least}
 use Rattle.grammar.specs.Automaton.TestLaws.{true-false}

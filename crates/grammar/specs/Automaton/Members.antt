@@ -4,7 +4,7 @@ use Rattle.std.specs.Prelude.{ℕ, ◌^◌, ◌<◌, ◌≡◌, refl, Bool, true
 use Rattle.std.proofs.Common.{sym, ◌∙◌, arith, eq-eqb, eqb-true}
 use Rattle.sets.specs.Sets.{bit, empty, single, exists}
 use Rattle.sets.proofs.SetsLaws.{bit-empty, bit-single}
-use Rattle.sets.proofs.Bits.{bits-le, exists-holds, exists-true}
+use Rattle.sets.specs.Bits.{bits-le, exists-holds, exists-true}
 use Rattle.grammar.specs.Automaton.TestLaws.{true-false}
 
 pub none_in : {C : Type 0} (a : ℕ) → bit 0 a ≡ true → C

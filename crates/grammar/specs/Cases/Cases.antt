@@ -1,5 +1,5 @@
 -- The cases: 01's starred edges, and small books that tell an engine with one of 01's plausible slips from a right one. One table, and one proof over
--- it (CasesProof.antt). Assumes nothing.
+-- it (proofs/Cases/CasesProof.antt). Assumes nothing.
 use Rattle.std.specs.Prelude.{ℕ, zero, suc, ◌-◌, ◌≡◌, Bool, true, false, ◌&&◌, List, [], ◌∷◌, ◌++◌, eqb, leb, length, replicate}
 use Prim.Native.String.{String}
 use Rattle.std.proofs.Math.Option.{none, some}

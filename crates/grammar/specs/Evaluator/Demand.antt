@@ -1,4 +1,4 @@
--- Demand 3: what the stack evaluator (Machine.antt) answers on any list of the book's tokens. This file only states it; DemandProof.antt proves it.
+-- Demand 3: what the stack evaluator (Machine.antt) answers on any list of the book's tokens, stated alone; proofs/Evaluator/DemandProof.antt proves it.
 -- Trees and their values (Tree.antt, Decorated.antt) know nothing of states and stacks. Assumes nothing.
 use Rattle.std.specs.Prelude.{◌-◌, ◌*◌, ◌≤◌, ◌≡◌, ◌↔◌, List, length, drop, replicate}
 use Rattle.grammar.specs.Limits.{MAX_ROWS, ROW_WORDS, PAGE_WORDS, MAX_STACK}

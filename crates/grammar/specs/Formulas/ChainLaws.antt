@@ -28,7 +28,7 @@ module _ (b : Book) where
     from_chain : {P D c : ℕ} {β : List Symbol} (chain : Chain b S a P D c) → after b.rules P D ≡ nonterminal (inherited_owner b K) ∷ β
         → formula b chain K ≡ f → FromChain S a K f
 
-  -- all chains of (S, a) that end before the same nonterminal give each of its attributes the same formula; lr_attributed says it of every (S, a)
+  -- all chains of (S, a) that end before the same nonterminal give each of its attributes the same formula; LrAttributed says it of every (S, a)
   abbrev pub OneFormula : ℕ → ℕ → Type 0
   OneFormula S a = (P D c P' D' c' B K : ℕ) (β β' : List Symbol) (chain : Chain b S a P D c) (chain' : Chain b S a P' D' c')
       → after b.rules P D ≡ nonterminal B ∷ β → after b.rules P' D' ≡ nonterminal B ∷ β' → inherited_owner b K ≡ B

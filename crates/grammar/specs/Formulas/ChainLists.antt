@@ -8,7 +8,7 @@ use mathlib.Core.List.{List, [], ◌∷◌}
 use Rattle.grammar.specs.Data.Symbol.{Symbol, nonterminal, after}
 use Rattle.grammar.specs.Data.Book.{Book, inherited_owner}
 use Rattle.grammar.specs.Automaton.Items.{Derives, Reaches, KernelItem, Partial, Chain, one, longer}
-use Rattle.grammar.specs.Formulas.Formula.{Formula, gives, own_below, formula, lr_attributed}
+use Rattle.grammar.specs.Formulas.Formula.{Formula, gives, own_below, formula, LrAttributed}
 use Rattle.grammar.specs.Formulas.ChainLaws.{chain-partial}
 
 pub record Item : Type 0 where
@@ -82,8 +82,8 @@ module _ (b : Book) where
       λ h. let (chain, e) = chained (item P D c) h.0 h.1 in (chain, e K ∙ h.2),
     )
 
-  -- "lr_attributed: all chains of one partial state that end before the same nonterminal give each of its attributes the same formula"
-  pub lr-attributed-lists : lr_attributed b
+  -- "LR-attributed: all chains of one partial state that end before the same nonterminal give each of its attributes the same formula"
+  pub lr-attributed-lists : LrAttributed b
       ↔ ((S a B K : ℕ) (i j : Item) (l m : List Item) (β γ : List Symbol) → ChainList S a (i ∷ l) → ChainList S a (j ∷ m)
       → after b.rules i.rule i.dot ≡ nonterminal B ∷ β → after b.rules j.rule j.dot ≡ nonterminal B ∷ γ → inherited_owner b K ≡ B
       → list_formula i l K ≡ list_formula j m K)

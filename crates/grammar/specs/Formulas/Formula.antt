@@ -45,9 +45,9 @@ module _ (b : Book) where
   formula (one {P = P} {D = D} h r) K = gives P D (own_below D) K
   formula (longer {Q = Q} chain e r) K = gives Q 0 (formula chain) K
 
-  -- "lr_attributed: all chains of one partial state that end before the same nonterminal give each of its attributes the same formula"
-  abbrev pub lr_attributed : Type 0
-  lr_attributed = (S a P D c P' D' c' B K : ℕ) (β β' : List Symbol) (chain : Chain b S a P D c) (chain' : Chain b S a P' D' c')
+  -- "LR-attributed: all chains of one partial state that end before the same nonterminal give each of its attributes the same formula"
+  abbrev pub LrAttributed : Type 0
+  LrAttributed = (S a P D c P' D' c' B K : ℕ) (β β' : List Symbol) (chain : Chain b S a P D c) (chain' : Chain b S a P' D' c')
       → after b.rules P D ≡ nonterminal B ∷ β → after b.rules P' D' ≡ nonterminal B ∷ β' → inherited_owner b K ≡ B → formula chain K ≡ formula chain' K
 
 -- opens every definition of this module

@@ -1,5 +1,5 @@
 use native.Mathlib.Omega.{arith}
-use Rattle.sets.proofs.Bits.{below_suc}
+use Rattle.sets.specs.Bits.{below_suc}
 use Rattle.agreement.specs.SingleState.{Single}
 use Rattle.agreement.proofs.single.states_single.Goals as goal
 

@@ -1,7 +1,8 @@
 use mathlib.Core.Bool.{not}
-use Prim.Native.Nat.{ℕ, ◌<◌}
+use Prim.Native.Nat.{ℕ}
 use mathlib.Core.Path.{◌≡◌, refl, sym, ap, ◌∙◌}
 use mathlib.Core.Bool.{Bool}
+use mathlib.Core.List.{List}
 use native.Mathlib.Omega.{arith}
 use Rattle.grammar.specs.Data.Book.{Book}
 use Rattle.grammar.specs.Formulas.FormulaCheck as grammar
@@ -10,61 +11,54 @@ use Rattle.agreement.specs.CheckLaws.{all_start, all-turn, one-fails}
 use Rattle.agreement.specs.Alike.{right-start, right-more}
 use Rattle.attributes.specs.Wanted.{check-single}
 use Rattle.agreement.proofs.check.parts_right.Goals as goal
+use Rattle.agreement.proofs.check.parts_right.Goals.{After-check}
+
+-- the check of a terminal
+abbrev answer : List ℕ → Book → ℕ → Bool
+answer masks b a = grammar.check b (member_of masks a)
+
+-- that of a turn, of the terminal's items alone
+told : (c : After-check) (b : Book) → CheckHeld b c.args.definitions.now c.args.rules.now c.args.owned.now c.args.masks.now
+    → c.args.lines ≡ grammar.definitions b → c.check.result ≡ answer c.args.masks.now b c.loop-a.a
+told c b H e =
+    c.check.ensures b H e ∙ ap (λ (set : ℕ). grammar.check b (member_in c.args.masks.now set)) c.single.ensures
+    ∙ check-single b c.args.masks.now c.loop-a.a (omega (arith, c.loop-a-test.true, c.requires.1))
 
 pub loop-a-init : goal.loop-a-init
 loop-a-init c = (omega arith, refl, refl, refl, refl, refl, λ b H e. all_start _, λ b H e. right-start b c.args.masks.now)
 
 pub loop-a-preserved-then-has : goal.loop-a-preserved-then-has
-loop-a-preserved-then-has c =
-    let answer : Book → ℕ → Bool = λ b a. grammar.check b (member_of c.args.masks.now a) in
-    let low : c.loop-a.a < 32 = omega (arith, c.loop-a-test.true, c.requires.1) in (
-      omega (arith, c.loop-a-test.true),
-      c.loop-a.invariant.1,
-      c.loop-a.invariant.2,
-      c.loop-a.invariant.3,
-      c.loop-a.invariant.4,
-      c.loop-a.invariant.5,
-      λ b H e.
-          all-turn (answer b) c.loop-a.a (c.loop-a.invariant.6 b H e)
-          (sym (c.loop-a.invariant.7 b H e c.loop-a.a (low) (sym c.has.ensures ∙ c.if-has.true))) refl,
-      c.loop-a.invariant.7,
-    )
+loop-a-preserved-then-has c = (
+  omega (arith, c.loop-a-test.true),
+  c.loop-a.invariant.1,
+  c.loop-a.invariant.2,
+  c.loop-a.invariant.3,
+  c.loop-a.invariant.4,
+  c.loop-a.invariant.5,
+  λ b H e.
+      all-turn (answer c.args.masks.now b) c.loop-a.a (c.loop-a.invariant.6 b H e)
+      (sym (c.loop-a.invariant.7 b H e c.loop-a.a (omega (arith, c.loop-a-test.true, c.requires.1)) (sym c.has.ensures ∙ c.if-has.true))) refl,
+  c.loop-a.invariant.7,
+)
 
 pub returns-then-not-check : goal.returns-then-not-check
 returns-then-not-check c =
-    let answer : Book → ℕ → Bool = λ b a. grammar.check b (member_of c.args.masks.now a) in
-    let low : c.loop-a.a < 32 = omega (arith, c.loop-a-test.true, c.requires.1) in
-    let told : (b : Book)
-    → CheckHeld b c.args.definitions.now c.args.rules.now c.args.owned.now
-    c.args.masks.now → c.args.lines ≡ grammar.definitions b
-    → c.check.result ≡ answer b c.loop-a.a = λ b H e. c.check.ensures b H e
-    ∙ ap (λ (set : ℕ). grammar.check b (member_in c.args.masks.now set))
-    c.single.ensures
-    ∙ check-single b c.args.masks.now c.loop-a.a (low) in
     λ b H e t.
-    one-fails (answer b) c.loop-a.a _ (omega (arith, c.loop-a-test.true, t)) (told b H e) (ap not c.if-not-check.true)
+    one-fails (answer c.args.masks.now b) c.loop-a.a _ (omega (arith, c.loop-a-test.true, t)) (told (goal.at.returns-then-not-check c).After-check b H e) (ap not c.if-not-check.true)
 
 pub loop-a-preserved : goal.loop-a-preserved
 loop-a-preserved c =
-    let answer : Book → ℕ → Bool = λ b a. grammar.check b (member_of c.args.masks.now a) in
-    let low : c.loop-a.a < 32 = omega (arith, c.loop-a-test.true, c.requires.1) in
-    let told : (b : Book)
-    → CheckHeld b c.args.definitions.now c.args.rules.now c.args.owned.now
-    c.args.masks.now → c.args.lines ≡ grammar.definitions b
-    → c.check.result ≡ answer b c.loop-a.a = λ b H e. c.check.ensures b H e
-    ∙ ap (λ (set : ℕ). grammar.check b (member_in c.args.masks.now set))
-    c.single.ensures
-    ∙ check-single b c.args.masks.now c.loop-a.a (low) in (
+    let here = (goal.at.loop-a-preserved c).After-check in (
       omega (arith, c.loop-a-test.true),
       c.check.auto.slots ∙ c.loop-a.invariant.1,
       c.check.auto.done ∙ c.loop-a.invariant.2,
       c.check.auto.table ∙ c.loop-a.invariant.3,
       c.check.auto.heads ∙ c.loop-a.invariant.4,
       c.check.auto.nexts ∙ c.loop-a.invariant.5,
-      λ b H e. all-turn (answer b) c.loop-a.a (c.loop-a.invariant.6 b H e) (told b H e) (ap not c.if-not-check.false),
+      λ b H e. all-turn (answer c.args.masks.now b) c.loop-a.a (c.loop-a.invariant.6 b H e) (told here b H e) (ap not c.if-not-check.false),
       λ b H e.
           rw c.union-right.ensures
           (right-more b c.args.masks.now c.loop-a.right c.alike-more.result c.loop-a.a (c.loop-a.invariant.7 b H e)
-          (sym (told b H e) ∙ c.if-not-check.false)
+          (sym (told here b H e) ∙ c.if-not-check.false)
           (c.alike-more.ensures b c.args.rules.now c.args.owned.now H e)),
     )

@@ -4,6 +4,13 @@ use Rattle.automaton.specs.StatesIn.{KernelLow, kernel-low, state-range}
 use Rattle.automaton.specs.Advances.{kernel-stands}
 use Rattle.automaton.specs.ActionItems.{kernels-none, kernels-more, kernels-fail, kernels-all, line-there}
 use Rattle.automaton.proofs.actions.kernels_act.Goals as goal
+use Rattle.automaton.proofs.actions.kernels_act.Goals.{In-loop-i}
+
+-- the words of the line before i
+low : (c : In-loop-i) → KernelLow c.args.kernels.now
+    (c.loop-i.i - 1)
+low c = let p = c.requires in
+    kernel-low p.1.1 (c.loop-i.i - 1) (line-there c.loop-i.invariant c.loop-i-test.true p.1.0 p.1.1 p.1.2)
 
 pub loop-i-init : goal.loop-i-init
 loop-i-init c = let range = state-range c.requires.1.1 c.args.state c.requires.1.2 in
@@ -12,24 +19,15 @@ loop-i-init c = let range = state-range c.requires.1.1 c.args.state c.requires.1
 
 pub word-rule-requires : goal.word-rule-requires
 word-rule-requires c =
-    let low : KernelLow c.args.kernels.now
-    (c.loop-i.i - 1) = let p = c.requires in
-    kernel-low p.1.1 (c.loop-i.i - 1) (line-there c.loop-i.invariant c.loop-i-test.true p.1.0 p.1.1 p.1.2) in
-    omega (arith, (low).there)
+    omega (arith, (low (goal.at.word-rule-requires c).In-loop-i).there)
 
 pub word-dot-requires : goal.word-dot-requires
 word-dot-requires c =
-    let low : KernelLow c.args.kernels.now
-    (c.loop-i.i - 1) = let p = c.requires in
-    kernel-low p.1.1 (c.loop-i.i - 1) (line-there c.loop-i.invariant c.loop-i-test.true p.1.0 p.1.1 p.1.2) in
-    omega (arith, (low).there)
+    omega (arith, (low (goal.at.word-dot-requires c).In-loop-i).there)
 
 pub bounds-kernels-i : goal.bounds-kernels-i
 bounds-kernels-i c =
-    let low : KernelLow c.args.kernels.now
-    (c.loop-i.i - 1) = let p = c.requires in
-    kernel-low p.1.1 (c.loop-i.i - 1) (line-there c.loop-i.invariant c.loop-i-test.true p.1.0 p.1.1 p.1.2) in
-    omega (arith, (low).there)
+    omega (arith, (low (goal.at.bounds-kernels-i c).In-loop-i).there)
 
 pub give_item-requires : goal.give_item-requires
 give_item-requires c = let p = c.requires in

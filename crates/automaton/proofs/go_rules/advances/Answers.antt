@@ -4,26 +4,43 @@ use lib.ListN.{length, get_or}
 use Rattle.items.specs.GrammarIn.{RuleLow, rule_low}
 use Rattle.automaton.specs.Advances.{advances-complete, advances-nowhere, advances-found, target-range, target-within}
 use Rattle.automaton.proofs.go_rules.advances.Goals as goal
+use Rattle.automaton.proofs.go_rules.advances.Goals.{Else-dot-word, Else-target-eq255, Start}
+
+-- the words of the rule
+low : (c : Start) → RuleLow c.args.rules.now c.args.rule
+low c = rule_low c.requires.1.states_in.grammar_in c.args.rule c.requires.2.rule_there
+
+-- a symbol stands behind the dot
+more : (c : Else-dot-word) → c.args.dot < get_or
+    c.args.rules.now (10 * c.args.rule + 1) 0
+more c = rw c.word.ensures at c.if-dot-word.false
+
+-- the target is a state
+target : (c : Else-target-eq255) → get_or c.args.table.now
+    (64 * c.args.state + c.word-symbol.result) 0 + 1 < length
+    c.args.bounds.now
+target c =
+    let more : c.args.dot < get_or
+    c.args.rules.now (10 * c.args.rule + 1) 0 = rw c.word.ensures at c.if-dot-word.false in
+    omega (
+      arith,
+      target-within c.requires.1 c.requires.2 (more) c.word-symbol.ensures c.if-target-eq255.false,
+      c.requires.1.states_in.bounds_in.long,
+    )
 
 pub returns-then-dot-word : goal.returns-then-dot-word
 returns-then-dot-word c b h s = advances-complete h s c.args.set (rw c.word.ensures at c.if-dot-word.true)
 
 pub word-symbol-requires : goal.word-symbol-requires
 word-symbol-requires c =
-    let low : RuleLow c.args.rules.now c.args.rule = rule_low c.requires.1.states_in.grammar_in c.args.rule c.requires.2.rule_there in
-    let more : c.args.dot < get_or
-    c.args.rules.now (10 * c.args.rule + 1) 0 = rw c.word.ensures at c.if-dot-word.false in
-    omega (arith, low, more)
+    omega (arith, (low (goal.at.word-symbol-requires c).Start), (more (goal.at.word-symbol-requires c).Else-dot-word))
 
 pub bounds-table-state : goal.bounds-table-state
 bounds-table-state c =
-    let low : RuleLow c.args.rules.now c.args.rule = rule_low c.requires.1.states_in.grammar_in c.args.rule c.requires.2.rule_there in
-    let more : c.args.dot < get_or
-    c.args.rules.now (10 * c.args.rule + 1) 0 = rw c.word.ensures at c.if-dot-word.false in
     let place-low : 64 * c.args.state + c.word-symbol.result < length
     c.args.table.now = omega (
       arith,
-      (low).symbol_low c.args.dot (more),
+      (low (goal.at.bounds-table-state c).Start).symbol_low c.args.dot (more (goal.at.bounds-table-state c).Else-dot-word),
       c.word-symbol.ensures,
       c.requires.2.state_there,
       c.requires.1.states_in.grammar_in.limits.states_limit.high,
@@ -33,41 +50,19 @@ bounds-table-state c =
 
 pub returns-then-target-eq255 : goal.returns-then-target-eq255
 returns-then-target-eq255 c b h s =
-    let more : c.args.dot < get_or
-    c.args.rules.now (10 * c.args.rule + 1) 0 = rw c.word.ensures at c.if-dot-word.false in
-    advances-nowhere h s c.args.set (more) (rw c.word-symbol.ensures at c.if-target-eq255.true)
+    advances-nowhere h s c.args.set (more (goal.at.returns-then-target-eq255 c).Else-dot-word) (rw c.word-symbol.ensures at c.if-target-eq255.true)
 
 pub word-first-requires : goal.word-first-requires
 word-first-requires c =
-    let more : c.args.dot < get_or
-    c.args.rules.now (10 * c.args.rule + 1) 0 = rw c.word.ensures at c.if-dot-word.false in
-    let target : get_or c.args.table.now
-    (64 * c.args.state + c.word-symbol.result) 0 + 1 < length
-    c.args.bounds.now = omega (
-      arith,
-      target-within c.requires.1 c.requires.2 (more) c.word-symbol.ensures c.if-target-eq255.false,
-      c.requires.1.states_in.bounds_in.long,
-    ) in
-    omega (arith, target)
+    omega (arith, (target (goal.at.word-first-requires c).Else-target-eq255))
 
 pub word-last-requires : goal.word-last-requires
 word-last-requires c =
-    let more : c.args.dot < get_or
-    c.args.rules.now (10 * c.args.rule + 1) 0 = rw c.word.ensures at c.if-dot-word.false in
-    let target : get_or c.args.table.now
-    (64 * c.args.state + c.word-symbol.result) 0 + 1 < length
-    c.args.bounds.now = omega (
-      arith,
-      target-within c.requires.1 c.requires.2 (more) c.word-symbol.ensures c.if-target-eq255.false,
-      c.requires.1.states_in.bounds_in.long,
-    ) in
-    target
+    (target (goal.at.word-last-requires c).Else-target-eq255)
 
 pub holds_item-requires : goal.holds_item-requires
 holds_item-requires c =
-    let more : c.args.dot < get_or
-    c.args.rules.now (10 * c.args.rule + 1) 0 = rw c.word.ensures at c.if-dot-word.false in
-    let range = target-range c.requires.1 c.requires.2 (more)
+    let range = target-range c.requires.1 c.requires.2 (more (goal.at.holds_item-requires c).Else-dot-word)
     c.word-symbol.ensures c.if-target-eq255.false in (
       omega (arith, range.below, c.requires.1.states_in.kernels-in.long, c.word-last.ensures),
       omega (arith, range.ordered, c.word-first.ensures, c.word-last.ensures),
@@ -75,8 +70,6 @@ holds_item-requires c =
 
 pub returns : goal.returns
 returns c b h s =
-    let more : c.args.dot < get_or
-    c.args.rules.now (10 * c.args.rule + 1) 0 = rw c.word.ensures at c.if-dot-word.false in
-    advances-found h s (more) c.word-symbol.ensures
+    advances-found h s (more (goal.at.returns c).Else-dot-word) c.word-symbol.ensures
     c.if-target-eq255.false c.args.set c.word-first.ensures c.word-last.ensures
     c.holds_item.ensures

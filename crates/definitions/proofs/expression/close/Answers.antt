@@ -7,6 +7,11 @@ use Rattle.definitions.specs.Expressions.{WaitsRoom}
 use Rattle.definitions.specs.ExpressionsLoop.{mark-shorter, working-space, working-close}
 use borrow.Author.Rules.{rules}
 use Rattle.definitions.proofs.expression.close.Goals as goal
+use Rattle.definitions.proofs.expression.close.Goals.{In-loop-depth}
+
+-- in each turn the stack has its room, and the operator on top is in it
+waits-room : (c : In-loop-depth) → WaitsRoom c.args.text.now c.loop-depth.waits
+waits-room c = omega (arith, c.loop-depth.invariant.0, c.requires.1)
 
 pub returns-then-text-p : goal.returns-then-text-p
 returns-then-text-p c = λ first start w.
@@ -15,21 +20,19 @@ returns-then-text-p c = λ first start w.
 
 pub bounds-waits-depth : goal.bounds-waits-depth
 bounds-waits-depth c =
-    let waits-room : WaitsRoom c.args.text.now c.loop-depth.waits = omega (arith, c.loop-depth.invariant.0, c.requires.1) in
     let deep : c.loop-depth.depth - 1 < length c.loop-depth.waits = let (first, start, w) = c.requires.3 in
-    omega (arith, waits-room, c.loop-depth-test.true, (c.loop-depth.invariant.3 first start w).deep) in
+    omega (arith, (waits-room (goal.at.bounds-waits-depth c).In-loop-depth), c.loop-depth-test.true, (c.loop-depth.invariant.3 first start w).deep) in
     deep
 
 pub returns-then-code-ge16 : goal.returns-then-code-ge16
 returns-then-code-ge16 c =
-    let waits-room : WaitsRoom c.args.text.now c.loop-depth.waits = omega (arith, c.loop-depth.invariant.0, c.requires.1) in
     λ first start w.
     let inv = c.loop-depth.invariant in
     let more = inv.3 first start w in
     let within = c.if-text-p.false in
     record {
       due = true;
-      working = working-space more within refl c.loop-depth-test.true refl (waits-room) c.if-code-ge16.true c.mark.ensures;
+      working = working-space more within refl c.loop-depth-test.true refl (waits-room (goal.at.returns-then-code-ge16 c).In-loop-depth) c.if-code-ge16.true c.mark.ensures;
       ends = λ e. absurd (omega (arith, c.loop-depth-test.true));
       asks = λ d h. refl;
       shorter = omega (arith, inv.2, mark-shorter more within _ _ c.mark.ensures);

@@ -11,28 +11,31 @@ use Rattle.definitions.specs.ExpressionsLoop.{Working, asked-whole, closed-asks,
 use borrow.Author.Rules.{rules}
 use Rattle.definitions.proofs.expression.expression.Goals as goal
 use Rattle.definitions.proofs.expression.expression.Goals.{After-put_node}
+use Rattle.definitions.proofs.expression.expression.Goals.{In-loop-p}
+
+-- in each turn the stack has its room
+waits-room : (c : In-loop-p) → WaitsRoom c.args.text.now c.loop-p.waits
+waits-room c = omega (arith, c.loop-p.invariant.0, c.requires.1)
 
 pub loop-p-init : goal.loop-p-init
 loop-p-init c = (search rules, search rules, record { due = true; working = working-start _ _ _ _; asks = λ h. refl })
 
 pub bounds-waits-depth : goal.bounds-waits-depth
 bounds-waits-depth c =
-    let waits-room : WaitsRoom c.args.text.now c.loop-p.waits = omega (arith, c.loop-p.invariant.0, c.requires.1) in
-    open-fits c.loop-p.invariant.2.working c.loop-p-test.true c.begun-b.ensures c.if-b.true (waits-room)
+    open-fits c.loop-p.invariant.2.working c.loop-p-test.true c.begun-b.ensures c.if-b.true (waits-room (goal.at.bounds-waits-depth c).In-loop-p)
 
 pub loop-p-smaller-then-b : goal.loop-p-smaller-then-b
 loop-p-smaller-then-b c = begun-shorter c.loop-p.invariant.2.working c.loop-p-test.true c.begun-b.ensures
 
 pub loop-p-preserved-then-b : goal.loop-p-preserved-then-b
 loop-p-preserved-then-b c =
-    let waits-room : WaitsRoom c.args.text.now c.loop-p.waits = omega (arith, c.loop-p.invariant.0, c.requires.1) in
     let inv = c.loop-p.invariant in
     let due = inv.2.asks c.loop-p-test.true in (
       simp length-set inv.0,
       inv.1,
       record {
         due = inv.2.due;
-        working = working-open inv.2.working c.loop-p-test.true c.begun-b.ensures c.if-b.true (waits-room) due;
+        working = working-open inv.2.working c.loop-p-test.true c.begun-b.ensures c.if-b.true (waits-room (goal.at.loop-p-preserved-then-b c).In-loop-p) due;
         asks = λ h. due;
       },
     )
@@ -45,8 +48,7 @@ operand c = asked-whole c.loop-p.invariant.2 c.loop-p-test.true c.begun-b.ensure
 
 pub close-next-requires : goal.close-next-requires
 close-next-requires c =
-    let waits-room : WaitsRoom c.args.text.now c.loop-p.waits = omega (arith, c.loop-p.invariant.0, c.requires.1) in
-    (c.requires.0, waits-room, search rules, (_, _, operand (goal.at.close-next-requires c).After-put_node))
+    (c.requires.0, (waits-room (goal.at.close-next-requires c).In-loop-p), search rules, (_, _, operand (goal.at.close-next-requires c).After-put_node))
 
 pub returns-then-depth-eq0 : goal.returns-then-depth-eq0
 unfolding expression_steps

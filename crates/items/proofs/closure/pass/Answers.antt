@@ -7,19 +7,22 @@ use Rattle.items.specs.ClosurePasses.{closure-fits}
 use Rattle.items.specs.Leads.{lead-on}
 use Rattle.items.proofs.closure.pass.Goals as goal
 use Rattle.items.proofs.closure.pass.Goals.{else-visit, then-visit}
+use Rattle.items.proofs.closure.pass.Goals.{After-slice_known-1}
+
+-- the words lent are sets
+family : (c : After-slice_known-1) → Family 32 c.args.looks.now
+family c = record { long = c.requires.2; low = λ i. (c.slice_known-1.given i).fits }
 
 pub loop-rule-init : goal.loop-rule-init
 loop-rule-init c =
-    let family : Family 32 c.args.looks.now = record { long = c.requires.2; low = λ i. (c.slice_known-1.given i).fits } in
-    let sets = family in
+    let sets = (family (goal.at.loop-rule-init c).After-slice_known-1) in
     λ b F H e. lead-on H c.requires.1 e sets (pass-begins (closure-fits H e sets))
 
 pub loop-rule-preserved : goal.loop-rule-preserved
 loop-rule-preserved c =
-    let family : Family 32 c.args.looks.now = record { long = c.requires.2; low = λ i. (c.slice_known-1.given i).fits } in
     let h = c.loop-rule-test.true in
     let told = c.visit.ensures in
-    let sets = family in
+    let sets = (family (goal.at.loop-rule-preserved c).After-slice_known-1) in
     let leads = c.requires.1 in
     λ b F H e.
     let fits = closure-fits H e sets in

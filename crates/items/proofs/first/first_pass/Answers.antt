@@ -6,27 +6,27 @@ use Rattle.items.specs.GrammarOf.{grammar_of}
 use Rattle.items.specs.Searches.{first_fits}
 use Rattle.items.specs.Turned.{descent-begins, descent-more, descent-same}
 use Rattle.items.proofs.first.first_pass.Goals as goal
+use Rattle.items.proofs.first.first_pass.Goals.{After-slice_known-1}
+
+-- the rules fit the laws of passes
+fits : (c : After-slice_known-1) → Fits (first_rule (grammar_of c.args.rules.now c.args.count) c.args.nulls)
+    c.args.count c.args.firsts.now
+fits c = first_fits c.requires.0 _ (record { long = c.requires.1; low = λ i. (c.slice_known-1.given i).fits })
 
 pub loop-p-init : goal.loop-p-init
 loop-p-init c =
-    let fits : Fits (first_rule (grammar_of c.args.rules.now c.args.count) c.args.nulls)
-    c.args.count c.args.firsts.now = first_fits c.requires.0 _ (record { long = c.requires.1; low = λ i. (c.slice_known-1.given i).fits }) in
-    descent-begins (fits)
+    descent-begins (fits (goal.at.loop-p-init c).After-slice_known-1)
 
 pub loop-p-preserved-then-give : goal.loop-p-preserved-then-give
 loop-p-preserved-then-give c =
-    let fits : Fits (first_rule (grammar_of c.args.rules.now c.args.count) c.args.nulls)
-    c.args.count c.args.firsts.now = first_fits c.requires.0 _ (record { long = c.requires.1; low = λ i. (c.slice_known-1.given i).fits }) in
     let a = c.args in
-    descent-more (fits) c.loop-p.invariant c.loop-p-test.true
+    descent-more (fits (goal.at.loop-p-preserved-then-give c).After-slice_known-1) c.loop-p.invariant c.loop-p-test.true
     (first-told a.rules.now a.count a.nulls (omega (arith, c.loop-p.invariant.within)) c.left.ensures
     c.first_right-more.ensures c.give.ensures) c.if-give.true
 
 pub loop-p-preserved : goal.loop-p-preserved
 loop-p-preserved c =
-    let fits : Fits (first_rule (grammar_of c.args.rules.now c.args.count) c.args.nulls)
-    c.args.count c.args.firsts.now = first_fits c.requires.0 _ (record { long = c.requires.1; low = λ i. (c.slice_known-1.given i).fits }) in
     let a = c.args in
-    descent-same (fits) c.loop-p.invariant c.loop-p-test.true
+    descent-same (fits (goal.at.loop-p-preserved c).After-slice_known-1) c.loop-p.invariant c.loop-p-test.true
     (first-told a.rules.now a.count a.nulls (omega (arith, c.loop-p.invariant.within)) c.left.ensures
     c.first_right-more.ensures c.give.ensures) c.if-give.false

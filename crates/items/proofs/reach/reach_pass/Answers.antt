@@ -9,21 +9,22 @@ use Rattle.items.specs.ReachLoops.{nulls-of, rests_in, rests-there, reach-told}
 use Rattle.items.specs.Searches.{reach-fits}
 use Rattle.items.proofs.reach.reach_pass.Goals as goal
 use Rattle.items.proofs.reach.reach_pass.Goals.{else-give, then-give}
+use Rattle.items.proofs.reach.reach_pass.Goals.{After-slice_known-1}
+
+fits : (c : After-slice_known-1)
+    → Fits (reach_rule (grammar_of c.args.rules.now c.args.count) (sets_of (grammar_of c.args.rules.now c.args.count))) c.args.count c.args.reached.now
+fits c = reach-fits c.requires.0.fits _ (record { long = c.requires.1; low = λ i. (c.slice_known-1.given i).fits })
 
 pub loop-p-init : goal.loop-p-init
 loop-p-init c =
-    let fits : let a = c.args in
-    Fits (reach_rule (grammar_of a.rules.now a.count) (sets_of (grammar_of a.rules.now a.count))) a.count a.reached.now = reach-fits c.requires.0.fits _ (record { long = c.requires.1; low = λ i. (c.slice_known-1.given i).fits }) in
-    pass-begins (fits)
+    pass-begins (fits (goal.at.loop-p-init c).After-slice_known-1)
 
 pub reach_rest-more-requires : goal.reach_rest-more-requires
 reach_rest-more-requires c = let S = c.requires.0 in record { rule_fits = (S.fits.rule_fits c.loop-p.p c.loop-p-test.true, omega arith, c.loop-p.invariant.family.long ∙ c.requires.1); p_in_bounds = rests-there S c.loop-p.p c.loop-p-test.true }
 
 pub loop-p-preserved : goal.loop-p-preserved
 loop-p-preserved c =
-    let fits : let a = c.args in
-    Fits (reach_rule (grammar_of a.rules.now a.count) (sets_of (grammar_of a.rules.now a.count))) a.count a.reached.now = reach-fits c.requires.0.fits _ (record { long = c.requires.1; low = λ i. (c.slice_known-1.given i).fits }) in
-    let F = fits in
+    let F = fits (goal.at.loop-p-preserved c).After-slice_known-1 in
     let S = c.requires.0 in
     let h = c.loop-p-test.true in
     let told = reach-told S h c.left.ensures

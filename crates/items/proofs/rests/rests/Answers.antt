@@ -4,6 +4,14 @@ use Rattle.items.specs.GrammarOf.{grammar-fits}
 use Rattle.items.specs.ReachLoops.{SetsIn}
 use Rattle.items.specs.RestSets.{sets-in, rest-sets-in, living-reaches-in}
 use Rattle.items.proofs.rests.rests.Goals as goal
+use Rattle.items.proofs.rests.rests.Goals.{After-suffixes}
+
+-- what is there by then
+prepared : (c : After-suffixes) → SetsIn c.args.rules.now c.args.count c.nullable-nulls.result
+    c.suffixes.new.nullables c.suffixes.new.begins
+prepared c = sets-in (grammar-fits c.requires.grammar_held.1) c.nullable-nulls.ensures
+    c.first_sets.ensures
+    c.suffixes.ensures.0
 
 pub nullable-nulls-requires : goal.nullable-nulls-requires
 nullable-nulls-requires c = grammar-fits c.requires.grammar_held.1
@@ -16,26 +24,15 @@ suffixes-requires c = record { grammar_fits = (grammar-fits c.requires.grammar_h
 
 pub reach-requires : goal.reach-requires
 reach-requires c =
-    let prepared : SetsIn c.args.rules.now c.args.count c.nullable-nulls.result
-    c.suffixes.new.nullables c.suffixes.new.begins = sets-in (grammar-fits c.requires.grammar_held.1) c.nullable-nulls.ensures
-    c.first_sets.ensures
-    c.suffixes.ensures.0 in
-    (prepared, c.requires.count_in_bounds.2)
+    ((prepared (goal.at.reach-requires c).After-suffixes), c.requires.count_in_bounds.2)
 
 pub returns-then-suffixes : goal.returns-then-suffixes
 returns-then-suffixes c =
-    let prepared : SetsIn c.args.rules.now c.args.count c.nullable-nulls.result
-    c.suffixes.new.nullables c.suffixes.new.begins = sets-in (grammar-fits c.requires.grammar_held.1) c.nullable-nulls.ensures
-    c.first_sets.ensures
-    c.suffixes.ensures.0 in
-    rest-sets-in (prepared)
-    (living-reaches-in (prepared) c.first_sets.ensures (c.suffixes.ensures.1 c.if-suffixes.true)
+    let here = (goal.at.returns-then-suffixes c).After-suffixes in
+    rest-sets-in (prepared here)
+    (living-reaches-in (prepared here) c.first_sets.ensures (c.suffixes.ensures.1 c.if-suffixes.true)
     (omega (arith, c.copy.auto.to, c.requires.count_in_bounds.2)) c.copy.ensures)
 
 pub returns-else-suffixes : goal.returns-else-suffixes
 returns-else-suffixes c =
-    let prepared : SetsIn c.args.rules.now c.args.count c.nullable-nulls.result
-    c.suffixes.new.nullables c.suffixes.new.begins = sets-in (grammar-fits c.requires.grammar_held.1) c.nullable-nulls.ensures
-    c.first_sets.ensures
-    c.suffixes.ensures.0 in
-    rest-sets-in (prepared) c.reach.ensures
+    rest-sets-in (prepared (goal.at.returns-else-suffixes c).After-suffixes) c.reach.ensures

@@ -5,11 +5,15 @@ use Rattle.attributes.specs.CheckingLaws.{position_low, position_high, place_is}
 use Rattle.plans.specs.LinesAdded.{adding-more}
 use Rattle.plans.specs.Found.{each_more}
 use Rattle.plans.proofs.members.item_lines.Goals as goal
+use Rattle.plans.proofs.members.item_lines.Goals.{In-loop-line}
+
+-- the line is one of the book
+there : (c : In-loop-line) → c.loop-line.line < grammar.definitions c.requires.0.0
+there c = omega (arith, c.loop-line-test.true, c.requires.0.5)
 
 pub returns-then-word-place : goal.returns-then-word-place
 returns-then-word-place c =
-    let there : c.loop-line.line < grammar.definitions c.requires.0.0 = omega (arith, c.loop-line-test.true, c.requires.0.5) in
-    let high : c.word-in-loop-line.result ≤ 8 = omega (arith, c.word-in-loop-line.ensures, position_high c.requires.0.4 (there)) in
+    let high : c.word-in-loop-line.result ≤ 8 = omega (arith, c.word-in-loop-line.ensures, position_high c.requires.0.4 (there (goal.at.returns-then-word-place c).In-loop-line)) in
     λ b rules owned masks H e.
     let at = c.loop-line in
     record {
@@ -24,8 +28,7 @@ returns-then-word-place c =
 
 pub loop-line-preserved : goal.loop-line-preserved
 loop-line-preserved c =
-    let there : c.loop-line.line < grammar.definitions c.requires.0.0 = omega (arith, c.loop-line-test.true, c.requires.0.5) in
-    let few : c.loop-line.line < 128 = omega (arith, there, c.requires.0.4.premises.definitions_limit) in
+    let few : c.loop-line.line < 128 = omega (arith, (there (goal.at.loop-line-preserved c).In-loop-line), c.requires.0.4.premises.definitions_limit) in
     let at = c.loop-line in (
       omega (arith, c.loop-line-test.true),
       adding-more at.invariant.1 (few) c.add.ensures,

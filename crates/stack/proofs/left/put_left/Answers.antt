@@ -5,25 +5,28 @@ use lib.ListN.{length, get_or}
 use Rattle.stack.specs.LeftLines.{left-putting}
 use Rattle.stack.specs.LeftMove.{left-ready, left-deep, left-room, left-owner, left-state-there, left-asked, left-reducing, left-pushed}
 use Rattle.stack.proofs.left.put_left.Goals as goal
+use Rattle.stack.proofs.left.put_left.Goals.{After-word-size, Start}
+
+rule_place : (c : Start) → 10 * c.args.rule + 10 ≤ length c.args.rules.now
+rule_place c = (left-ready c.requires.left_asked.3).rule_place
+
+deep : (c : After-word-size) → c.word-size.result ≤ c.args.top.depth
+deep c = left-deep c.requires.left_asked.3 c.word-size.ensures c.word-owner.ensures
 
 pub word-owner-requires : goal.word-owner-requires
 word-owner-requires c =
-    let rule_place : 10 * c.args.rule + 10 ≤ length c.args.rules.now = (left-ready c.requires.left_asked.3).rule_place in
-    omega (arith, rule_place)
+    omega (arith, (rule_place (goal.at.word-owner-requires c).Start))
 
 pub word-size-requires : goal.word-size-requires
 word-size-requires c =
-    let rule_place : 10 * c.args.rule + 10 ≤ length c.args.rules.now = (left-ready c.requires.left_asked.3).rule_place in
-    omega (arith, rule_place)
+    omega (arith, (rule_place (goal.at.word-size-requires c).Start))
 
 pub overflow_sub-below : goal.overflow_sub-below
 overflow_sub-below c =
-    let deep : c.word-size.result ≤ c.args.top.depth = left-deep c.requires.left_asked.3 c.word-size.ensures c.word-owner.ensures in
-    omega (arith, deep)
+    omega (arith, (deep (goal.at.overflow_sub-below c).After-word-size))
 
 pub node_values-requires : goal.node_values-requires
 node_values-requires c =
-    let deep : c.word-size.result ≤ c.args.top.depth = left-deep c.requires.left_asked.3 c.word-size.ensures c.word-owner.ensures in
     let room : c.args.top.depth - c.word-size.result < length c.args.starts.now = left-room c.requires.left_asked.3 c.word-size.ensures c.word-owner.ensures in
     let A = c.requires.left_asked.3 in
     let R = c.requires.stacks in record {
@@ -32,7 +35,7 @@ node_values-requires c =
           cells_long = omega (arith, R.1, (left-ready A).depth_low);
           records_long = omega (arith, R.0.synthesized_long, (left-ready A).depth_low);
         },
-        deep,
+        (deep (goal.at.node_values-requires c).After-word-size),
         refl,
       );
       node_asked = (c.requires.left_asked.0, left-asked A c.word-size.ensures c.word-owner.ensures);

@@ -3,6 +3,16 @@ use native.Mathlib.Omega.{arith}
 use lib.ListN.{get_or}
 use Rattle.stack.specs.Lists.{Listable, ListsBelow, lists-none, turn-owner, turn-count, turn-listed, lists-done}
 use Rattle.stack.proofs.lists.fill_lists.Goals as goal
+use Rattle.stack.proofs.lists.fill_lists.Goals.{In-loop-i}
+
+held : (c : In-loop-i) → Listable c.requires.0.0 c.requires.0.1 c.args.owners.now c.args.count
+held c = c.requires.0.2
+
+known : (c : In-loop-i) → ListsBelow c.requires.0.1 c.loop-i.i c.loop-i.lists
+known c = c.loop-i.invariant.1 _ _ (held c)
+
+room : (c : In-loop-i) → get_or c.loop-i.lists (5 * get_or c.args.owners.now c.loop-i.i 0) 0 < 4
+room c = turn-count (held c) (known c) c.loop-i-test.true
 
 pub loop-i-init : goal.loop-i-init
 loop-i-init c =
@@ -10,24 +20,16 @@ loop-i-init c =
 
 pub bounds-lists-head-in-loop-i : goal.bounds-lists-head-in-loop-i
 bounds-lists-head-in-loop-i c =
-    let held : Listable c.requires.0.0 c.requires.0.1 c.args.owners.now c.args.count = c.requires.0.2 in
-    let known : ListsBelow c.requires.0.1 c.loop-i.i c.loop-i.lists = c.loop-i.invariant.1 _ _ held in
-    let owner : get_or c.args.owners.now c.loop-i.i 0 < 32 = turn-owner held known c.loop-i-test.true in
-    let room : get_or c.loop-i.lists (5 * get_or c.args.owners.now c.loop-i.i 0) 0 < 4 = turn-count held known c.loop-i-test.true in
-    omega (arith, owner, room, (known).long)
+    let here = (goal.at.bounds-lists-head-in-loop-i c).In-loop-i in
+    let owner : get_or c.args.owners.now c.loop-i.i 0 < 32 = turn-owner (held here) (known here) c.loop-i-test.true in
+    omega (arith, owner, (room here), (known here).long)
 
 pub overflow_add-lists-in-loop-i-2 : goal.overflow_add-lists-in-loop-i-2
 overflow_add-lists-in-loop-i-2 c =
-    let held : Listable c.requires.0.0 c.requires.0.1 c.args.owners.now c.args.count = c.requires.0.2 in
-    let known : ListsBelow c.requires.0.1 c.loop-i.i c.loop-i.lists = c.loop-i.invariant.1 _ _ held in
-    let room : get_or c.loop-i.lists (5 * get_or c.args.owners.now c.loop-i.i 0) 0 < 4 = turn-count held known c.loop-i-test.true in
-    omega (arith, room)
+    omega (arith, (room (goal.at.overflow_add-lists-in-loop-i-2 c).In-loop-i))
 
 pub loop-i-preserved : goal.loop-i-preserved
 loop-i-preserved c =
-    let held : Listable c.requires.0.0 c.requires.0.1 c.args.owners.now c.args.count = c.requires.0.2 in
-    let known : ListsBelow c.requires.0.1 c.loop-i.i c.loop-i.lists = c.loop-i.invariant.1 _ _ held in
-    let room : get_or c.loop-i.lists (5 * get_or c.args.owners.now c.loop-i.i 0) 0 < 4 = turn-count held known c.loop-i-test.true in
     (omega (arith, c.loop-i-test.true), λ room os O. turn-listed O (c.loop-i.invariant.1 room os O) c.loop-i-test.true)
 
 pub returns : goal.returns

@@ -6,33 +6,37 @@ use Rattle.stack.specs.Spans.{line_count}
 use Rattle.stack.specs.LeftLines.{line_in, lines-few, left-none, left-turn, left_end}
 use Rattle.stack.specs.NodeValues.{LineOf}
 use Rattle.stack.proofs.records.node_values.Goals as goal
+use Rattle.stack.proofs.records.node_values.Goals.{In-loop-i}
+
+turn : (c : In-loop-i) → c.loop-i.i < line_count c.args.spans.now c.args.rule
+turn c = omega (arith, c.loop-i-test.true, c.word.ensures, c.word-first.ensures)
+
+room : (c : In-loop-i) → c.loop-i.i < 4
+room c = omega (arith, (turn c), lines-few c.requires.node_asked.1)
+
+line_is : (c : In-loop-i) → c.word-first.result + c.loop-i.i ≡ get_or c.args.spans.now c.args.rule 0 + c.loop-i.i
+line_is c = omega (arith, c.word-first.ensures)
 
 pub loop-i-init : goal.loop-i-init
 loop-i-init c = (omega arith, c.requires.room.2, λ b A. left-none A _)
 
 pub value-requires : goal.value-requires
 value-requires c =
-    let turn : c.loop-i.i < line_count c.args.spans.now c.args.rule = omega (arith, c.loop-i-test.true, c.word.ensures, c.word-first.ensures) in
-    let room : c.loop-i.i < 4 = omega (arith, turn, lines-few c.requires.node_asked.1) in
-    let line_is : c.word-first.result + c.loop-i.i ≡ get_or c.args.spans.now c.args.rule 0 + c.loop-i.i = omega (arith, c.word-first.ensures) in
-    let line-there : LineOf c.requires.node_asked.0 c.args.definitions.now c.args.rule c.args.size (c.word-first.result + c.loop-i.i) = rw line_is (line_in c.requires.node_asked.1 c.loop-i.i turn) in
+    let here = (goal.at.value-requires c).In-loop-i in
+    let line-there : LineOf c.requires.node_asked.0 c.args.definitions.now c.args.rule c.args.size (c.word-first.result + c.loop-i.i) = rw (line_is here) (line_in c.requires.node_asked.1 c.loop-i.i (turn here)) in
     record { room = (c.requires.room.0, c.requires.room.1); asked = (_, (line-there).asked) }
 
 pub bounds-values-i : goal.bounds-values-i
 bounds-values-i c =
-    let turn : c.loop-i.i < line_count c.args.spans.now c.args.rule = omega (arith, c.loop-i-test.true, c.word.ensures, c.word-first.ensures) in
-    let room : c.loop-i.i < 4 = omega (arith, turn, lines-few c.requires.node_asked.1) in
-    omega (arith, room, c.loop-i.invariant.1)
+    omega (arith, (room (goal.at.bounds-values-i c).In-loop-i), c.loop-i.invariant.1)
 
 pub loop-i-preserved : goal.loop-i-preserved
 loop-i-preserved c =
-    let turn : c.loop-i.i < line_count c.args.spans.now c.args.rule = omega (arith, c.loop-i-test.true, c.word.ensures, c.word-first.ensures) in
-    let room : c.loop-i.i < 4 = omega (arith, turn, lines-few c.requires.node_asked.1) in
-    let line_is : c.word-first.result + c.loop-i.i ≡ get_or c.args.spans.now c.args.rule 0 + c.loop-i.i = omega (arith, c.word-first.ensures) in
+    let here = (goal.at.loop-i-preserved c).In-loop-i in
     let at = c.loop-i in (
-      omega (arith, turn),
+      omega (arith, (turn here)),
       length-set at.values at.i c.value.result ∙ at.invariant.1,
-      λ b A. left-turn A at.values (turn) (omega (arith, room, at.invariant.1)) (line_is) (at.invariant.2 b A) c.value.ensures,
+      λ b A. left-turn A at.values (turn here) (omega (arith, (room here), at.invariant.1)) (line_is here) (at.invariant.2 b A) c.value.ensures,
     )
 
 pub returns : goal.returns

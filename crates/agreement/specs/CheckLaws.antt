@@ -1,6 +1,6 @@
 -- Laws of the check of a partial state from cleared words on, and of the checks of all terminals. Assumes nothing.
-use Rattle.std.specs.Prelude.{ℕ, ◌+◌, ◌<◌, ◌≤◌, ◌≡◌, refl, Bool, true, false, not, List, [], ◌++◌, length, drop, replicate}
-use Rattle.std.proofs.Common.{sym, ap, ◌∙◌, append-nil, add-one, arith, drop_of_length-le}
+use Rattle.std.specs.Prelude.{ℕ, ◌+◌, ◌<◌, ◌≡◌, refl, Bool, true, false, not, List, length, replicate}
+use Rattle.std.proofs.Common.{sym, ap, ◌∙◌, add-one, arith}
 use Rattle.std.proofs.Math.Option.{Option, none}
 use Rattle.std.proofs.lemmas.List.{length-replicate, get_or-replicate}
 use Rattle.sets.specs.Sets.{empty}
@@ -16,9 +16,10 @@ use Rattle.grammar.proofs.Formulas.FormulaCheckAll.{fails-below}
 use Rattle.formulas.specs.Table.{HEADS, Table}
 use Rattle.formulas.specs.Buckets.{empty-table}
 use Rattle.formulas.specs.Formulas as formulas
-use Rattle.attributes.specs.SlotsHeld.{SlotsIn}
 use Rattle.attributes.specs.Owned.{KnownIn}
-use Rattle.attributes.specs.Checking.{mark_of, ProgressIn, NodesRoom, Room}
+use Rattle.agreement.specs.declared.check.Progress.{Progress}
+use Rattle.agreement.specs.SlotsHeld.{SlotsIn}
+use Rattle.agreement.specs.Progress.{mark_of, ProgressIn, Room}
 
 no-slots : (table : List ℕ) → SlotsIn table 0 (replicate MAX_INHERITED none) (replicate MAX_INHERITED 0)
 no-slots table = record {
@@ -35,9 +36,13 @@ zero-done : done_in (replicate MAX_DEFINITIONS false) ≡ 0
 unfolding done_in
 zero-done = refl
 
+-- no node, no formula, no definition that is done
+abbrev pub nothing_yet : Progress
+nothing_yet = record { used = 0; known = 0; count = 0 }
+
 fresh_in : {table nexts : List ℕ} → Table table (replicate HEADS 0) nexts 0
     → ProgressIn (replicate MAX_INHERITED none) (replicate MAX_DEFINITIONS false) (replicate MAX_INHERITED 0) (replicate MAX_DEFINITIONS 0)
-    table (replicate HEADS 0) nexts 0 0 0
+    table (replicate HEADS 0) nexts nothing_yet
 fresh_in {table} T = record {
   table_in = T;
   long = fresh-long;
@@ -51,34 +56,12 @@ fresh_in {table} T = record {
   within = λ d h e. absurd (none_done MAX_DEFINITIONS d h e);
 }
 
--- arrays of the same lengths have the same room
-nodes-kept : {n : ℕ} {table nexts table' nexts' : List ℕ} → NodesRoom n table nexts → length table' ≡ length table → length nexts' ≡ length nexts
-    → NodesRoom n table' nexts'
-nodes-kept R t l = record {
-  table_long = omega (arith, R.table_long);
-  nexts_low = omega (arith, R.nexts_low);
-  enough = omega (arith, R.enough);
-}
-
-pub room-kept : {n : ℕ} {words marks table heads nexts words' marks' table' heads' nexts' : List ℕ} → Room n words marks table heads nexts
-    → length words' ≡ length words → length marks' ≡ length marks → length table' ≡ length table → length heads' ≡ length heads
-    → length nexts' ≡ length nexts → Room n words' marks' table' heads' nexts'
-room-kept R w m t h l = record {
-  words_long = w ∙ R.words_long;
-  marks_long = m ∙ R.marks_long;
-  heads_long = h ∙ R.heads_long;
-  nodes_room = nodes-kept R.nodes_room t l;
-}
-
 -- the words where a check begins
-pub begun : {n : ℕ} {words marks table heads nexts words' marks' heads' : List ℕ} → Room n words marks table heads nexts → words' ≡ replicate 16 0
-    → marks' ≡ replicate 128 0 ++ drop 128 marks → heads' ≡ replicate HEADS 0
-    → ProgressIn (replicate MAX_INHERITED none) (replicate MAX_DEFINITIONS false) words' marks' table heads' nexts 0 0 0
-begun {marks = marks} {table = table} {nexts = nexts} R w m h =
-    let few : length marks ≤ 128 = omega (arith, R.marks_long) in
-    let rest : drop 128 marks ≡ [] = drop_of_length-le marks few in
-    let all : replicate 128 0 ++ drop 128 marks ≡ replicate 128 0 = ap (λ (l : List ℕ). replicate 128 0 ++ l) rest ∙ append-nil (replicate 128 0) in
-    rw (w, m, all, h) (fresh_in (empty-table table nexts R.nodes_room.table_long R.nodes_room.nexts_low))
+pub begun : {n : ℕ} {words marks table heads nexts words' marks' heads' : List ℕ} → Room n words marks table heads nexts
+    → words' ≡ replicate (length words) 0 → marks' ≡ replicate (length marks) 0 → heads' ≡ replicate (length heads) 0
+    → ProgressIn (replicate MAX_INHERITED none) (replicate MAX_DEFINITIONS false) words' marks' table heads' nexts nothing_yet
+begun {table = table} {nexts = nexts} R w m h =
+    rw (w, m, h, R.words_long, R.marks_long, R.heads_long) (fresh_in (empty-table table nexts R.nodes_room.table_long R.nodes_room.nexts_low))
 
 pub check-is : (b : Book) (member : ℕ → ℕ → Bool) → unsplit (passes (visit b member) advance (definitions b) fresh) ≡ check b member
 unfolding check ended

@@ -1,10 +1,14 @@
 pub mod Alike
 pub mod Apart
 pub mod CheckLaws
+pub mod EnterLaws
 pub mod Given
 pub mod Givers
 pub mod OneFormula
 pub mod PassLaws
 pub mod PassesLaws
+pub mod Progress
 pub mod SameLines
 pub mod SingleState
+pub mod SlotsHeld
+pub mod VisitLaws

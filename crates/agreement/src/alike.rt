@@ -34,11 +34,9 @@ pub fn alike(definitions: &[u32], lines: usize, terminal: u32, masks: &[u32]) ->
         → SameItems b (member_of masks.now terminal) (member_of masks.now c) }
 {
     let mut apart = 0u32;
-    let mut i = 0;
-    while i < lines {
+    for i in 0..lines {
         let more = item_apart(definitions, i, terminal, masks);
         apart = sets::union(apart, more);
-        i += 1;
     }
     sets::others(apart)
 }

@@ -12,65 +12,43 @@ ghost use Rattle.grammar.specs.Formulas.Passes as fixpoint;
 ghost use Rattle.grammar.specs.Formulas.Passes.{visits};
 ghost use Rattle.formulas.specs.Meaning.{Means};
 ghost use Rattle.attributes.specs.Skips.{Skips};
-ghost use Rattle.attributes.specs.Checking.{member_in, member_of, CheckHeld, ProgressIn, Reached, Room};
+ghost use Rattle.attributes.specs.Checking.{member_in, member_of, CheckHeld};
+ghost use Rattle.agreement.specs.Progress.{ProgressIn, Reached, Room};
 
 use super::alike::alike;
 use attributes::due::due;
 use attributes::skips::skip;
 use formulas::formulas::formula_of;
-use formulas::interning::clear;
-use items::words::fill;
 use sets::ALL;
 
-// How far a check is: the nodes of the table, the set of the attributes that have a formula, the definitions that are done, and whether two formulas
-// of one attribute differ.
+// How far a check is: the nodes of the table, the set of the attributes that have a formula, and the definitions that are done.
 #[derive(Clone, Copy)]
 pub struct Progress {
     pub used: u32,
     pub known: u32,
     pub count: u32,
-    pub split: bool,
 }
 
-// The formula of a number for a slot: an empty slot takes it, and what stands there must be the same.
-fn enter(
-    slots: &mut [u32],
-    attribute: u32,
-    number: u32,
-    used: u32,
-    known: u32,
-    count: u32,
-) -> Progress
+// The formula of a number for a slot: an empty slot takes it, and what stands there must be the same. None says that two formulas of one attribute
+// differ: a split.
+fn enter(slots: &mut [u32], attribute: u32, number: u32, p: Progress) -> Option<Progress>
     requires { (attribute < 16) × (length slots.old ≡ 16) × (number + 1 < 2 ^ 32) }
     ensures { (s : Slots) (done : List Bool) (marks table heads nexts : List ℕ) (f : Formula)
-        → ProgressIn s done slots.old marks table heads nexts used known count → Means table used number f
-        → Reached slots.new marks table heads nexts result.used result.known result.count result.split (grammar.enter s done attribute f) }
+        → ProgressIn s done slots.old marks table heads nexts p → Means table p.used number f
+        → Reached slots.new marks table heads nexts result (grammar.enter s done attribute f) }
 {
     let k = attribute as usize;
-    let stands = slots[k];
-    if stands == 0 {
+    let Some(stands) = slots[k].checked_sub(1) else {
         slots[k] = number + 1;
-        return Progress {
-            used,
-            known: sets::with(known, attribute),
-            count,
-            split: false,
-        };
+        return Some(Progress {
+            known: sets::with(p.known, attribute),
+            ..p
+        });
+    };
+    if stands != number {
+        return None;
     }
-    if stands == number + 1 {
-        return Progress {
-            used,
-            known,
-            count,
-            split: false,
-        };
-    }
-    Progress {
-        used,
-        known,
-        count,
-        split: true,
-    }
+    Some(p)
 }
 
 // One definition: nothing if it is done or not due, else its formula is interned and entered.
@@ -87,32 +65,36 @@ fn visit(
     heads: &mut [u32],
     nexts: &mut [u32],
     p: Progress,
-) -> Progress
+) -> Option<Progress>
     requires { ((b : Book) × (s : Slots) × (d : List Bool) × CheckHeld b definitions.now rules.now owned.now masks.now
         × (line < grammar.definitions b)
-        × ProgressIn s d slots.old done.old table.old heads.old nexts.old p.used p.known p.count)
-        × (p.split ≡ false) × (MAX_NODES * suc line ≤ length nexts.old) }
+        × ProgressIn s d slots.old done.old table.old heads.old nexts.old p)
+        × (MAX_NODES * suc line ≤ length nexts.old) }
     ensures { (b : Book) (s : Slots) (d : List Bool)
         → CheckHeld b definitions.now rules.now owned.now masks.now
         → line < grammar.definitions b
-        → ProgressIn s d slots.old done.old table.old heads.old nexts.old p.used p.known p.count
-        → Reached slots.new done.new table.new heads.new nexts.new result.used result.known result.count result.split
-        (grammar.visit b (member_in masks.now wanted) line (progress s d)) }
+        → ProgressIn s d slots.old done.old table.old heads.old nexts.old p
+        → Reached slots.new done.new table.new heads.new nexts.new result (grammar.visit b (member_in masks.now wanted) line (progress s d)) }
 {
     if done[line] != 0 {
-        return p;
+        return Some(p);
     }
     if !due(definitions, line, wanted, masks, rules, owned, p.known) {
-        return p;
+        return Some(p);
     }
     let dot = definitions[49 * line + 1] - 1;
     let attribute = definitions[49 * line + 2];
     let r = formula_of(definitions, line, dot, slots, table, heads, nexts, p.used);
     done[line] = 1;
-    enter(slots, attribute, r.number, r.used, p.known, p.count + 1)
+    let formed = Progress {
+        used: r.used,
+        count: p.count + 1,
+        ..p
+    };
+    enter(slots, attribute, r.number, formed)
 }
 
-// One pass over the definitions whose items have a terminal that is wanted, up to a split.
+// One pass over the definitions whose items have a terminal that is wanted, each found by `skips` from the one before, up to a split.
 fn pass(
     definitions: &[u32],
     lines: usize,
@@ -127,17 +109,16 @@ fn pass(
     heads: &mut [u32],
     nexts: &mut [u32],
     mut p: Progress,
-) -> Progress
+) -> Option<Progress>
     requires { ((b : Book) × (s : Slots) × (d : List Bool) × CheckHeld b definitions.now rules.now owned.now masks.now
         × (lines ≡ grammar.definitions b)
-        × ProgressIn s d slots.old done.old table.old heads.old nexts.old p.used p.known p.count)
-        × Skips definitions.now masks.now wanted lines skips.now × (p.split ≡ false) × (MAX_NODES * lines ≤ length nexts.old) }
+        × ProgressIn s d slots.old done.old table.old heads.old nexts.old p)
+        × Skips definitions.now masks.now wanted lines skips.now × (MAX_NODES * lines ≤ length nexts.old) }
     ensures { (b : Book) (s : Slots) (d : List Bool)
         → CheckHeld b definitions.now rules.now owned.now masks.now
         → lines ≡ grammar.definitions b
-        → ProgressIn s d slots.old done.old table.old heads.old nexts.old p.used p.known p.count
-        → Reached slots.new done.new table.new heads.new nexts.new result.used result.known result.count result.split
-        (visits (grammar.visit b (member_in masks.now wanted)) lines (progress s d)) }
+        → ProgressIn s d slots.old done.old table.old heads.old nexts.old p
+        → Reached slots.new done.new table.new heads.new nexts.new result (visits (grammar.visit b (member_in masks.now wanted)) lines (progress s d)) }
 {
     let mut i = skips[0] as usize;
     while i < lines {
@@ -154,13 +135,10 @@ fn pass(
             heads,
             nexts,
             p,
-        );
-        if p.split {
-            return p;
-        }
+        )?;
         i = skips[i + 1] as usize;
     }
-    p
+    Some(p)
 }
 
 // Passes until one does nothing more, or two formulas of one attribute differ.
@@ -181,50 +159,35 @@ fn passes(
 ) -> bool
     requires { ((b : Book) × (s : Slots) × (d : List Bool) × CheckHeld b definitions.now rules.now owned.now masks.now
         × (lines ≡ grammar.definitions b)
-        × ProgressIn s d slots.old done.old table.old heads.old nexts.old p.used p.known p.count)
-        × Skips definitions.now masks.now wanted lines skips.now × (p.split ≡ false) × (MAX_NODES * lines ≤ length nexts.old) }
+        × ProgressIn s d slots.old done.old table.old heads.old nexts.old p)
+        × Skips definitions.now masks.now wanted lines skips.now × (MAX_NODES * lines ≤ length nexts.old) }
     ensures { (b : Book) (s : Slots) (d : List Bool)
         → CheckHeld b definitions.now rules.now owned.now masks.now
         → lines ≡ grammar.definitions b
-        → ProgressIn s d slots.old done.old table.old heads.old nexts.old p.used p.known p.count
+        → ProgressIn s d slots.old done.old table.old heads.old nexts.old p
         → result ≡ unsplit (fixpoint.passes (grammar.visit b (member_in masks.now wanted)) advance (grammar.definitions b) (progress s d)) }
 {
-    loop {
-        let before = p.count;
-        p = pass(
-            definitions,
-            lines,
-            wanted,
-            skips,
-            masks,
-            rules,
-            owned,
-            slots,
-            done,
-            table,
-            heads,
-            nexts,
-            p,
-        );
-        if p.split {
-            return false;
-        }
-        if p.count == before {
+    while let Some(next) = pass(
+        definitions,
+        lines,
+        wanted,
+        skips,
+        masks,
+        rules,
+        owned,
+        slots,
+        done,
+        table,
+        heads,
+        nexts,
+        p,
+    ) {
+        if next.count == p.count {
             return true;
         }
+        p = next;
     }
-}
-
-// No attribute has a formula.
-fn clear_slots(slots: &mut [u32])
-    requires { length slots.old ≡ 16 }
-    ensures { slots.new ≡ replicate 16 0 }
-{
-    let mut i = 0;
-    while i < 16 {
-        slots[i] = 0;
-        i += 1;
-    }
+    false
 }
 
 // 10, of the items whose sets have a terminal that is wanted.
@@ -248,14 +211,14 @@ fn check(
 {
     let mut skips = [0u8; 129];
     skip(definitions, lines, masks, wanted, &mut skips);
-    clear_slots(slots);
-    fill(done, 128, 0);
-    clear(heads);
+    slots.fill(0);
+    done.fill(0);
+    // A table of no nodes; its rows need not be cleared.
+    heads.fill(0);
     let p = Progress {
         used: 0,
         known: 0,
         count: 0,
-        split: false,
     };
     passes(
         definitions,
@@ -295,10 +258,8 @@ fn parts_right(
         → result ≡ all_below (suc b.terminals) (λ a. grammar.check b (member_of masks.now a)) }
 {
     let mut right = 0u32;
-    let mut a = 0;
-    while a <= terminals {
+    for a in 0..terminals + 1 {
         if sets::has(right, a) {
-            a += 1;
             continue;
         }
         if !check(
@@ -318,7 +279,6 @@ fn parts_right(
         }
         let more = alike(definitions, lines, a, masks);
         right = sets::union(right, more);
-        a += 1;
     }
     true
 }

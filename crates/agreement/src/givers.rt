@@ -9,7 +9,6 @@ ghost use Rattle.agreement.specs.Givers.{Copies};
 ghost use Rattle.agreement.specs.Given.{GivenIn};
 ghost use Rattle.attributes.specs.FormulasHeld.{FormulasHeld};
 
-use attributes::masks::clear;
 use items::words::word;
 
 // True only if the definition in a line gives the first symbol of its rule just the attribute that the left side has: its one node is own of it.
@@ -63,10 +62,8 @@ fn mark_givers(definitions: &[u32], lines: usize, given: &mut [u32]) -> u64
         → lines ≡ grammar.definitions b → 9 * length b.rules ≤ length given.old → GivenIn b (grammar.definitions b) given.new result }
 {
     let mut leaders = 0u64;
-    let mut i = 0;
-    while i < lines {
+    for i in 0..lines {
         leaders = mark_giver(definitions, i, leaders, given);
-        i += 1;
     }
     leaders
 }
@@ -81,6 +78,6 @@ pub fn fill_givers(count: u32, definitions: &[u32], lines: u32, given: &mut [u32
         → FormulasHeld b rules count definitions.now lines kernels bounds closures nullables begins reaches terminals states
         → GivenIn b (grammar.definitions b) given.new result }
 {
-    clear(given, 9 * count as usize);
+    given[..9 * count as usize].fill(0);
     mark_givers(definitions, lines as usize, given)
 }

@@ -8,7 +8,7 @@ ghost use Rattle.grammar.specs.Formulas.Slots.{attributes};
 ghost use Rattle.grammar.specs.Formulas.FormulaCheck as grammar;
 ghost use Rattle.book.specs.Held.{OwnersIn};
 ghost use Rattle.attributes.specs.Owned.{OwnedIn};
-ghost use Rattle.attributes.specs.Checking.{NodesRoom, Room};
+ghost use Rattle.agreement.specs.Progress.{NodesRoom, Room};
 ghost use Rattle.agreement.specs.Given.{GivenIn};
 ghost use Rattle.agreement.specs.OneFormula.{FrontsHeld, state_right, formulas_right};
 
@@ -113,9 +113,7 @@ fn states_right(
         → OwnedIn b.inherited_owners (attributes b) owned.now → GivenIn b (grammar.definitions b) given.now leaders
         → result ≡ all_below b.states (state_right b) }
 {
-    let n = states as usize;
-    let mut state = 0;
-    while state < n {
+    for state in 0..states as usize {
         if !state_right(
             rules,
             count,
@@ -141,7 +139,6 @@ fn states_right(
         ) {
             return false;
         }
-        state += 1;
     }
     true
 }

@@ -1,6 +1,6 @@
 // The states to whose items each inherited attribute is given by one definition at most, copies left out: each has one formula there, and none has to
 // be worked out. `given` and `leaders` have what definitions give, as `givers` says.
-ghost use Rattle.std.specs.Prelude.{◌≡◌, true, List, ℕ, ◌+◌, ◌*◌, ◌≤◌, ◌<◌, length, get_or};
+ghost use Rattle.std.specs.Prelude.{◌≡◌, true, List, ℕ, ◌+◌, ◌*◌, ◌≤◌, ◌<◌, length, get_or, IfSome};
 ghost use Rattle.std.specs.Int.Bits.{bit_and};
 ghost use Rattle.grammar.specs.Data.Book.{Book};
 ghost use Rattle.grammar.specs.Format.Ordered.{Ordered};
@@ -35,31 +35,22 @@ fn lines_apart(kernels: &[u32], first: usize, last: usize, base: u32, given: &[u
     ensures { result ≡ true → ((all : ℕ) × Apart (line_word kernels.now given.now) base first last all) }
 {
     let mut bits = base;
-    let mut i = first;
-    while i < last {
+    for i in first..last {
         let more = line_gives(kernels, i, given);
         if bits & more != 0 {
             return false;
         }
         bits |= more;
-        i += 1;
     }
     true
 }
 
-// The attributes that are given at the fronts of a state, and whether each is given once there.
-#[derive(Clone, Copy)]
-struct FrontsGiven {
-    apart: bool,
-    bits: u32,
-}
-
-// Goes over the rules of a state's closure at whose front something is given; `fronts` has the rules of each state's closure.
-fn fronts_apart(fronts: &[u64], state: usize, given: &[u32], leaders: u64) -> FrontsGiven
+// The attributes that are given at the fronts of a state, if each is given once there. It goes over the rules of the state's closure at whose front
+// something is given, from each to the next one, so they are no range; `fronts` has the rules of each state's closure.
+fn fronts_apart(fronts: &[u64], state: usize, given: &[u32], leaders: u64) -> Option<u32>
     requires { (b : Book) × (rules : List ℕ) × (closures : List ℕ) × RulesIn b.rules rules × FrontsIn b rules closures fronts.now
         × (state < b.states) × (9 * length b.rules ≤ length given.now) }
-    ensures { result.apart ≡ true
-        → Apart (front_word (bit_and (get_or fronts.now state 0) leaders) given.now) 0 0 64 result.bits }
+    ensures { IfSome result (Apart (front_word (bit_and (get_or fronts.now state 0) leaders) given.now) 0 0 64) }
 {
     let mut rest = fronts[state] & leaders;
     let mut bits = 0u32;
@@ -69,13 +60,13 @@ fn fronts_apart(fronts: &[u64], state: usize, given: &[u32], leaders: u64) -> Fr
         rule += gap as usize;
         let here = given[9 * rule];
         if bits & here != 0 {
-            return FrontsGiven { apart: false, bits };
+            return None;
         }
         bits |= here;
         rest = behind(rest, gap);
         rule += 1;
     }
-    FrontsGiven { apart: true, bits }
+    Some(bits)
 }
 
 // True only if each attribute is given to the items of a state by one definition.
@@ -93,13 +84,12 @@ pub fn single(
         → ItemsIn b (sets_of b.rules) rules kernels.now bounds.now closures → FrontsIn b rules closures fronts.now
         → GivenIn b (grammar.definitions b) given.now leaders → state < b.states → Single b state }
 {
-    let fronted = fronts_apart(fronts, state, given, leaders);
-    if !fronted.apart {
+    let Some(fronted) = fronts_apart(fronts, state, given, leaders) else {
         return false;
-    }
+    };
     let first = word(bounds, state);
     let last = word(bounds, state + 1);
-    lines_apart(kernels, first, last, fronted.bits, given)
+    lines_apart(kernels, first, last, fronted, given)
 }
 
 // True only if that is so in all states.
@@ -117,12 +107,10 @@ fn states_single(
         → ItemsIn b (sets_of b.rules) rules kernels.now bounds.now closures → FrontsIn b rules closures fronts.now
         → GivenIn b (grammar.definitions b) given.now leaders → states ≡ b.states → (S : ℕ) → S < b.states → Single b S }
 {
-    let mut state = 0;
-    while state < states {
+    for state in 0..states {
         if !single(kernels, bounds, fronts, state, given, leaders) {
             return false;
         }
-        state += 1;
     }
     true
 }

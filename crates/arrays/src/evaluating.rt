@@ -1,5 +1,6 @@
 // A message under a stored book, by arrays that have room for the book.
-ghost use Rattle.std.specs.Prelude.{◌≡◌, true, ◌≤◌, length};
+// `short` and `long` are one function but for the sizes: no array's length can be computed from a const parameter, and one for each array is no plainer.
+ghost use Rattle.std.specs.Prelude.{◌≡◌, ◌≤◌, length, IfSome};
 ghost use Rattle.grammar.specs.Limits.{BOOK_WORDS};
 ghost use Rattle.grammar.specs.Engine.{evaluate_words};
 ghost use Rattle.packing.specs.Words.{Holds};
@@ -7,19 +8,20 @@ ghost use Rattle.attempts.specs.Rooms.{SHORT_TEXT};
 ghost use Rattle.attempts.specs.Evaluations.{Answers};
 
 use super::SHORT_TEXT;
-use attempts::evaluating::{Answer, attempt};
+use attempts::evaluating::attempt;
 use attempts::rooms::{
     SHORT_DEFINITIONS, SHORT_GOES, SHORT_KERNELS, SHORT_RULES, SHORT_STATES, short_room,
 };
+use book::refusal::Refusal;
 use book::{Book, Room};
 use definitions::definitions::WORDS;
 use packing::unpacking::{text_length, unpack};
 
 // By arrays for a short book, whose text has `n` bytes.
-fn short(words: &[u32], n: usize, tokens: &[u32], rows: &mut [u32], count: &mut u32) -> Answer
+fn short(words: &[u32], n: usize, tokens: &[u32], rows: &mut [u32]) -> Option<Result<u32, Refusal>>
     requires { (length words.now ≡ BOOK_WORDS) × Holds words.now n × (n ≤ SHORT_TEXT) }
-    ensures { result.complete ≡ true → Answers (evaluate_words words.now tokens.now (length rows.old))
-        (length rows.old) result.number rows.new count.new }
+    ensures { IfSome result (λ answer. Answers (evaluate_words words.now tokens.now (length rows.old))
+        (length rows.old) answer rows.new) }
 {
     let mut text = [0u8; SHORT_TEXT];
     unpack(words, n, &mut text);
@@ -53,15 +55,13 @@ fn short(words: &[u32], n: usize, tokens: &[u32], rows: &mut [u32], count: &mut 
         &mut actions,
         tokens,
         rows,
-        count,
     )
 }
 
 // By arrays for any book; its text has `n` bytes, and may stand in all words. What is used first is made last.
-fn long(words: &[u32], n: usize, tokens: &[u32], rows: &mut [u32], count: &mut u32) -> u32
+fn long(words: &[u32], n: usize, tokens: &[u32], rows: &mut [u32]) -> Result<u32, Refusal>
     requires { (length words.now ≡ BOOK_WORDS) × Holds words.now n }
-    ensures { Answers (evaluate_words words.now tokens.now (length rows.old)) (length rows.old) result
-        rows.new count.new }
+    ensures { Answers (evaluate_words words.now tokens.now (length rows.old)) (length rows.old) result rows.new }
 {
     let mut text = [0u8; Book::MAX_TEXT];
     unpack(words, n, &mut text);
@@ -77,7 +77,7 @@ fn long(words: &[u32], n: usize, tokens: &[u32], rows: &mut [u32], count: &mut u
     let mut reaches = [0u32; 9 * Book::MAX_RULES as usize];
     let mut rules = [0u32; 10 * Book::MAX_RULES as usize];
     let mut definitions = [0u32; WORDS * Book::MAX_DEFINITIONS as usize];
-    attempt(
+    let Some(answer) = attempt(
         &mut text,
         n,
         Room::full(),
@@ -95,26 +95,25 @@ fn long(words: &[u32], n: usize, tokens: &[u32], rows: &mut [u32], count: &mut u
         &mut actions,
         tokens,
         rows,
-        count,
-    )
-    .number
+    ) else {
+        unreachable!()
+    };
+    answer
 }
 
-// The number that is answered, by arrays for a short book, or for any where those have no room; where it is 0, the rows and their count are in place.
-pub fn number(words: &[u32], tokens: &[u32], rows: &mut [u32], count: &mut u32) -> u32
-    ensures { Answers (evaluate_words words.now tokens.now (length rows.old)) (length rows.old) result
-        rows.new count.new }
+// The refusal, or the number of rows, which are in place, by arrays for a short book, or for any where those have no room.
+pub fn evaluate(words: &[u32], tokens: &[u32], rows: &mut [u32]) -> Result<u32, Refusal>
+    ensures { Answers (evaluate_words words.now tokens.now (length rows.old)) (length rows.old) result rows.new }
 {
     if words.len() != Book::BOOK_WORDS {
-        return 11;
+        return Err(Refusal::Stored);
     }
     let n = text_length(words);
     if SHORT_TEXT < n {
-        return long(words, n, tokens, rows, count);
+        return long(words, n, tokens, rows);
     }
-    let first = short(words, n, tokens, rows, count);
-    if first.complete {
-        return first.number;
+    if let Some(answer) = short(words, n, tokens, rows) {
+        return answer;
     }
-    long(words, n, tokens, rows, count)
+    long(words, n, tokens, rows)
 }

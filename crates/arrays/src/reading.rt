@@ -1,18 +1,21 @@
 // The refusal of a text, by arrays that have room for its book.
-ghost use Rattle.std.specs.Prelude.{◌≡◌, true, ◌≤◌, length};
+// `short` and `long` are one function but for the sizes: no array's length can be computed from a const parameter, and one for each array is no plainer.
+ghost use Rattle.std.specs.Prelude.{◌≡◌, ◌≤◌, length, IfSome};
 ghost use Rattle.grammar.specs.Limits.{MAX_TEXT, BOOK_WORDS};
 ghost use Rattle.grammar.specs.Refusal.{refusal};
+ghost use Rattle.book.specs.Refusals.{answer_of};
 ghost use Rattle.attempts.specs.Rooms.{SHORT_TEXT};
 
 use super::SHORT_TEXT;
-use attempts::reading::{Answer, attempt};
+use attempts::reading::attempt;
 use attempts::rooms::{SHORT_GOES, SHORT_KERNELS, SHORT_RULES, SHORT_STATES, short_room};
+use book::refusal::Refusal;
 use book::{Book, Room};
 
 // By arrays for a short book.
-fn short(text: &[u8], words: &mut [u32]) -> Answer
+fn short(text: &[u8], words: &mut [u32]) -> Option<Result<(), Refusal>>
     requires { (length text.now ≤ SHORT_TEXT) × (length words.old ≡ BOOK_WORDS) }
-    ensures { result.complete ≡ true → result.refusal ≡ refusal text.now }
+    ensures { IfSome result (λ answer. answer_of answer ≡ refusal text.now) }
 {
     let mut rules = [0u32; 10 * SHORT_RULES];
     let mut kernels = [0u32; 5 * SHORT_KERNELS];
@@ -44,9 +47,9 @@ fn short(text: &[u8], words: &mut [u32]) -> Answer
 }
 
 // By arrays for any book. What is used first is made last.
-fn long(text: &[u8], words: &mut [u32]) -> u32
+fn long(text: &[u8], words: &mut [u32]) -> Result<(), Refusal>
     requires { (length text.now ≤ MAX_TEXT) × (length words.old ≡ BOOK_WORDS) }
-    ensures { result ≡ refusal text.now }
+    ensures { answer_of result ≡ refusal text.now }
 {
     let mut kernels = [0u32; 5 * Book::MAX_KERNELS as usize];
     let mut goes = [0u32; 3 * Book::MAX_GOES as usize];
@@ -59,7 +62,7 @@ fn long(text: &[u8], words: &mut [u32]) -> u32
     let mut begins = [0u32; 9 * Book::MAX_RULES as usize];
     let mut reaches = [0u32; 9 * Book::MAX_RULES as usize];
     let mut rules = [0u32; 10 * Book::MAX_RULES as usize];
-    attempt(
+    let Some(answer) = attempt(
         text,
         Room::full(),
         &mut rules,
@@ -74,21 +77,22 @@ fn long(text: &[u8], words: &mut [u32]) -> u32
         &mut table,
         &mut actions,
         words,
-    )
-    .refusal
+    ) else {
+        unreachable!()
+    };
+    answer
 }
 
-// The first of 2 to 10 that applies to a text, or 0, by arrays for a short book, or for any where those have no room.
-pub fn refusal(text: &[u8], words: &mut [u32]) -> u32
+// The first of 2 to 10 that applies to a text, by arrays for a short book, or for any where those have no room.
+pub fn read(text: &[u8], words: &mut [u32]) -> Result<(), Refusal>
     requires { (length text.now ≤ MAX_TEXT) × (length words.old ≡ BOOK_WORDS) }
-    ensures { result ≡ refusal text.now }
+    ensures { answer_of result ≡ refusal text.now }
 {
     if SHORT_TEXT < text.len() {
         return long(text, words);
     }
-    let first = short(text, words);
-    if first.complete {
-        return first.refusal;
+    if let Some(answer) = short(text, words) {
+        return answer;
     }
     long(text, words)
 }

@@ -1,6 +1,6 @@
 -- What evaluating answers, by its number (01, "Turned-back input"): the stored book is asked first, then the lengths and kinds of the message, then
 -- the machine runs. Assumes nothing.
-use Rattle.std.specs.Prelude.{ℕ, suc, ◌*◌, ◌%◌, ◌<◌, ◌≤◌, ◌≡◌, Bool, true, List, length, replicate}
+use Rattle.std.specs.Prelude.{ℕ, ◌*◌, ◌%◌, ◌<◌, ◌≤◌, ◌≡◌, Bool, true, List, length, replicate, Result, Ok, Err, is_err, MatchResult}
 use Rattle.std.proofs.Math.Path.{refl, sym}
 use Rattle.std.proofs.Common.{ap, ◌∙◌, arith, le-leb, eq-eqb, ne_eqb}
 use Rattle.std.proofs.Math.Bool.{false}
@@ -8,9 +8,7 @@ use Rattle.std.proofs.Math.Option.{none, some}
 use Rattle.std.proofs.lemmas.Bool.{lt-leb}
 use Rattle.grammar.specs.Limits.{PAGE_WORDS, MAX_TOKENS}
 use Rattle.grammar.specs.Data.Book.{Book}
-use Rattle.grammar.specs.Evaluator.Tree.{Token}
 use Rattle.grammar.specs.Evaluator.Machine.{Answer, refused, accepted, evaluate}
-use Rattle.grammar.proofs.Evaluator.RunRefusals.{refused-late}
 use Rattle.grammar.specs.Engine.{
   tables_of,
   stored_book,
@@ -22,7 +20,9 @@ use Rattle.grammar.specs.Engine.{
   evaluate_book,
   evaluate_words,
 }
-use Rattle.machine.specs.declared.run.Outcome.{Outcome}
+use Rattle.book.specs.declared.refusal.Refusal.{Refusal}
+use Rattle.book.specs.declared.refusal.Refusal.TheVariants.{Stored, RowLength, Tokens, TokenKind}
+use Rattle.book.specs.Refusals.{number_of, answer_of}
 use Rattle.messages.specs.Pages.{Paged}
 use Rattle.messages.specs.Messages.{Message}
 use Rattle.attempts.specs.Tokens.{kinds_right, kinds-right, tokens-odd, tokens-even}
@@ -33,65 +33,83 @@ pub record Evaluates (evaluation : Evaluation) (number : ℕ) (rows : List ℕ) 
   pub rows_are : rows ≡ evaluation.rows
   pub count_is : count ≡ evaluation.count
 
--- the same before the rows of a message that is turned back are cleared
-pub record Answers (evaluation : Evaluation) (lent : ℕ) (number : ℕ) (rows : List ℕ) (count : ℕ) : Type 0 where
-  pub refused : (number ≡ 0 → ⊥) → evaluation ≡ turned_back number lent
-  pub taken : number ≡ 0 → Evaluates evaluation 0 rows count
+-- the row count of an answer; a message that is turned back has none
+unfoldable pub count_of : Result ℕ Refusal → ℕ
+count_of (Ok count) = count
+count_of (Err e) = 0
 
-module _ {evaluation : Evaluation} {lent number : ℕ} {rows : List ℕ} {count : ℕ} (a : Answers evaluation lent number rows count) where
-  pub evaluates-taken : number ≡ 0 → Evaluates evaluation number rows count
-  evaluates-taken z = rw z (a.taken z)
+-- the refusal, or the row count and the rows; the rows of a message that is turned back may be anything
+pub record Answers (evaluation : Evaluation) (lent : ℕ) (answer : Result ℕ Refusal) (rows : List ℕ) : Type 0 where
+  pub says : MatchResult answer (λ count. Evaluates evaluation 0 rows count) (λ refusal. evaluation ≡ turned_back (number_of refusal) lent)
 
-  pub evaluates-cleared : {cleared : List ℕ} → (number ≡ 0 → ⊥) → cleared ≡ replicate lent 0 → Evaluates evaluation number cleared 0
-  unfolding turned_back
-  evaluates-cleared n e = rw (a.refused n) (record { number_is = refl; rows_are = e; count_is = refl })
+module _ {evaluation : Evaluation} {lent : ℕ} {answer : Result ℕ Refusal} {rows : List ℕ} (a : Answers evaluation lent answer rows) where
+  pub evaluates-taken : is_err answer ≡ false → Evaluates evaluation (answer_of answer) rows (count_of answer)
+  unfolding answer_of count_of
+  evaluates-taken z = go answer a.says z
+    where
+      go : (r : Result ℕ Refusal)
+          → MatchResult r (λ count. Evaluates evaluation 0 rows count) (λ refusal. evaluation ≡ turned_back (number_of refusal) lent)
+          → is_err r ≡ false → Evaluates evaluation (answer_of r) rows (count_of r)
+      go (Ok count) says z = says
+      go (Err refusal) says z = cc
 
-pub answers-refused : {evaluation : Evaluation} {lent : ℕ} {rows : List ℕ} {count : ℕ} (n : ℕ) → evaluation ≡ turned_back (suc n) lent
-    → Answers evaluation lent (suc n) rows count
-answers-refused n e = record { refused = λ _. e; taken = λ z. absurd (omega arith) }
+  -- once they are cleared
+  pub evaluates-cleared : {cleared : List ℕ} → is_err answer ≡ true → cleared ≡ replicate lent 0
+      → Evaluates evaluation (answer_of answer) cleared (count_of answer)
+  unfolding turned_back answer_of count_of
+  evaluates-cleared {cleared} z e = go answer a.says z
+    where
+      go : (r : Result ℕ Refusal)
+          → MatchResult r (λ count. Evaluates evaluation 0 rows count) (λ refusal. evaluation ≡ turned_back (number_of refusal) lent)
+          → is_err r ≡ true → Evaluates evaluation (answer_of r) cleared (count_of r)
+      go (Ok count) says z = cc
+      go (Err refusal) says z = rw says (record { number_is = refl; rows_are = e; count_is = refl })
 
 -- ---- the lengths and the kinds of a message
 
--- the first of 12, 13 and 14 that applies, or 0
-pub record Asked (T : ℕ) (tokens : List ℕ) (lent number : ℕ) : Type 0 where
-  pub refused : (number ≡ 0 → ⊥) → (b : Book) → T ≡ b.terminals → evaluate_book b tokens lent ≡ turned_back number lent
-  pub all_rows : number ≡ 0 → lent ≡ PAGE_WORDS
-  pub passed : number ≡ 0 → Message T tokens
+-- there are as many rows and tokens as may be, and their kinds are the book's
+pub record Passed (T : ℕ) (tokens : List ℕ) (lent : ℕ) : Type 0 where
+  pub all_rows : lent ≡ PAGE_WORDS
+  pub its_message : Message T tokens
+
+-- the first of 12, 13 and 14 that applies
+pub record Asked (T : ℕ) (tokens : List ℕ) (lent : ℕ) (answer : Result Unit Refusal) : Type 0 where
+  pub says : MatchResult answer (λ _. Passed T tokens lent)
+      (λ refusal. (b : Book) → T ≡ b.terminals → evaluate_book b tokens lent ≡ turned_back (number_of refusal) lent)
 
 module _ (T : ℕ) (tokens : List ℕ) (lent : ℕ) where
-  first-asked : (n : ℕ) → ((b : Book) → T ≡ b.terminals → evaluate_book b tokens lent ≡ turned_back (suc n) lent) → Asked T tokens lent (suc n)
-  first-asked n f = record { refused = λ _. f; all_rows = λ z. absurd (omega arith); passed = λ z. absurd (omega arith) }
-
-  pub asked-rows : (lent ≡ PAGE_WORDS → ⊥) → Asked T tokens lent 12
-  unfolding evaluate_book
-  asked-rows n = first-asked 11 (λ b _. rw (ne_eqb lent PAGE_WORDS n, evaluate_book))
+  pub asked-rows : (lent ≡ PAGE_WORDS → ⊥) → Asked T tokens lent (Err RowLength)
+  unfolding evaluate_book number_of
+  asked-rows n = record { says = λ b _. rw (ne_eqb lent PAGE_WORDS n, evaluate_book) }
 
   module _ (r : lent ≡ PAGE_WORDS) where
-    pub asked-odd : (length tokens % 2 ≡ 0 → ⊥) → Asked T tokens lent 13
-    unfolding evaluate_book
-    asked-odd n = first-asked 12 (λ b _. rw (eq-eqb lent PAGE_WORDS r, evaluate_book) (rw (tokens-odd tokens n)))
+    pub asked-odd : (length tokens % 2 ≡ 0 → ⊥) → Asked T tokens lent (Err Tokens)
+    unfolding evaluate_book number_of
+    asked-odd n = record { says = λ b _. rw (eq-eqb lent PAGE_WORDS r, evaluate_book) (rw (tokens-odd tokens n)) }
 
     module _ (even : length tokens % 2 ≡ 0) where
-      pub asked-long : 2 * MAX_TOKENS < length tokens → Asked T tokens lent 13
-      unfolding evaluate_book evaluate_tokens
+      pub asked-long : 2 * MAX_TOKENS < length tokens → Asked T tokens lent (Err Tokens)
+      unfolding evaluate_book evaluate_tokens number_of
       asked-long h = tokens-even tokens even λ ks e l.
-          first-asked 12 (λ b _.
-          rw (eq-eqb lent PAGE_WORDS r, evaluate_book) (rw e (rw (lt-leb (length ks) MAX_TOKENS (omega (arith, h, l)), evaluate_tokens))))
+          record {
+            says = λ b _. rw (eq-eqb lent PAGE_WORDS r, evaluate_book) (rw e (rw (lt-leb (length ks) MAX_TOKENS (omega (arith, h, l)), evaluate_tokens)));
+          }
 
       module _ (h : length tokens ≤ 2 * MAX_TOKENS) {right : Bool} (right_is : right ≡ kinds_right T tokens) where
-        pub asked-kinds : right ≡ false → Asked T tokens lent 14
-        unfolding evaluate_book evaluate_tokens
+        pub asked-kinds : right ≡ false → Asked T tokens lent (Err TokenKind)
+        unfolding evaluate_book evaluate_tokens number_of
         asked-kinds f = tokens-even tokens even λ ks e l.
-            first-asked 13 (λ b t.
-            let k : kinds_in b.terminals ks ≡ false = rw (← t) (sym (kinds-right T tokens ks e) ∙ sym right_is ∙ f) in
-            rw (eq-eqb lent PAGE_WORDS r, evaluate_book) (rw e (rw (le-leb (length ks) MAX_TOKENS (omega (arith, h, l)), evaluate_tokens) (rw k))))
+            record {
+              says = λ b t.
+                  let k : kinds_in b.terminals ks ≡ false = rw (← t) (sym (kinds-right T tokens ks e) ∙ sym right_is ∙ f) in
+                  rw (eq-eqb lent PAGE_WORDS r, evaluate_book) (rw e (rw (le-leb (length ks) MAX_TOKENS (omega (arith, h, l)), evaluate_tokens) (rw k)));
+            }
 
-        pub asked-all : right ≡ true → Asked T tokens lent 0
+        pub asked-all : right ≡ true → Passed T tokens lent
         asked-all f = tokens-even tokens even λ ks e l.
             record {
-              refused = λ n. absurd (n refl);
-              all_rows = λ _. r;
-              passed = λ _. record {
+              all_rows = r;
+              its_message = record {
                 list = ks;
                 tokens_are = e;
                 few = omega (arith, h, l);
@@ -110,23 +128,15 @@ message-run b m t lent all =
     rw (eq-eqb lent PAGE_WORDS all, evaluate_book)
     (rw m.tokens_are (rw (le-leb (length m.list) MAX_TOKENS m.few, evaluate_tokens) (rw k)))
 
--- the machine's answer; its refusals are not 0
-answers-ran : (b : Book) (ks : List Token) {evaluation : Evaluation} {lent : ℕ} {r : Outcome} {rows : List ℕ}
-    → evaluation ≡ evaluation_of (evaluate b (tables_of b) ks) lent → Paged (evaluate b (tables_of b) ks) r rows
-    → Answers evaluation lent r.number rows r.count
+-- the machine's answer
+answers-ran : {evaluation : Evaluation} {lent : ℕ} {rows : List ℕ} (x : Answer) (answer : Result ℕ Refusal) → evaluation ≡ evaluation_of x lent
+    → Paged x answer rows → Answers evaluation lent answer rows
 unfolding evaluation_of
-answers-ran b ks {evaluation} {lent} {r} {rows} e told = go (evaluate b (tables_of b) ks) refl e told
-  where
-    go : (x : Answer) → evaluate b (tables_of b) ks ≡ x → evaluation ≡ evaluation_of x lent → Paged x r rows
-        → Answers evaluation lent r.number rows r.count
-    go (refused n) q p (number_is, no_rows) = record {
-      refused = λ _. p ∙ ap (λ (k : ℕ). turned_back k lent) (sym number_is);
-      taken = λ z. absurd (omega (arith, refused-late b (tables_of b) ks n q, number_is, z));
-    }
-    go (accepted rs) q p (number_is, count_is, rows_are) = record {
-      refused = λ n. absurd (n number_is);
-      taken = λ z. rw p (record { number_is = refl; rows_are = rows_are; count_is = count_is });
-    }
+answers-ran {lent = lent} (refused n) (Err refusal) p number_is = record { says = p ∙ ap (λ (k : ℕ). turned_back k lent) (sym number_is) }
+answers-ran (refused n) (Ok count) p told = absurd told
+answers-ran (accepted rs) (Ok count) p (count_is, rows_are) =
+    record { says = rw p (record { number_is = refl; rows_are = rows_are; count_is = count_is }) }
+answers-ran (accepted rs) (Err refusal) p told = absurd told
 
 -- ---- the book
 
@@ -139,14 +149,22 @@ module _ (words tokens : List ℕ) (lent : ℕ) where
   unfolding evaluate_words
   evaluate-book b e = rw (e, evaluate_words)
 
-  module _ {T number : ℕ} (b : Book) (e : stored_book words ≡ some b) (t : T ≡ b.terminals) (a : Asked T tokens lent number) where
-    pub answers-asked : {rows : List ℕ} {count : ℕ} → (number ≡ 0 → ⊥) → Answers (evaluate_words words tokens lent) lent number rows count
-    answers-asked n = record { refused = λ _. evaluate-book b e ∙ a.refused n b t; taken = λ z. absurd (n z) }
+  module _ {T : ℕ} (b : Book) (e : stored_book words ≡ some b) (t : T ≡ b.terminals) where
+    pub answers-asked : {refusal : Refusal} {rows : List ℕ} → Asked T tokens lent (Err refusal)
+        → Answers (evaluate_words words tokens lent) lent (Err refusal) rows
+    answers-asked a = record { says = evaluate-book b e ∙ a.says b t }
 
-    pub answers-run : {r : Outcome} {rows : List ℕ} (z : number ≡ 0) → Paged (evaluate b (tables_of b) (a.passed z).list) r rows
-        → Answers (evaluate_words words tokens lent) lent r.number rows r.count
-    answers-run z told = answers-ran b (a.passed z).list (evaluate-book b e ∙ message-run b (a.passed z) t lent (a.all_rows z)) told
+    pub answers-run : {rows : List ℕ} (answer : Result ℕ Refusal) (p : Passed T tokens lent) → Paged (evaluate b (tables_of b) p.its_message.list) answer rows
+        → Answers (evaluate_words words tokens lent) lent answer rows
+    answers-run answer p told =
+        answers-ran (evaluate b (tables_of b) p.its_message.list) answer (evaluate-book b e ∙ message-run b p.its_message t lent p.all_rows) told
 
   -- 11
-  pub answers-none : {rows : List ℕ} {count : ℕ} → stored_book words ≡ none → Answers (evaluate_words words tokens lent) lent 11 rows count
-  answers-none e = answers-refused 10 (evaluate-none e)
+  pub answers-none : {rows : List ℕ} → stored_book words ≡ none → Answers (evaluate_words words tokens lent) lent (Err Stored) rows
+  unfolding number_of
+  answers-none e = record { says = evaluate-none e }
+
+-- opens every definition of this module
+unfoldable pub opens : Unit {0}
+unfolding count_of
+opens = tt

@@ -1,7 +1,7 @@
 -- What reading answers, by its number (01, "Turned-back input"): the lengths are asked first, then the text.
 -- Assumes nothing.
 use Prim.Native.Nat.{ℕ, zero, suc, ◌*◌, ◌<◌, ◌≤◌}
-use Rattle.std.specs.Prelude.{◌≡◌, Bool, ◌&&◌, List, leb, length, replicate}
+use Rattle.std.specs.Prelude.{◌≡◌, Bool, ◌&&◌, List, leb, length, replicate, Option, IsSome, IfSome, Result, Ok, Err, is_ok, MatchResult}
 use Rattle.std.proofs.Math.Path.{refl, sym, ap}
 use Rattle.std.proofs.Common.{◌∙◌, arith}
 use Rattle.std.proofs.Math.Bool.{true, false}
@@ -11,8 +11,12 @@ use Rattle.grammar.specs.Limits.{MAX_TEXT, BOOK_WORDS}
 use Rattle.grammar.specs.Format.Packing.{pack}
 use Rattle.grammar.specs.Refusal.{refusal}
 use Rattle.grammar.specs.Engine.{Reading, reading_of, read_book}
+use Rattle.book.specs.declared.Book.{Book}
 use Rattle.book.specs.declared.Room.{Room}
+use Rattle.book.specs.declared.refusal.Refusal.{Refusal}
+use Rattle.book.specs.Refusals.{answer_of}
 use Rattle.book.specs.Rooms.{full_room}
+use Rattle.compiler.specs.Answered.{number-some}
 
 -- the number that is answered, and every lent word afterwards
 pub record Reads (reading : Reading) (number : ℕ) (words : List ℕ) : Type 0 where
@@ -20,9 +24,27 @@ pub record Reads (reading : Reading) (number : ℕ) (words : List ℕ) : Type 0 
   pub words_are : words ≡ reading.words
 
 -- the refusal of a text, where arrays have room for what it has; where there is room for all, they have
-pub record Attempted (room : Room) (text : List ℕ) (complete : Bool) (r : ℕ) : Type 0 where
-  pub all : room ≡ full_room → complete ≡ true
-  pub told : complete ≡ true → r ≡ refusal text
+pub record Attempted (room : Room) (text : List ℕ) (read : Option (Result Unit Refusal)) : Type 0 where
+  pub all : room ≡ full_room → IsSome read
+  pub told : IfSome read (λ answer. answer_of answer ≡ refusal text)
+
+-- of a text that was compiled, its book left out of the answer
+pub answer-kept : (compiled : Result Book Refusal) (answer : Result Unit Refusal) → MatchResult compiled (λ _. answer ≡ Ok tt) (λ r. answer ≡ Err r)
+    → answer_of answer ≡ answer_of compiled
+unfolding answer_of
+answer-kept (Ok _) answer e = rw e
+answer-kept (Err r) answer e = rw e
+
+-- its number is 0 where nothing is refused, and there alone
+pub taken-none : (answer : Result Unit Refusal) → is_ok answer ≡ true → answer_of answer ≡ 0
+unfolding answer_of
+taken-none (Ok _) e = refl
+taken-none (Err r) e = cc
+
+pub refused-some : (answer : Result Unit Refusal) → is_ok answer ≡ false → answer_of answer ≡ 0 → ⊥
+unfolding answer_of
+refused-some (Ok _) e = cc
+refused-some (Err r) e = number-some r
 
 -- 1 for the lengths, else the number of the text
 unfoldable pub read_number : List ℕ → ℕ → ℕ
@@ -60,9 +82,10 @@ module _ (text : List ℕ) (lent : ℕ) where
       go zero = refl
       go (suc n) = refl
 
-  pub read_taken : {number : ℕ} {words : List ℕ} → number ≡ read_number text lent → number ≡ 0 → words ≡ pack lent text → Reads (read_book text lent) 0 words
+  pub read_taken : {number : ℕ} {words : List ℕ} → number ≡ read_number text lent → number ≡ 0 → words ≡ pack lent text
+      → Reads (read_book text lent) number words
   unfolding reading_of
-  read_taken e z w = rw (read_is, sym e ∙ z) (record { number_is = refl; words_are = w })
+  read_taken e z w = rw (read_is, sym e, z) (record { number_is = refl; words_are = w })
 
   pub read-refused : {number : ℕ} {words : List ℕ} → number ≡ read_number text lent → (number ≡ 0 → ⊥) → words ≡ replicate lent 0
       → Reads (read_book text lent) number words

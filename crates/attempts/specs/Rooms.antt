@@ -1,15 +1,11 @@
 -- The arrays of a book and its tables, as they are before anything is read: those that are as long as a room says, and those of one length.
 -- Assumes nothing.
-use Rattle.std.specs.Prelude.{ℕ, ◌+◌, ◌*◌, ◌≤◌, ◌≡◌, refl, Bool, true, false, List, length, replicate, take}
+use Rattle.std.specs.Prelude.{ℕ, ◌+◌, ◌*◌, ◌≤◌, ◌≡◌, refl, List, length, replicate, take}
 use Rattle.std.proofs.Common.{◌∙◌, arith, length-take}
 use Rattle.grammar.specs.Limits.{BOOK_WORDS, MAX_DEFINITIONS, MAX_KERNELS, MAX_GOES, MAX_RULES}
-use Rattle.book.specs.declared.Book.{Book}
 use Rattle.book.specs.declared.Room.{Room}
 use Rattle.book.specs.Rooms.{full_room}
-use Rattle.book.specs.Spelling.{arrays, Roomy, Complete}
 use Rattle.automaton.specs.GoTable.{Unset, unset-all}
-use Rattle.compiler.specs.States.{TablesLent}
-use Rattle.compiler.specs.Compiling.{Compiles}
 use Rattle.messages.specs.Zeros.{zeros}
 
 -- what a short book has at the most
@@ -69,27 +65,6 @@ short-arrays = fresh-arrays short_room (omega arith) (omega arith) (omega arith)
 pub full-arrays : FreshArrays full_room
 full-arrays = fresh-arrays full_room (omega arith) (omega arith) (omega arith) (omega arith)
 
--- where there is room for all that the limits allow, nothing is left out
-full-complete : (numbers : Book) → Complete full_room numbers
-full-complete numbers = record {
-  definitions-fit = λ less. absurd (omega arith);
-  kernels_fit = λ less. absurd (omega arith);
-  goes_fit = λ less. absurd (omega arith);
-  states-fit = λ less. absurd (omega arith);
-  rules-fit = λ less. absurd (omega arith);
-}
-
-pub compiled-whole : {room : Room} {text : List ℕ} {complete : Bool} {r : ℕ} {numbers : Book} {inherited synthesized rules definitions kernels goes : List ℕ}
-    {nullables reaches bounds closures table actions : List ℕ}
-    → room ≡ full_room
-    → Compiles room text complete r numbers inherited synthesized rules definitions kernels goes nullables reaches bounds closures table actions
-    → complete ≡ true
-compiled-whole {complete = complete} {numbers = numbers} all c = go complete refl
-  where
-    go : (t : Bool) → complete ≡ t → complete ≡ true
-    go true e = e
-    go false e = absurd (c.left_out e (rw all (full-complete numbers)))
-
 -- the first of the words that are lent serve as the array of definitions
 pub words-lent : {room : Room} {rules definitions kernels goes nullables begins reaches bounds closures fronts table : List ℕ} (words : List ℕ)
     → length words ≡ BOOK_WORDS → ArraysLent room rules definitions kernels goes nullables begins reaches bounds closures fronts table
@@ -111,32 +86,3 @@ words-lent {room} words e lent = record {
   kernels_few = lent.kernels_few;
   goes_few = lent.goes_few;
 }
-
-module _ {room : Room} {rules definitions kernels goes nullables begins reaches bounds closures fronts table : List ℕ}
-    (lent : ArraysLent room rules definitions kernels goes nullables begins reaches bounds closures fronts table) where
-  pub lines-room : Roomy room (arrays (replicate 16 0) (replicate 32 0) rules definitions kernels goes)
-  lines-room = record {
-    inherited_long = zeros 16;
-    synthesized_long = zeros 32;
-    rules_long = lent.rules_long;
-    definitions_long = lent.definitions_long;
-    kernels_long = lent.kernels_long;
-    goes_long = lent.goes_long;
-    rules_few = lent.rules_few;
-    definitions_few = lent.definitions_few;
-    kernels_few = lent.kernels_few;
-    goes_few = lent.goes_few;
-  }
-
-  pub tables-lent : {actions : List ℕ} → 32 * room.states ≤ length actions
-      → TablesLent room nullables begins reaches bounds closures fronts table actions
-  tables-lent long = record {
-    nullables_long = omega (arith, lent.nullables_long);
-    begins_long = omega (arith, lent.begins_long);
-    reaches_long = omega (arith, lent.reaches_long);
-    bounds_long = omega (arith, lent.bounds_long);
-    closures_none = lent.closures_none;
-    fronts_long = omega (arith, lent.fronts_long);
-    table_unset = lent.table_unset;
-    actions_long = long;
-  }

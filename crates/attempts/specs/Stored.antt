@@ -1,8 +1,8 @@
 -- The book of stored words (01, refusal 11): what is asked of the words, and what is known where a book is found.
 -- Assumes nothing.
-use Rattle.std.specs.Prelude.{ℕ, zero, suc, ◌<◌, ◌≤◌, ◌≡◌, refl, Bool, true, List, length, get_or, take}
+use Rattle.std.specs.Prelude.{ℕ, zero, suc, ◌<◌, ◌≤◌, ◌≡◌, refl, List, length, get_or, take, Some, Ok, Err}
 use Rattle.std.proofs.Common.{sym, ap, ◌∙◌, arith, length-take, ne_eqb}
-use Rattle.std.proofs.Math.Option.{Option, none, some}
+use Rattle.std.proofs.Math.Option.{Option as Sought, none, some}
 use Rattle.grammar.specs.Limits.{MAX_TEXT, BOOK_WORDS}
 use Rattle.grammar.specs.Data.Book.{Book as Lines}
 use Rattle.grammar.specs.Format.Packing.{pack}
@@ -14,8 +14,10 @@ use Rattle.grammar.specs.Demands.{Stored}
 use Rattle.grammar.proofs.StoredLaws.{refusal-taken, taken-parsed, stored-found, found-stored}
 use Rattle.book.specs.declared.Book.{Book}
 use Rattle.book.specs.declared.Room.{Room}
+use Rattle.book.specs.declared.refusal.Refusal.{Refusal}
 use Rattle.packing.specs.Words.{bytes, Holds}
 use Rattle.packing.specs.WordsLaws.{bytes-length, holds-only}
+use Rattle.compiler.specs.Compiled.{compiled-taken, refused-some}
 use Rattle.compiler.specs.Compiling.{Compiles}
 use Rattle.messages.specs.Messages.{TakenBook}
 
@@ -64,29 +66,31 @@ module _ {words text : List ℕ} {count : ℕ} (F : Found words text count) wher
     filling = F.holds.filling ∙ rw (F.all_words, F.text_is);
   }
 
-  module _ {r : ℕ} {numbers : Book} {inherited synthesized rules definitions kernels goes : List ℕ}
-      {nullables reaches bounds closures table actions : List ℕ} {complete : Bool} {room : Room} (whole : complete ≡ true)
-      (c : Compiles room (take count text) complete r numbers inherited synthesized rules definitions kernels goes nullables reaches bounds closures
-      table actions)
-    where
-      -- where the text in the words is refused, they hold no book
-      pub found_none : (r ≡ 0 → ⊥) → stored_book words ≡ none
-      found_none n = go (stored_book words) refl
-        where
-          go : (o : Option Lines) → stored_book words ≡ o → stored_book words ≡ none
-          go none q = q
-          go (some b) q =
-              let (s, same) = found-stored words b q in
-              absurd (n (c.told whole ∙ ap refusal (sym (stored-text s)) ∙ verdict-refusal s.text (taken s.its_book)))
+  module _ {inherited synthesized rules definitions kernels goes : List ℕ}
+      {nullables reaches bounds closures table actions : List ℕ} {room : Room} where
+    -- where the text in the words is refused, they hold no book
+    pub found_none : {refused : Refusal}
+        → Compiles room (take count text) (Some (Err refused)) inherited synthesized rules definitions kernels goes nullables reaches bounds closures
+        table actions
+        → stored_book words ≡ none
+    found_none c = go (stored_book words) refl
+      where
+        go : (o : Sought Lines) → stored_book words ≡ o → stored_book words ≡ none
+        go none q = q
+        go (some b) q =
+            let (s, same) = found-stored words b q in
+            absurd (refused-some c refl (ap refusal (sym (stored-text s)) ∙ verdict-refusal s.text (taken s.its_book)))
 
-      -- else there is a book, which is taken, and in the arrays
-      pub found-book : r ≡ 0
-          → (b : Lines) × (stored_book words ≡ some b)
-          × TakenBook numbers inherited synthesized rules definitions kernels goes nullables reaches bounds closures table actions b
-      unfolding stored
-      found-book z =
-          let t = refusal-taken (take count text) (sym (c.told whole) ∙ z) in (
-            t.book,
-            stored-found words (stored t),
-            record { ready = c.ready whole z t.book (taken-parsed t); spelled = t.spelled; sound = t.sound },
-          )
+    -- else there is a book, which is taken, and in the arrays
+    pub found-book : {numbers : Book}
+        → Compiles room (take count text) (Some (Ok numbers)) inherited synthesized rules definitions kernels goes nullables reaches bounds closures
+        table actions
+        → (b : Lines) × (stored_book words ≡ some b)
+        × TakenBook numbers inherited synthesized rules definitions kernels goes nullables reaches bounds closures table actions b
+    unfolding stored
+    found-book {numbers} c =
+        let t = refusal-taken (take count text) (compiled-taken c refl) in (
+          t.book,
+          stored-found words (stored t),
+          record { ready = c.ready numbers refl t.book (taken-parsed t); spelled = t.spelled; sound = t.sound },
+        )

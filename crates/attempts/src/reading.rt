@@ -5,19 +5,15 @@ ghost use Rattle.definitions.specs.Expressions.{WaitsRoom};
 ghost use Rattle.attempts.specs.Rooms.{ArraysLent};
 ghost use Rattle.attempts.specs.Readings.{Attempted};
 
+use book::refusal::Refusal;
 use book::{Book, Room};
 use compiler::compile::compile;
 use definitions::definitions::WORDS;
 use text::classes;
+use text::source::Source;
 
-// The refusal of a text, or 0; nothing is said where arrays have no room for what the text has.
-#[derive(Clone, Copy)]
-pub struct Answer {
-    pub complete: bool,
-    pub refusal: u32,
-}
-
-// The first of 2 to 10 that applies to a text, or 0, by arrays of the caller. What they hold is not looked at again; the words have room for definitions.
+// The first of 2 to 10 that applies to a text, by arrays of the caller, where they have room for what the text has. What they hold is not looked at again; the
+// words have room for definitions.
 pub fn attempt(
     text: &[u8],
     room: Room,
@@ -33,20 +29,23 @@ pub fn attempt(
     table: &mut [u8],
     actions: &mut [u8],
     words: &mut [u32],
-) -> Answer
+) -> Option<Result<(), Refusal>>
     requires { (length text.now ≤ MAX_TEXT) × (length words.old ≡ BOOK_WORDS)
         × WaitsRoom text.now actions.old × (32 * room.states ≤ length actions.old)
         × ArraysLent room rules.old (take (49 * room.definitions) words.old) kernels.old goes.old nullables.old begins.old
         reaches.old bounds.old closures.old fronts.old table.old }
-    ensures { Attempted room text.now result.complete result.refusal }
+    ensures { Attempted room text.now result }
 {
-    let t = classes();
+    let classes = classes();
+    let source = Source {
+        classes: &classes,
+        bytes: text,
+    };
     let size = WORDS * room.definitions;
     let mut inherited = [0u32; Book::MAX_INHERITED as usize];
     let mut synthesized = [0u32; Book::MAX_SYNTHESIZED as usize];
     let compiled = compile(
-        &t,
-        text,
+        &source,
         room,
         &mut inherited,
         &mut synthesized,
@@ -62,9 +61,6 @@ pub fn attempt(
         fronts,
         table,
         actions,
-    );
-    Answer {
-        complete: compiled.complete,
-        refusal: compiled.refusal,
-    }
+    )?;
+    Some(compiled.map(|_| ()))
 }

@@ -6,17 +6,11 @@ ghost use Rattle.attempts.specs.Tokens.{kinds_right};
 pub fn kinds_right(tokens: &[u32], terminals: u32) -> bool
     ensures { result ≡ kinds_right terminals tokens.now }
 {
-    let n = tokens.len() / 2;
-    let mut i = 0;
-    while i < n {
+    for i in 0..tokens.len() / 2 {
         let kind = tokens[2 * i];
-        if kind == 0 {
+        if kind == 0 || terminals < kind {
             return false;
         }
-        if terminals < kind {
-            return false;
-        }
-        i += 1;
     }
     true
 }

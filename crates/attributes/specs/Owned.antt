@@ -4,7 +4,7 @@ use Prim.Native.Nat.{ℕ, zero, suc, ◌+◌, ◌<◌, ◌≤◌}
 use Rattle.std.specs.Prelude.{◌≡◌, ◌⊎◌, Bool, ◌||◌, List, eqb, length, get_or, set, replicate}
 use Rattle.std.proofs.Math.Path.{refl}
 use Rattle.std.proofs.Common.{sym, ap, ◌∙◌, inl, inr, add-one, length-set, get_or-set_same, get_or-set_other}
-use Rattle.std.proofs.Math.Bool.{true, false}
+use Rattle.std.proofs.Math.Bool.{true, false, or-false}
 use Rattle.std.proofs.Math.Option.{Option, none, some}
 use native.Mathlib.Omega.{arith}
 use Rattle.std.proofs.Math.Decide.{ℕ_discrete}
@@ -37,6 +37,10 @@ is_filled (some f) = true
 
 pub record KnownIn (slots : Slots) (known : ℕ) : Type 0 where
   pub known_is : (K : ℕ) → K < 16 → bit known K ≡ is_filled (slot_at slots K)
+
+-- one attribute more changes no other
+pub with-other : (s K J : ℕ) → J < 32 → (J ≡ K → ⊥) → bit (with s K) J ≡ bit s J
+with-other s K J h n = bit-with s K J h ∙ ap (λ (t : Bool). bit s J || t) (ne_eqb K J (λ e. n (sym e))) ∙ or-false (bit s J)
 
 -- opens every definition of this module
 unfoldable pub opens : Unit {0}

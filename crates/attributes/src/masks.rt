@@ -120,8 +120,7 @@ fn mark_fronts(
         → SuffixesIn b.rules F nullables.now begins → ReachesIn b.rules F R reaches.now
         → 9 * length b.rules ≤ length masks.old → FrontsMarked b F R L lines masks.new }
 {
-    let mut i = 0;
-    while i < lines {
+    for i in 0..lines {
         mark_front(
             definitions,
             i,
@@ -132,7 +131,6 @@ fn mark_fronts(
             reaches,
             masks,
         );
-        i += 1;
     }
 }
 
@@ -164,22 +162,8 @@ fn mark_lines(
         → SuffixesIn b.rules F nullables.now begins → ReachesIn b.rules F R reaches.now → MarksIn b F R items masks.old
         → MarksIn b F R (of_kernels (slice first last b.kernels) ++ items) masks.new }
 {
-    let mut i = last;
-    while i > first {
-        i -= 1;
+    for i in (first..last).rev() {
         mark_line(kernels, i, nullables, reaches, masks);
-    }
-}
-
-// Sets that have nothing, in the first words.
-pub fn clear(masks: &mut [u32], n: usize)
-    requires { n ≤ length masks.old }
-    ensures { masks.new ≡ replicate n 0 ++ drop n masks.old }
-{
-    let mut i = 0;
-    while i < n {
-        masks[i] = 0;
-        i += 1;
     }
 }
 

@@ -11,10 +11,8 @@ pub fn owned(owners: &[u32], count: usize, sets: &mut [u32])
         × (sets.old ≡ replicate 32 0) }
     ensures { (os : List ℕ) → OwnersIn MAX_INHERITED os owners.now → length os ≡ count → OwnedIn os count sets.new }
 {
-    let mut i = 0;
-    while i < count {
+    for i in 0..count {
         let owner = owners[i] as usize;
         sets[owner] = sets::with(sets[owner], i as u32);
-        i += 1;
     }
 }

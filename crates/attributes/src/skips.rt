@@ -28,10 +28,8 @@ pub fn skip(definitions: &[u32], lines: usize, masks: &[u32], wanted: u32, skips
     ensures { Skips definitions.now masks.now wanted lines skips.new }
 {
     let mut next = lines;
-    let mut i = lines;
-    skips[i] = next as u8;
-    while i > 0 {
-        i -= 1;
+    skips[lines] = next as u8;
+    for i in (0..lines).rev() {
         next = nearest(definitions, i, masks, wanted, next);
         skips[i] = next as u8;
     }

@@ -29,6 +29,7 @@ use Rattle.items.specs.GrammarIn.{GrammarIn, Next, after_none, after-some, right
 use Rattle.automaton.specs.StatesIn.{StatesIn, Stands, Range, state-range, lines_next}
 use Rattle.automaton.specs.Advances.{kernel-stands}
 use Rattle.automaton.specs.Lefts.{Least}
+use Rattle.automaton.specs.Members.{Cleared}
 use Rattle.automaton.specs.Fronts.{FrontsIn, Rest, rest-first, rest-none, rest-there, rest-idle, rest_more, idle-rules}
 use Rattle.automaton.specs.Cells.{shifting, shift-code}
 use Rattle.automaton.specs.ActionRows.{Row, Clash, Melded, Given, meld_at, item_cells, melded-at, melded-same, melded-none, melded-then, melded-clash}
@@ -146,55 +147,58 @@ module _ {b : Book} {F : Sets} {rules closures : List ℕ} (g : GrammarIn b rule
       go zero n m = absurd (n refl)
       go (suc M) n m = unfold entered cell_from in m
 
--- the rules below `rule` are done, and the others that the closure has are among the bits of `rest`
-pub record RulesActing (rules closures fronts : List ℕ) (T S : ℕ) (old now : List ℕ) (rest rule : ℕ) : Type 0 where
+-- the rules below one are done, and the others that the closure has are among the bits of `rest`
+pub record RulesActing (rules closures fronts : List ℕ) (T S : ℕ) (old now : List ℕ) (rest : ℕ) : Type 0 where
   pub long : length now ≡ length old
-  pub walk : (b : Book) → S < b.states → FrontsIn b rules closures fronts → Rest rules closures S (length b.rules) rest rule
+  pub done : ℕ
+  pub walk : (b : Book) → S < b.states → FrontsIn b rules closures fronts → Rest rules closures S (length b.rules) rest done
   pub so_far : (b : Book) (F : Sets) → GrammarIn b rules → ClosuresIn b F closures → S < b.states → T ≡ b.terminals
       → FrontsIn b rules closures fronts → Row T S (cell_from b.rules []) old
-      → Melded T S (cell_from b.rules (of_rules b.rules (closure_sets b F S) rule)) old now true
+      → Melded T S (cell_from b.rules (of_rules b.rules (closure_sets b F S) done)) old now true
 
-pub acting-none : (rules closures fronts : List ℕ) (T S : ℕ) (old : List ℕ) → RulesActing rules closures fronts T S old old (get_or fronts S 0) 0
+pub acting-none : (rules closures fronts : List ℕ) (T S : ℕ) (old : List ℕ) → RulesActing rules closures fronts T S old old (get_or fronts S 0)
 unfolding of_rules
 acting-none rules closures fronts T S old = record {
   long = refl;
+  done = 0;
   walk = λ b s W. rest-first W s;
   so_far = λ b F g k s t W row. melded-none row;
 }
 
-module _ {rules closures fronts : List ℕ} {T S : ℕ} {old now : List ℕ} {rest rule : ℕ} (k : RulesActing rules closures fronts T S old now rest rule) where
+module _ {rules closures fronts : List ℕ} {T S : ℕ} {old now : List ℕ} {rest : ℕ} (k : RulesActing rules closures fronts T S old now rest) where
   pub acting-all : rest ≡ 0 → (b : Book) (F : Sets) → GrammarIn b rules → ClosuresIn b F closures → S < b.states → T ≡ b.terminals
       → FrontsIn b rules closures fronts → Row T S (cell_from b.rules []) old
       → Melded T S (cell_from b.rules (of_rules b.rules (closure_sets b F S) (length b.rules))) old now true
   acting-all z b F g h s t W row =
-      let R : Rest rules closures S (length b.rules) rest rule = k.walk b s W in
-      rw (idle-rules g h s rule (length b.rules) R.within (omega arith) (rest-none R z)) (k.so_far b F g h s t W row)
+      let R : Rest rules closures S (length b.rules) rest k.done = k.walk b s W in
+      rw (idle-rules g h s k.done (length b.rules) R.within (omega arith) (rest-none R z)) (k.so_far b F g h s t W row)
 
   -- the next rule
-  module _ {gap : ℕ} (least : Least rest gap) where
-    pub acting-stands : (b : Book) → S < b.states → FrontsIn b rules closures fronts → Stands b S (rule + gap) 0
-    acting-stands b s W = record { state_there = s; rule_there = rest-there (k.walk b s W) least; dot_there = zero-le }
+  module _ {rule : ℕ} (least : Least rest rule) where
+    pub acting-stands : (b : Book) → S < b.states → FrontsIn b rules closures fronts → Stands b S rule 0
+    acting-stands b s W = record { state_there = s; rule_there = (rest-there (k.walk b s W) least).1; dot_there = zero-le }
 
     module _ {new : List ℕ} {r : Bool}
-        (f : (b : Book) (F : Sets) (items : List Core) → GrammarIn b rules → ClosuresIn b F closures → Stands b S (rule + gap) 0 → T ≡ b.terminals
+        (f : (b : Book) (F : Sets) (items : List Core) → GrammarIn b rules → ClosuresIn b F closures → Stands b S rule 0 → T ≡ b.terminals
         → Row T S (cell_from b.rules items) now
-        → Melded T S (cell_from b.rules (entered (rule + gap) (set_at (closure_sets b F S) (left_of b.rules (rule + gap))) items)) now new r) where
+        → Melded T S (cell_from b.rules (entered rule (set_at (closure_sets b F S) (left_of b.rules rule)) items)) now new r) where
       next-rule : (b : Book) (F : Sets) → GrammarIn b rules → ClosuresIn b F closures → S < b.states → T ≡ b.terminals
           → FrontsIn b rules closures fronts → Row T S (cell_from b.rules []) old
-          → Melded T S (cell_from b.rules (of_rules b.rules (closure_sets b F S) (rule + gap + 1))) old new r
+          → Melded T S (cell_from b.rules (of_rules b.rules (closure_sets b F S) (rule + 1))) old new r
       unfolding of_rules
       next-rule b F g h s t W row =
-          let R : Rest rules closures S (length b.rules) rest rule = k.walk b s W in
-          let left_out : of_rules b.rules (closure_sets b F S) (rule + gap) ≡ of_rules b.rules (closure_sets b F S) rule =
-          idle-rules g h s rule (rule + gap) (omega arith) (omega (arith, rest-there R least)) (rest-idle R least) in
-          let m : Melded T S (cell_from b.rules (of_rules b.rules (closure_sets b F S) (rule + gap))) old now true =
+          let R : Rest rules closures S (length b.rules) rest k.done = k.walk b s W in
+          let (after-done, there) = rest-there R least in
+          let left_out : of_rules b.rules (closure_sets b F S) rule ≡ of_rules b.rules (closure_sets b F S) k.done =
+          idle-rules g h s k.done rule after-done (omega arith) (rest-idle R least) in
+          let m : Melded T S (cell_from b.rules (of_rules b.rules (closure_sets b F S) rule)) old now true =
           rw left_out (k.so_far b F g h s t W row) in
-          rw (add-one (rule + gap)) (melded-then m (f b F (of_rules b.rules (closure_sets b F S) (rule + gap)) g h (acting-stands b s W) t (m.row refl)))
+          rw (add-one rule) (melded-then m (f b F (of_rules b.rules (closure_sets b F S) rule) g h (acting-stands b s W) t (m.row refl)))
 
-      pub acting-more : r ≡ true → length new ≡ length now → {next : ℕ} → ((i : ℕ) → bit next i ≡ bit rest (gap + 1 + i))
-          → RulesActing rules closures fronts T S old new next (rule + gap + 1)
+      pub acting-more : r ≡ true → length new ≡ length now → {next : ℕ} → Cleared rest rule next → RulesActing rules closures fronts T S old new next
       acting-more q e next-is = record {
         long = e ∙ k.long;
+        done = rule + 1;
         walk = λ b s W. rest_more (k.walk b s W) least next-is;
         so_far = λ b F g h s t W row. rw q at (next-rule b F g h s t W row);
       }
@@ -203,8 +207,8 @@ module _ {rules closures fronts : List ℕ} {T S : ℕ} {old now : List ℕ} {re
           → FrontsIn b rules closures fronts → Row T S (cell_from b.rules []) old
           → Melded T S (cell_from b.rules (of_rules b.rules (closure_sets b F S) (length b.rules))) old new false
       acting-fail q b F g h s t W row =
-          let there : rule + gap < length b.rules = rest-there (k.walk b s W) least in
-          melded-clash (clash-rules b.rules (closure_sets b F S) (length b.rules) (rule + gap + 1) (omega arith)
+          let there : rule < length b.rules = (rest-there (k.walk b s W) least).1 in
+          melded-clash (clash-rules b.rules (closure_sets b F S) (length b.rules) (rule + 1) (omega arith)
           ((next-rule b F g h s t W row).clash q))
 
 -- ---- the kernel lines of a state, from the last on

@@ -6,11 +6,10 @@ use Rattle.std.proofs.Common.{add-one, eq-or-lt_of_le, le_of_suc-le-suc, ◌∙�
 use Rattle.std.specs.Prelude.{◌≡◌, Bool, length, get_or}
 use Rattle.std.proofs.Math.Path.{refl, sym, ap}
 use Rattle.std.proofs.Math.Bool.{true, false}
+use Rattle.std.specs.Prelude.{Option as Target, None, Some}
 use Rattle.std.proofs.Math.Option.{Option, none, some}
 use mathlib.Core.List.{List, [], ◌∷◌, ◌++◌}
 use Rattle.std.proofs.Math.Seq.{slice, slice_empty}
-use Rattle.sets.specs.Sets.{bit}
-use Rattle.grammar.specs.Limits.{MAX_STATES}
 use Rattle.grammar.specs.Data.Symbol.{Symbol, left_of, after}
 use Rattle.grammar.specs.Data.Book.{Book, Kernel}
 use Rattle.grammar.specs.Conditions.Meaning.{Declared, DeclaredKernel}
@@ -26,6 +25,7 @@ use Rattle.items.specs.Arrays.{target_code}
 use Rattle.items.specs.GrammarIn.{Next, after_none, after-some, right-go, set_word}
 use Rattle.automaton.specs.StatesIn.{StatesIn, MovesIn, ItemsIn, AutomatonIn, Stands, Range, state-range, kernel_there, lines_next}
 use Rattle.automaton.specs.Lefts.{Least}
+use Rattle.automaton.specs.Members.{Cleared}
 use Rattle.automaton.specs.Fronts.{FrontsIn, Rest, rest-first, rest-none, rest-there, rest-idle, rest_more, idle-rules}
 
 -- ---- one item
@@ -35,6 +35,11 @@ pub target_there : {b : Book} → Declared b → (S : ℕ) (X : Symbol) {M : ℕ
 target_there {b} d S X {M} e =
     let l : LineTo b.goes S X M = go-line e in
     rw l.to_state at (d.goes_declared l.line l.there).target_there
+
+-- the target that a word of the go table tells, or that there is none
+abbrev pub TargetOf : Target ℕ → ℕ → Type 0
+TargetOf None word = word ≡ 255
+TargetOf (Some T) word = (word ≡ T) × (T ≡ 255 → ⊥)
 
 -- the go line of (P, D) leads to state T
 pub record Leads (b : Book) (S P D M T : ℕ) : Type 0 where
@@ -98,22 +103,20 @@ module _ {b : Book} {rules kernels bounds table : List ℕ} (h : MovesIn b rules
           rw e (record { target_is = target_there h.states_in.grammar_in.declared S n.symbol q; stands = rw (n.behind, q) })
 
   -- by the words that were read: the symbol, the target, and where the target's kernel lines stand
-  module _ (more : D < get_or rules (10 * P + 1) 0) {symbol : ℕ} (symbol_is : symbol ≡ get_or rules (10 * P + 2 + D) 0)
-      (somewhere : get_or table (64 * S + symbol) 0 ≡ 255 → ⊥) where
-    led : (M : ℕ) → Leads b S P D M (get_or table (64 * S + symbol) 0)
-    led M = rw symbol_is (advances-leads M more (rw symbol_is at somewhere))
+  module _ (more : D < get_or rules (10 * P + 1) 0) {symbol : ℕ} (symbol_is : symbol ≡ get_or rules (10 * P + 2 + D) 0) {T : ℕ}
+      (target_is : TargetOf (Some T) (get_or table (64 * S + symbol) 0)) where
+    led : (M : ℕ) → Leads b S P D M T
+    led M =
+        let word_is : get_or table (64 * S + get_or rules (10 * P + 2 + D) 0) 0 ≡ T = rw symbol_is at target_is.0 in
+        rw word_is at (advances-leads M more (λ e. target_is.1 (sym word_is ∙ e)))
 
-    pub target-range : let T : ℕ = get_or table (64 * S + symbol) 0 in Range b T (get_or bounds T 0) (get_or bounds (T + 1) 0)
-    target-range = state-range h.states_in (get_or table (64 * S + symbol) 0) (led 0).target_is
-
-    pub target-within : get_or table (64 * S + symbol) 0 < b.states
+    pub target-within : T < b.states
     target-within = (led 0).target_is
 
-    pub target_low : get_or table (64 * S + symbol) 0 < MAX_STATES
-    target_low = omega (arith, target-within, h.states_in.grammar_in.limits.states_limit.high)
+    pub target-range : Range b T (get_or bounds T 0) (get_or bounds (T + 1) 0)
+    target-range = state-range h.states_in T target-within
 
-    pub advances-found : (M : ℕ) {r : Bool} {first last : ℕ} → first ≡ get_or bounds (get_or table (64 * S + symbol) 0) 0
-        → last ≡ get_or bounds (get_or table (64 * S + symbol) 0 + 1) 0
+    pub advances-found : (M : ℕ) {r : Bool} {first last : ℕ} → first ≡ get_or bounds T 0 → last ≡ get_or bounds (T + 1) 0
         → ((ks : List Kernel) → KernelsIn ks kernels → last ≤ length ks → r ≡ holds_item P (D + 1) M (slice first last ks))
         → r ≡ advances b S P D M (after b.rules P D)
     advances-found M {r} {first} {last} e f found =
@@ -251,58 +254,61 @@ rules-false b S looks (suc n) p l e =
         let t : Bool = all_advance b S (entered n M []) in
         unfold of_rules in entered-item b S n M (of_rules b.rules looks n) t refl ∙ stays t q
 
--- the rules below `rule` advance, and the others that the closure has are among the bits of `rest`
-pub record RulesAdvance (rules kernels bounds closures table fronts : List ℕ) (S rest rule : ℕ) : Type 0 where
-  pub walk : (b : Book) → S < b.states → FrontsIn b rules closures fronts → Rest rules closures S (length b.rules) rest rule
+-- the rules below one advance, and the others that the closure has are among the bits of `rest`
+pub record RulesAdvance (rules kernels bounds closures table fronts : List ℕ) (S rest : ℕ) : Type 0 where
+  pub done : ℕ
+  pub walk : (b : Book) → S < b.states → FrontsIn b rules closures fronts → Rest rules closures S (length b.rules) rest done
   pub so_far : (b : Book) (F : Sets) → AutomatonIn b F rules kernels bounds closures table → S < b.states → FrontsIn b rules closures fronts
-      → all_advance b S (of_rules b.rules (closure_sets b F S) rule) ≡ true
+      → all_advance b S (of_rules b.rules (closure_sets b F S) done) ≡ true
 
 pub rules-none : (rules kernels bounds closures table fronts : List ℕ) (S : ℕ)
-    → RulesAdvance rules kernels bounds closures table fronts S (get_or fronts S 0) 0
+    → RulesAdvance rules kernels bounds closures table fronts S (get_or fronts S 0)
 unfolding all_advance of_rules
-rules-none rules kernels bounds closures table fronts S = record { walk = λ b s W. rest-first W s; so_far = λ b F h s W. refl }
+rules-none rules kernels bounds closures table fronts S =
+    record { done = 0; walk = λ b s W. rest-first W s; so_far = λ b F h s W. refl }
 
-module _ {rules kernels bounds closures table fronts : List ℕ} {S rest rule : ℕ} (k : RulesAdvance rules kernels bounds closures table fronts S rest rule) where
+module _ {rules kernels bounds closures table fronts : List ℕ} {S rest : ℕ} (k : RulesAdvance rules kernels bounds closures table fronts S rest) where
   pub rules-all : rest ≡ 0 → (b : Book) (F : Sets) → AutomatonIn b F rules kernels bounds closures table → S < b.states
       → FrontsIn b rules closures fronts → true ≡ all_advance b S (of_rules b.rules (closure_sets b F S) (length b.rules))
   rules-all z b F h s W =
-      let R : Rest rules closures S (length b.rules) rest rule = k.walk b s W in
-      let left_out = idle-rules h.states_in.grammar_in h.closures_in s rule (length b.rules) R.within (omega arith) (rest-none R z) in
+      let R : Rest rules closures S (length b.rules) rest k.done = k.walk b s W in
+      let left_out = idle-rules h.states_in.grammar_in h.closures_in s k.done (length b.rules) R.within (omega arith) (rest-none R z) in
       sym (ap (all_advance b S) left_out ∙ k.so_far b F h s W)
 
   -- the next rule
-  module _ {gap : ℕ} (least : Least rest gap) where
-    pub rule-stands : (b : Book) → S < b.states → FrontsIn b rules closures fronts → Stands b S (rule + gap) 0
-    rule-stands b s W = record { state_there = s; rule_there = rest-there (k.walk b s W) least; dot_there = zero-le }
+  module _ {rule : ℕ} (least : Least rest rule) where
+    pub rule-stands : (b : Book) → S < b.states → FrontsIn b rules closures fronts → Stands b S rule 0
+    rule-stands b s W = record { state_there = s; rule_there = (rest-there (k.walk b s W) least).1; dot_there = zero-le }
 
     next-rule : (b : Book) (F : Sets) → AutomatonIn b F rules kernels bounds closures table → S < b.states → FrontsIn b rules closures fronts
-        → (t : Bool) → rule_advances b F S (rule + gap) ≡ t → all_advance b S (of_rules b.rules (closure_sets b F S) (rule + gap + 1)) ≡ t
+        → (t : Bool) → rule_advances b F S rule ≡ t → all_advance b S (of_rules b.rules (closure_sets b F S) (rule + 1)) ≡ t
     unfolding of_rules rule_advances
     next-rule b F h s W t q =
-        let R : Rest rules closures S (length b.rules) rest rule = k.walk b s W in
-        let left_out = idle-rules h.states_in.grammar_in h.closures_in s rule (rule + gap) (omega arith) (omega (arith, rest-there R least))
-        (rest-idle R least) in
-        rw (add-one (rule + gap)) (entered-item b S (rule + gap) _ _ t q ∙ own t (ap (all_advance b S) left_out ∙ k.so_far b F h s W))
+        let R : Rest rules closures S (length b.rules) rest k.done = k.walk b s W in
+        let (after-done, there) = rest-there R least in
+        let left_out = idle-rules h.states_in.grammar_in h.closures_in s k.done rule after-done (omega arith) (rest-idle R least) in
+        rw (add-one rule) (entered-item b S rule _ _ t q ∙ own t (ap (all_advance b S) left_out ∙ k.so_far b F h s W))
       where
         own : (t : Bool) {x : Bool} → x ≡ true → elim t [ true ↦ x | false ↦ false ] ≡ t
         own true e = e
         own false e = refl
 
-    pub rules-more : ((b : Book) (F : Sets) → AutomatonIn b F rules kernels bounds closures table → Stands b S (rule + gap) 0
-        → true ≡ rule_advances b F S (rule + gap)) → {next : ℕ} → ((i : ℕ) → bit next i ≡ bit rest (gap + 1 + i))
-        → RulesAdvance rules kernels bounds closures table fronts S next (rule + gap + 1)
+    pub rules-more : ((b : Book) (F : Sets) → AutomatonIn b F rules kernels bounds closures table → Stands b S rule 0
+        → true ≡ rule_advances b F S rule) → {next : ℕ} → Cleared rest rule next
+        → RulesAdvance rules kernels bounds closures table fronts S next
     rules-more e next-is = record {
+      done = rule + 1;
       walk = λ b s W. rest_more (k.walk b s W) least next-is;
       so_far = λ b F h s W. next-rule b F h s W true (sym (e b F h (rule-stands b s W)));
     }
 
-    pub rules-fail : ((b : Book) (F : Sets) → AutomatonIn b F rules kernels bounds closures table → Stands b S (rule + gap) 0
-        → false ≡ rule_advances b F S (rule + gap))
+    pub rules-fail : ((b : Book) (F : Sets) → AutomatonIn b F rules kernels bounds closures table → Stands b S rule 0
+        → false ≡ rule_advances b F S rule)
         → (b : Book) (F : Sets) → AutomatonIn b F rules kernels bounds closures table → S < b.states → FrontsIn b rules closures fronts
         → false ≡ all_advance b S (of_rules b.rules (closure_sets b F S) (length b.rules))
     rules-fail e b F h s W =
-        let there : rule + gap < length b.rules = rest-there (k.walk b s W) least in
-        sym (rules-false b S (closure_sets b F S) (length b.rules) (rule + gap + 1) (omega arith)
+        let there : rule < length b.rules = (rest-there (k.walk b s W) least).1 in
+        sym (rules-false b S (closure_sets b F S) (length b.rules) (rule + 1) (omega arith)
         (next-rule b F h s W false (sym (e b F h (rule-stands b s W)))))
 
 -- ---- all items of a state

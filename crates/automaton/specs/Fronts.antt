@@ -1,9 +1,10 @@
 -- The rules with items in each state's closure, as the bits of a number for each state, and a walk over those of one: the others are left out.
 -- Assumes nothing.
-use Rattle.std.specs.Prelude.{ℕ, zero, suc, ◌+◌, ◌*◌, ◌-◌, ◌<◌, ◌≤◌, ◌≡◌, refl, true, false, List, length, get_or, set}
+use Rattle.std.specs.Prelude.{ℕ, zero, suc, ◌+◌, ◌*◌, ◌<◌, ◌≤◌, ◌≡◌, refl, true, false, List, length, get_or, set}
 use Rattle.std.proofs.Common.{arith, eq-or-lt_of_le, le_of_suc-le-suc, sym, ◌∙◌, ⊎_elim, length-set, get_or-set_same, get_or-set_other}
 use Rattle.std.proofs.Math.Decide.{ℕ_discrete}
 use Rattle.std.proofs.Math.Path.{ap}
+use Rattle.text.proofs.Positional.{by_less}
 use Rattle.sets.specs.Sets.{bit}
 use Rattle.grammar.specs.Data.Symbol.{Rule, left_of}
 use Rattle.grammar.specs.Data.Book.{Book}
@@ -15,6 +16,7 @@ use Rattle.grammar.specs.Automaton.TestLaws.{true-false}
 use Rattle.items.specs.Arrays.{ClosuresIn}
 use Rattle.items.specs.GrammarIn.{GrammarIn, rule_low, set_word}
 use Rattle.automaton.specs.Lefts.{Lefts, Gathered, Least, none-bit}
+use Rattle.automaton.specs.Members.{Cleared}
 
 -- ---- the rules of every state
 
@@ -74,39 +76,38 @@ fronts-more {rules} {count} {closures} {n} {fronts} f room L {mask} G = record {
 
 -- ---- the walk
 
--- of the rules from one on, those with items in the closure of state S are among the bits of `rest`
-pub record Rest (rules closures : List ℕ) (S count rest rule : ℕ) : Type 0 where
-  pub within : rule ≤ count
-  pub low : (i : ℕ) → bit rest i ≡ true → rule + i < count
-  pub idle : (P : ℕ) → rule ≤ P → P < count → bit rest (P - rule) ≡ false → get_or closures (32 * S + get_or rules (10 * P) 0) 0 ≡ 0
+-- the rules below one are done; of the others, those with items in the closure of state S are among the bits of `rest`
+pub record Rest (rules closures : List ℕ) (S count rest done : ℕ) : Type 0 where
+  pub within : done ≤ count
+  pub low : (P : ℕ) → bit rest P ≡ true → (done ≤ P) × (P < count)
+  pub idle : (P : ℕ) → done ≤ P → P < count → bit rest P ≡ false → get_or closures (32 * S + get_or rules (10 * P) 0) 0 ≡ 0
 
 pub rest-first : {rules : List ℕ} {count : ℕ} {closures : List ℕ} {states : ℕ} {fronts : List ℕ} → Fronts rules count closures states fronts → {S : ℕ}
     → S < states → Rest rules closures S count (get_or fronts S 0) 0
-rest-first {fronts = fronts} f {S} s = record {
+rest-first f {S} s = record {
   within = omega arith;
-  low = λ i e. omega (arith, f.low S i s e);
-  idle = λ P h l e. let z : P - 0 ≡ P = omega arith in f.idle S P s l (rw z at e);
+  low = λ P e. (omega arith, f.low S P s e);
+  idle = λ P h l e. f.idle S P s l e;
 }
 
-module _ {rules closures : List ℕ} {S count rest rule : ℕ} (R : Rest rules closures S count rest rule) where
+module _ {rules closures : List ℕ} {S count rest done : ℕ} (R : Rest rules closures S count rest done) where
   -- no rule is left
-  pub rest-none : rest ≡ 0 → (P : ℕ) → rule ≤ P → P < count → get_or closures (32 * S + get_or rules (10 * P) 0) 0 ≡ 0
-  rest-none z P f l = R.idle P f l (rw z (none-bit (P - rule)))
+  pub rest-none : rest ≡ 0 → (P : ℕ) → done ≤ P → P < count → get_or closures (32 * S + get_or rules (10 * P) 0) 0 ≡ 0
+  rest-none z P f l = R.idle P f l (rw z (none-bit P))
 
-  module _ {gap : ℕ} (L : Least rest gap) where
-    pub rest-there : rule + gap < count
-    rest-there = R.low gap L.own
+  -- the next one
+  module _ {rule : ℕ} (L : Least rest rule) where
+    pub rest-there : (done ≤ rule) × (rule < count)
+    rest-there = R.low rule L.own
 
-    pub rest-idle : (P : ℕ) → rule ≤ P → P < rule + gap → get_or closures (32 * S + get_or rules (10 * P) 0) 0 ≡ 0
-    rest-idle P f l = R.idle P f (omega (arith, rest-there)) (L.none (P - rule) (omega arith))
+    pub rest-idle : (P : ℕ) → done ≤ P → P < rule → get_or closures (32 * S + get_or rules (10 * P) 0) 0 ≡ 0
+    rest-idle P f l = R.idle P f (omega (arith, rest-there)) (L.none P l)
 
-    pub rest_more : {next : ℕ} → ((i : ℕ) → bit next i ≡ bit rest (gap + 1 + i)) → Rest rules closures S count next (rule + gap + 1)
-    rest_more next-is = record {
+    pub rest_more : {next : ℕ} → Cleared rest rule next → Rest rules closures S count next (rule + 1)
+    rest_more {next} c = record {
       within = omega (arith, rest-there);
-      low = λ i e. omega (arith, R.low (gap + 1 + i) (sym (next-is i) ∙ e));
-      idle = λ P f l e.
-          let at : gap + 1 + (P - (rule + gap + 1)) ≡ P - rule = omega arith in
-          R.idle P (omega arith) l (ap (bit rest) (sym at) ∙ sym (next-is _) ∙ e);
+      low = λ P e. by_less rule P (λ l. (omega arith, (R.low P (sym (c.kept P l) ∙ e)).1)) (λ l. true-false e (c.gone P l));
+      idle = λ P f l e. R.idle P (omega (arith, rest-there)) l (sym (c.kept P (omega arith)) ∙ e);
     }
 
 -- ---- rules without items are left out

@@ -4,7 +4,7 @@ use Rattle.std.specs.Prelude.{ℕ, ◌+◌, ◌*◌, ◌<◌, ◌≤◌, ◌≡�
 use Rattle.std.proofs.Common.{arith, ◌∙◌}
 use Rattle.std.proofs.Math.Path.{sym, ap}
 use Rattle.std.proofs.Math.Seq.{slice, slice_empty}
-use borrow.Author.Tests.{eq-eqb, ne_eqb}
+use Rattle.std.proofs.Math.Bool.{and_assoc}
 use Rattle.sets.specs.Sets.{subset}
 use Rattle.grammar.specs.Data.Book.{Kernel}
 use Rattle.grammar.specs.Automaton.ClosureSets.{set_of}
@@ -16,20 +16,21 @@ use Rattle.automaton.specs.StatesIn.{lines_next}
 unfoldable pub is_item : List ℕ → ℕ → ℕ → ℕ → ℕ → Bool
 is_item kernels i P D M = eqb (get_or kernels (5 * i + 1) 0) P && (eqb (get_or kernels (5 * i + 2) 0) D && subset M (get_or kernels (5 * i + 4) 0))
 
--- by its words, one after the other
-module _ (kernels : List ℕ) (i P D M : ℕ) {rule : ℕ} (rule_is : rule ≡ get_or kernels (5 * i + 1) 0) where
-  pub other-rule : (rule ≡ P → ⊥) → false ≡ is_item kernels i P D M
+-- by its words, and then by its lookaheads
+module _ (kernels : List ℕ) (i P D M : ℕ) where
+  abbrev pub named : Bool
+  named = eqb (get_or kernels (5 * i + 1) 0) P && eqb (get_or kernels (5 * i + 2) 0) D
+
+  is-named : (named && subset M (get_or kernels (5 * i + 4) 0)) ≡ is_item kernels i P D M
   unfolding is_item
-  other-rule n = sym (rw (← rule_is, ne_eqb rule P n))
+  is-named =
+      and_assoc (eqb (get_or kernels (5 * i + 1) 0) P) (eqb (get_or kernels (5 * i + 2) 0) D) (subset M (get_or kernels (5 * i + 4) 0))
 
-  module _ {dot : ℕ} (same_rule : rule ≡ P) (dot_is : dot ≡ get_or kernels (5 * i + 2) 0) where
-    pub other-dot : (dot ≡ D → ⊥) → false ≡ is_item kernels i P D M
-    unfolding is_item
-    other-dot n = sym (rw (← rule_is, ← dot_is, eq-eqb rule P same_rule, ne_eqb dot D n))
+  pub other-item : named ≡ false → named ≡ is_item kernels i P D M
+  other-item e = e ∙ (rw e at is-named)
 
-    pub same_dot : {t : Bool} → dot ≡ D → t ≡ subset M (get_or kernels (5 * i + 4) 0) → t ≡ is_item kernels i P D M
-    unfolding is_item
-    same_dot e q = q ∙ sym (rw (← rule_is, ← dot_is, eq-eqb rule P same_rule, eq-eqb dot D e))
+  pub same-item : named ≡ true → {t : Bool} → t ≡ subset M (get_or kernels (5 * i + 4) 0) → t ≡ is_item kernels i P D M
+  same-item e q = q ∙ (rw e at is-named)
 
 -- ---- a kernel line of an item
 

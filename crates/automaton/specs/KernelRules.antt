@@ -1,11 +1,11 @@
 -- The kernel rules (7) by a walk over the kernel lines: they hold exactly if the first line is the one of state 0, each other line may stand behind
 -- the line before it, and the last line is of the last state. Assumes nothing.
-use Rattle.std.specs.Prelude.{ℕ, zero, suc, ◌+◌, ◌*◌, ◌-◌, ◌<◌, ◌≤◌, ◌≡◌, ◌≢◌, Bool, true, false, eqb, length, get_or, set}
+use Rattle.std.specs.Prelude.{ℕ, zero, suc, ◌+◌, ◌*◌, ◌-◌, ◌<◌, ◌≤◌, ◌≡◌, ◌≢◌, Bool, true, false, None, Some, eqb, length, get_or, set}
 use Rattle.std.proofs.Common.{sym, ap, subst, ◌∙◌, arith, length-set, get_or-set_same, get_or-set_other, eqb-true}
 use Rattle.std.proofs.lemmas.Bool.{false≢true}
 use mathlib.Core.List.{List, Memᴰ as Mem}
 use Rattle.text.proofs.Positional.{by_less}
-use Rattle.grammar.specs.Data.Symbol.{Rule, symbol_at}
+use Rattle.grammar.specs.Data.Symbol.{Symbol, Rule, symbol_at}
 use Rattle.grammar.specs.Data.Book.{Book, Kernel}
 use Rattle.grammar.specs.Data.ListLaws.{at-member, member-at}
 use Rattle.grammar.specs.Conditions.Decides.{Decides, refutes, false_of, equivalent, eq-decides, decides-same}
@@ -17,7 +17,7 @@ use Rattle.book.specs.Layout.{symbol_code}
 use Rattle.book.specs.Held.{kernel_at, no_kernel}
 use Rattle.items.specs.Arrays.{BoundsIn}
 use Rattle.items.specs.SymbolCodes.{code_same}
-use Rattle.automaton.specs.KernelWords.{NamedIn, StartAlone, word_before, front-word, behind-word, before-low, word_low, Follows}
+use Rattle.automaton.specs.KernelWords.{NamedIn, StartAlone, word_before, front-word, behind-word, before-low, Follows}
 use Rattle.automaton.specs.KernelBounds.{Cut, cut-more, cut_all, cuts-done}
 
 -- a book's rules and kernel lines in arrays, the lines in the order of their states
@@ -192,7 +192,7 @@ module _ {b : Book} {rules kernels : List ℕ} {count : ℕ} (H : RuledIn b rule
             behind = behind;
             alone = K.start_lookahead here here_in;
             same = λ e. sym (behind-word b.rules here behind)
-                ∙ ap symbol_code (K.one_symbol here before here_in before-in (later i p h) e)
+                ∙ ap (λ (X : Symbol). Some (symbol_code X)) (K.one_symbol here before here_in before-in (later i p h) e)
                 ∙ behind-word b.rules before (K.dots before before-in (λ z. later i p h (e ∙ z)));
             next = next-state;
           }
@@ -215,12 +215,9 @@ module _ {b : Book} {rules kernels : List ℕ} {count : ℕ} (H : RuledIn b rule
     past-zero i p h z =
         let F : Follows b.rules (line_at 0) (line_at 1) = line-follows 0 (omega arith) in
         let e : (line_at 1).state ≡ (line_at 0).state = omega (arith, H.ascend 1 i (omega arith) h, state-zero) in
-        omega (
-          arith,
-          F.same e,
-          front-word b.rules (line_at 0) (ap (λ (k : Kernel). k.dot) W.first),
-          word_low H.named_in 1 (omega arith) F.behind,
-        )
+        let none : word_before b.rules (line_at 1) ≡ None = F.same e ∙ front-word b.rules (line_at 0) (ap (λ (k : Kernel). k.dot) W.first) in
+        let some = behind-word b.rules (line_at 1) F.behind in
+        cc
 
     not_first : (i : ℕ) → (line_at i).state ≢ 0 → 0 < i
     not_first zero n = absurd (n state-zero)
@@ -254,9 +251,11 @@ module _ {b : Book} {rules kernels : List ℕ} {count : ℕ} (H : RuledIn b rule
         → symbol_at b.rules (line_at i).rule (line_at i).dot ≡ symbol_at b.rules (line_at j).rule (line_at j).dot
     symbols-same i j h l n e =
         code_same _ _ (before-low H.named_in i h) (before-low H.named_in j l)
-        (behind-word b.rules (line_at i) (dot-behind i h n)
+        (let same : Some (symbol_code (symbol_at b.rules (line_at i).rule (line_at i).dot)) ≡ Some (symbol_code (symbol_at b.rules (line_at j).rule (line_at j).dot)) =
+        behind-word b.rules (line_at i) (dot-behind i h n)
         ∙ by_less i j (λ o. one_word i j (omega arith) l e) (λ o. sym (one_word j i o h (sym e)))
-        ∙ sym (behind-word b.rules (line_at j) (dot-behind j l (λ z. n (e ∙ z)))))
+        ∙ sym (behind-word b.rules (line_at j) (dot-behind j l (λ z. n (e ∙ z)))) in
+        cc)
 
     start-lines : (i : ℕ) → i < length b.kernels → (line_at i).state ≡ 0 → line_at i ≡ start_kernel
     start-lines zero h z = W.first

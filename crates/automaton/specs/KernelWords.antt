@@ -1,8 +1,9 @@
 -- What kernel lines say, by their words: whether the lookaheads are t0 alone, which symbol stands before the dot, and whether a line may stand behind
 -- another. Assumes nothing.
-use Rattle.std.specs.Prelude.{ℕ, zero, suc, ◌+◌, ◌*◌, ◌-◌, ◌<◌, ◌≤◌, refl, Bool, true, false, ◌&&◌, List, [], ◌∷◌, eqb, length}
+use Rattle.std.specs.Prelude.{ℕ, zero, suc, ◌+◌, ◌*◌, ◌-◌, ◌<◌, ◌≤◌, refl, Bool, true, false, ◌&&◌, Option, None, Some, List, [], ◌∷◌, eqb, length}
 use Rattle.std.proofs.Math.Path.{◌≡◌, ap}
 use Rattle.std.proofs.Common.{sym, ◌∙◌, arith}
+use Rattle.std.specs.Option.{option_eq}
 use Rattle.std.proofs.Math.ListN.{get_or}
 use Rattle.grammar.specs.Limits.{MAX_RIGHT, MAX_STATES}
 use Rattle.grammar.specs.Data.Symbol.{Symbol, terminal, Rule, right_of, symbol_at}
@@ -13,7 +14,6 @@ use Rattle.grammar.specs.Automaton.Small.{number_of, low-at, Small}
 use Rattle.grammar.specs.Automaton.States.{start_kernel}
 use Rattle.book.specs.Layout.{symbol_code, last_of}
 use Rattle.book.specs.Held.{RulesIn, KernelsIn, kernel_at}
-use Rattle.items.specs.SymbolCodes.{code-low}
 
 -- kernel lines in an array, each with "one or more lookaheads, strictly ascending"
 pub record SpelledIn (ks : List Kernel) (kernels : List ℕ) : Type 0 where
@@ -102,29 +102,29 @@ module _ {ks : List Kernel} {kernels : List ℕ} (H : SpelledIn ks kernels) (h :
 
 -- ---- the symbol before a dot
 
--- the word of the symbol before the dot; 64, which no symbol has, where the dot is in front
-unfoldable pub word_before : List Rule → Kernel → ℕ
-word_before G k = elim k.dot [ zero ↦ 64 | suc D ↦ symbol_code (symbol_at G k.rule (suc D)) ]
+-- the word of the symbol before the dot; none where the dot is in front
+unfoldable pub word_before : List Rule → Kernel → Option ℕ
+word_before G k = elim k.dot [ zero ↦ None | suc D ↦ Some (symbol_code (symbol_at G k.rule (suc D))) ]
 
 -- in front
-pub front-word : (G : List Rule) (k : Kernel) → k.dot ≡ 0 → word_before G k ≡ 64
+pub front-word : (G : List Rule) (k : Kernel) → k.dot ≡ 0 → word_before G k ≡ None
 unfolding word_before
 front-word G k z = rw (z, word_before)
 
 -- and behind a symbol
-pub behind-word : (G : List Rule) (k : Kernel) → 1 ≤ k.dot → symbol_code (symbol_at G k.rule k.dot) ≡ word_before G k
+pub behind-word : (G : List Rule) (k : Kernel) → 1 ≤ k.dot → Some (symbol_code (symbol_at G k.rule k.dot)) ≡ word_before G k
 unfolding word_before
 behind-word G k p = go k.dot refl
   where
-    go : (D : ℕ) → k.dot ≡ D → symbol_code (symbol_at G k.rule k.dot) ≡ word_before G k
+    go : (D : ℕ) → k.dot ≡ D → Some (symbol_code (symbol_at G k.rule k.dot)) ≡ word_before G k
     go zero e = absurd (omega arith)
     go (suc D) e = rw (e, word_before)
 
-word-behind : (G : List Rule) (k : Kernel) → (word_before G k ≡ 64 → ⊥) → 1 ≤ k.dot
-word-behind G k n = go k.dot refl
+word-behind : (G : List Rule) (k : Kernel) {w : ℕ} → Some w ≡ word_before G k → 1 ≤ k.dot
+word-behind G k s = go k.dot refl
   where
     go : (D : ℕ) → k.dot ≡ D → 1 ≤ k.dot
-    go zero e = absurd (n (front-word G k e))
+    go zero e = let none = front-word G k e in cc
     go (suc D) e = omega arith
 
 -- by the words of a line
@@ -143,11 +143,8 @@ module _ {b : Book} {rules kernels : List ℕ} (H : NamedIn b rules kernels) (i 
   unfolding symbol_at
   before-low = low-at (right_of b.rules line.rule) (line.dot - 1) (H.small.right_low line.rule (H.rule_there i h))
 
-  pub word_low : 1 ≤ line.dot → word_before b.rules line < 64
-  word_low p = omega (arith, behind-word b.rules line p, code-low symbol before-low)
-
   -- where the dot is in front
-  pub word-front : {D : ℕ} → D ≡ get_or kernels (5 * i + 2) 0 → D ≡ 0 → 64 ≡ word_before b.rules line
+  pub word-front : {D : ℕ} → D ≡ get_or kernels (5 * i + 2) 0 → D ≡ 0 → None ≡ word_before b.rules line
   word-front d z = sym (front-word b.rules line (sym (H.spelled_in.kernels-in.dot_is i h) ∙ sym d ∙ z))
 
   -- and where it is not
@@ -167,13 +164,14 @@ module _ {b : Book} {rules kernels : List ℕ} (H : NamedIn b rules kernels) (i 
     pub before-place : 10 * P + 1 + D < length rules
     before-place = omega (arith, few, rule_is, H.rule_there i h, H.rules_in.long)
 
-    pub word-before : get_or rules (10 * P + 1 + D) 0 ≡ word_before b.rules line
+    pub word-before : Some (get_or rules (10 * P + 1 + D) 0) ≡ word_before b.rules line
     unfolding symbol_at
     word-before =
         let at : 10 * P + 1 + D ≡ 10 * line.rule + 2 + (D - 1) = omega (arith, rule_is) in
-        ap (λ (k : ℕ). get_or rules k 0) at
+        ap (λ (w : ℕ). Some w)
+        (ap (λ (k : ℕ). get_or rules k 0) at
         ∙ H.rules_in.symbol_is line.rule (D - 1) (H.rule_there i h) position (omega (arith, few))
-        ∙ ap (λ (k : ℕ). symbol_code (get_or (right_of b.rules line.rule) (k - 1) (terminal 0))) dot_is
+        ∙ ap (λ (k : ℕ). symbol_code (get_or (right_of b.rules line.rule) (k - 1) (terminal 0))) dot_is)
         ∙ behind-word b.rules line (omega (arith, dot_is))
 
 -- ---- a line behind another
@@ -185,24 +183,28 @@ pub record Follows (G : List Rule) (k l : Kernel) : Type 0 where
   pub same : l.state ≡ k.state → word_before G l ≡ word_before G k
   pub next : (l.state ≡ k.state → ⊥) → l.state ≡ k.state + 1
 
-module _ {b : Book} {rules kernels : List ℕ} (H : NamedIn b rules kernels) (i : ℕ) (h : i < length b.kernels) {w : ℕ}
-    (e : w ≡ word_before b.rules (kernel_at b.kernels i)) where
+-- the word that was read is one that is there
+same-word : (v : Option ℕ) (w : ℕ) → Decides (option_eq eqb v (Some w)) (v ≡ Some w)
+same-word None w = false-decides λ e. cc
+same-word (Some x) w = equivalent (λ e. ap (λ (n : ℕ). Some n) e) (λ e. cc) (eq-decides x w)
+
+module _ {b : Book} {rules kernels : List ℕ} (H : NamedIn b rules kernels) (i : ℕ) (h : i < length b.kernels) where
   abbrev before : Kernel
   before = kernel_at b.kernels (i - 1)
 
   abbrev here : Kernel
   here = kernel_at b.kernels i
 
-  pub follows-front : w ≡ 64 → Decides false (Follows b.rules before here)
-  follows-front q = false-decides λ F. omega (arith, word_low H i h F.behind)
+  pub follows-front : None ≡ word_before b.rules here → Decides false (Follows b.rules before here)
+  follows-front none = false-decides λ F. let some = behind-word b.rules here F.behind in cc
 
-  module _ (n : w ≡ 64 → ⊥) {t : Bool} (d : Decides t (StartAlone here)) where
+  module _ {w : ℕ} (e : Some w ≡ word_before b.rules here) {t : Bool} (d : Decides t (StartAlone here)) where
     pub follows-start : t ≡ false → Decides false (Follows b.rules before here)
     follows-start f = false-decides λ F. refutes (rw f at d) F.alone
 
     module _ (a : t ≡ true) where
       dot-behind : 1 ≤ here.dot
-      dot-behind = word-behind b.rules here (λ q. n (e ∙ q))
+      dot-behind = word-behind b.rules here e
 
       state_is : get_or kernels (5 * i) 0 ≡ here.state
       state_is = H.spelled_in.kernels-in.state_is i h
@@ -210,14 +212,14 @@ module _ {b : Book} {rules kernels : List ℕ} (H : NamedIn b rules kernels) (i 
       state-before : get_or kernels (5 * (i - 1)) 0 ≡ before.state
       state-before = H.spelled_in.kernels-in.state_is (i - 1) (omega arith)
 
-      pub follows_same : get_or kernels (5 * i) 0 ≡ get_or kernels (5 * (i - 1)) 0 → {v : ℕ} → v ≡ word_before b.rules before
-          → Decides (eqb w v) (Follows b.rules before here)
+      pub follows_same : get_or kernels (5 * i) 0 ≡ get_or kernels (5 * (i - 1)) 0 → {v : Option ℕ} → v ≡ word_before b.rules before
+          → Decides (option_eq eqb v (Some w)) (Follows b.rules before here)
       follows_same s {v} q =
           let z : here.state ≡ before.state = sym state_is ∙ s ∙ state-before in
           equivalent
-          (λ r. record { behind = dot-behind; alone = d.sound a; same = λ _. sym e ∙ r ∙ q; next = λ m. absurd (m z) })
-          (λ F. e ∙ F.same z ∙ sym q)
-          (eq-decides w v)
+          (λ r. record { behind = dot-behind; alone = d.sound a; same = λ _. sym e ∙ sym r ∙ q; next = λ m. absurd (m z) })
+          (λ F. q ∙ sym (F.same z) ∙ sym e)
+          (same-word v w)
 
       pub follows_next : (get_or kernels (5 * i) 0 ≡ get_or kernels (5 * (i - 1)) 0 → ⊥)
           → Decides (eqb (get_or kernels (5 * i) 0) (get_or kernels (5 * (i - 1)) 0 + 1)) (Follows b.rules before here)

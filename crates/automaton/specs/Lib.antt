@@ -13,4 +13,5 @@ pub mod KernelBounds
 pub mod KernelRules
 pub mod KernelWords
 pub mod Lefts
+pub mod Members
 pub mod StatesIn

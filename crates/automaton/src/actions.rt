@@ -1,5 +1,5 @@
-// The actions by state and terminal, one byte each, and whether two different ones meet (9). No action is 0, shift is 1, accept is 2, reducing rule P
-// is 2 + P.
+// The actions by state and terminal, one byte each, and whether two different ones meet (9). No action is FREE, shift is SHIFT, reducing rule P is
+// REDUCE + P, and reducing rule 0 is accept.
 ghost use Rattle.std.specs.Prelude.{◌≡◌, true, List, [], ◌++◌, ℕ, ◌+◌, ◌*◌, ◌<◌, ◌≤◌, length};
 ghost use Rattle.sets.specs.Sets.{bit};
 ghost use Rattle.grammar.specs.Data.Symbol.{left_of, after};
@@ -16,8 +16,14 @@ ghost use Rattle.automaton.specs.ActionRows.{Given, Row, Melded, completed_below
 ghost use Rattle.automaton.specs.ActionTable.{Acted};
 ghost use Rattle.automaton.specs.Fronts.{FrontsIn};
 
-use super::lefts::{behind, least};
-use items::words::{fill, word};
+use super::lefts::Members;
+use items::words::word;
+
+const FREE: u8 = 0;
+
+const SHIFT: u8 = 1;
+
+const REDUCE: u8 = 2;
 
 // Gives a byte an action; whether it was free, or had the action already.
 fn give(actions: &mut [u8], place: usize, action: u8) -> bool
@@ -25,7 +31,7 @@ fn give(actions: &mut [u8], place: usize, action: u8) -> bool
     ensures { Given actions.old place action actions.new result }
 {
     let old = actions[place];
-    if old == 0 {
+    if old == FREE {
         actions[place] = action;
         return true;
     }
@@ -50,11 +56,11 @@ fn complete_at(actions: &mut [u8], state: usize, rule: usize, set: u32, a: usize
         → Melded terminals state (completed_below (a + 1) cells rule set) actions.old actions.new result }
 {
     let place = 32 * state + a;
-    let action = (2 + rule) as u8;
+    let action = REDUCE + rule as u8;
     let given = sets::has(set, a as u32);
     let old = actions[place];
     actions[place] = acted(old, given, action);
-    !given | (old == 0) | (old == action)
+    !given | (old == FREE) | (old == action)
 }
 
 // The lookaheads that are terminals of the book.
@@ -73,11 +79,8 @@ fn complete(actions: &mut [u8], state: usize, rule: usize, set: u32, terminals: 
 {
     let lookaheads = among(set, terminals);
     let mut clear = true;
-    let mut a = 0;
-    while a < 32 {
-        let fits = complete_at(actions, state, rule, lookaheads, a);
-        clear = clear & fits;
-        a += 1;
+    for a in 0..32 {
+        clear &= complete_at(actions, state, rule, lookaheads, a);
     }
     clear
 }
@@ -105,7 +108,7 @@ fn give_item(
     if symbol >= 32 {
         return true;
     }
-    give(actions, 32 * state + symbol, 1)
+    give(actions, 32 * state + symbol, SHIFT)
 }
 
 // Those of a rule with the dot in front, where the state's closure has it.
@@ -125,10 +128,7 @@ fn rule_acts(
         actions.old actions.new result }
 {
     let set = closures[32 * state + word(rules, 10 * rule)];
-    if set == 0 {
-        return true;
-    }
-    give_item(rules, actions, terminals, state, rule, 0, set)
+    set == 0 || give_item(rules, actions, terminals, state, rule, 0, set)
 }
 
 // Those of all rules, into a state without actions. A pass goes from one that the closure has to the next.
@@ -149,16 +149,10 @@ fn rules_act(
         → Melded terminals state (cell_from b.rules (of_rules b.rules (closure_sets b F state) (length b.rules)))
         actions.old actions.new result }
 {
-    let mut rest = fronts[state];
-    let mut rule = 0;
-    while rest != 0 {
-        let gap = least(rest);
-        rule += gap as usize;
+    for rule in Members(fronts[state]) {
         if !rule_acts(rules, closures, actions, terminals, state, rule) {
             return false;
         }
-        rest = behind(rest, gap);
-        rule += 1;
     }
     true
 }
@@ -179,9 +173,8 @@ fn kernels_act(
         → Melded terminals state (cell_from b.rules (of_kernels (kernels_in b.kernels state) ++ items)) actions.old actions.new result }
 {
     let first = word(bounds, state);
-    let mut i = word(bounds, state + 1);
-    while i > first {
-        i -= 1;
+    let last = word(bounds, state + 1);
+    for i in (first..last).rev() {
         let rule = word(kernels, 5 * i + 1);
         let dot = word(kernels, 5 * i + 2);
         if !give_item(
@@ -218,10 +211,8 @@ fn state_acts(
         → Row terminals state (cell_from b.rules []) actions.old
         → Melded terminals state (cell_from b.rules (core_items b F state)) actions.old actions.new result }
 {
-    if !rules_act(rules, closures, fronts, actions, terminals, state) {
-        return false;
-    }
-    kernels_act(rules, kernels, bounds, actions, terminals, state)
+    rules_act(rules, closures, fronts, actions, terminals, state)
+        && kernels_act(rules, kernels, bounds, actions, terminals, state)
 }
 
 // The actions of all states, up to the first conflict; whether there is none.
@@ -243,9 +234,8 @@ pub fn fill_actions(
         → Acted b F actions.new result }
 {
     let n = states as usize;
-    fill(actions, 32 * n, 0);
-    let mut state = 0;
-    while state < n {
+    actions[..32 * n].fill(FREE);
+    for state in 0..n {
         if !state_acts(
             rules,
             kernels,
@@ -258,7 +248,6 @@ pub fn fill_actions(
         ) {
             return false;
         }
-        state += 1;
     }
     true
 }

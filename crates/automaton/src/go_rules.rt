@@ -1,5 +1,5 @@
 // The go rules (8): each item of a state is advanced by a go line, and each kernel line of a go line's target is an item advanced.
-ghost use Rattle.std.specs.Prelude.{◌≡◌, List, ◌+◌, ◌*◌, ◌<◌, ◌≤◌, length};
+ghost use Rattle.std.specs.Prelude.{◌≡◌, List, ◌+◌, ◌*◌, ◌<◌, ◌≤◌, length, get_or};
 ghost use Rattle.std.proofs.Math.Seq.{slice};
 ghost use Rattle.grammar.specs.Data.Symbol.{Symbol, after};
 ghost use Rattle.grammar.specs.Data.Book.{Book, Kernel};
@@ -13,11 +13,11 @@ ghost use Rattle.book.specs.Layout.{symbol_code};
 ghost use Rattle.book.specs.Held.{KernelsIn, GoesIn, kernel_at, go_at};
 ghost use Rattle.automaton.specs.StatesIn.{MovesIn, ItemsIn, AutomatonIn, Stands};
 ghost use Rattle.automaton.specs.HoldsItem.{is_item};
-ghost use Rattle.automaton.specs.Advances.{kernel_advances, rule_advances};
+ghost use Rattle.automaton.specs.Advances.{TargetOf, kernel_advances, rule_advances};
 ghost use Rattle.automaton.specs.Comes.{some_item, line_comes, go_comes};
 ghost use Rattle.automaton.specs.Fronts.{FrontsIn};
 
-use super::lefts::{behind, least};
+use super::lefts::Members;
 use items::words::word;
 
 // Whether kernel line i is of (rule, dot) with at least the lookaheads of `set`.
@@ -26,13 +26,7 @@ fn is_item(kernels: &[u32], i: usize, rule: usize, dot: usize, set: u32) -> bool
     ensures { result ≡ is_item kernels.now i rule dot set }
 {
     let k = 5 * i;
-    if word(kernels, k + 1) != rule {
-        return false;
-    }
-    if word(kernels, k + 2) != dot {
-        return false;
-    }
-    sets::subset(set, kernels[k + 4])
+    word(kernels, k + 1) == rule && word(kernels, k + 2) == dot && sets::subset(set, kernels[k + 4])
 }
 
 // Whether such a line stands from `first` up to `last`.
@@ -40,14 +34,24 @@ fn holds_item(kernels: &[u32], first: usize, last: usize, rule: usize, dot: usiz
     requires { (5 * last ≤ length kernels.now) × (first ≤ last) }
     ensures { (ks : List Kernel) → KernelsIn ks kernels.now → last ≤ length ks → result ≡ holds_item rule dot set (slice first last ks) }
 {
-    let mut i = first;
-    while i < last {
+    for i in first..last {
         if is_item(kernels, i, rule, dot, set) {
             return true;
         }
-        i += 1;
     }
     false
+}
+
+// Where the go line of a state and a symbol leads; the table has 255 where there is none.
+fn target_of(table: &[u8], state: usize, symbol: usize) -> Option<usize>
+    requires { 64 * state + symbol < length table.now }
+    ensures { TargetOf result (get_or table.now (64 * state + symbol) 0) }
+{
+    let target = table[64 * state + symbol] as usize;
+    if target == 255 {
+        return None;
+    }
+    Some(target)
 }
 
 // Whether an item of a state is complete, or its go line leads where it stands advanced, with at least its lookaheads.
@@ -70,10 +74,9 @@ fn advances(
         return true;
     }
     let symbol = word(rules, place + 2 + dot);
-    let target = table[64 * state + symbol] as usize;
-    if target == 255 {
+    let Some(target) = target_of(table, state, symbol) else {
         return false;
-    }
+    };
     let first = word(bounds, target);
     let last = word(bounds, target + 1);
     holds_item(kernels, first, last, rule, dot + 1, set)
@@ -119,13 +122,12 @@ fn kernels_advance(
     ensures { (b : Book) → MovesIn b rules.now kernels.now bounds.now table.now
         → state < b.states → result ≡ all_advance b state (of_kernels (kernels_in b.kernels state)) }
 {
+    let first = word(bounds, state);
     let last = word(bounds, state + 1);
-    let mut i = word(bounds, state);
-    while i < last {
+    for i in first..last {
         if !kernel_advances(rules, kernels, bounds, table, state, i) {
             return false;
         }
-        i += 1;
     }
     true
 }
@@ -145,10 +147,7 @@ fn rule_advances(
         table.now → Stands b state rule 0 → result ≡ rule_advances b F state rule }
 {
     let set = closures[32 * state + word(rules, 10 * rule)];
-    if set == 0 {
-        return true;
-    }
-    advances(rules, kernels, bounds, table, state, rule, 0, set)
+    set == 0 || advances(rules, kernels, bounds, table, state, rule, 0, set)
 }
 
 // Whether all rules do. A pass goes from one that the closure has to the next.
@@ -167,16 +166,10 @@ fn rules_advance(
         table.now → state < b.states → FrontsIn b rules.now closures.now fronts.now
         → result ≡ all_advance b state (of_rules b.rules (closure_sets b F state) (length b.rules)) }
 {
-    let mut rest = fronts[state];
-    let mut rule = 0;
-    while rest != 0 {
-        let gap = least(rest);
-        rule += gap as usize;
+    for rule in Members(fronts[state]) {
         if !rule_advances(rules, kernels, bounds, closures, table, state, rule) {
             return false;
         }
-        rest = behind(rest, gap);
-        rule += 1;
     }
     true
 }
@@ -197,10 +190,8 @@ fn state_advances(
         table.now → state < b.states → FrontsIn b rules.now closures.now fronts.now
         → result ≡ all_advance b state (core_items b F state) }
 {
-    if !kernels_advance(rules, kernels, bounds, table, state) {
-        return false;
-    }
-    rules_advance(rules, kernels, bounds, closures, table, fronts, state)
+    kernels_advance(rules, kernels, bounds, table, state)
+        && rules_advance(rules, kernels, bounds, closures, table, fronts, state)
 }
 
 // Whether all items of all states do.
@@ -219,9 +210,7 @@ fn states_advance(
         table.now → states ≡ b.states → FrontsIn b rules.now closures.now fronts.now
         → result ≡ states_advance b (core_items b F) states }
 {
-    let mut state = states;
-    while state > 0 {
-        state -= 1;
+    for state in (0..states).rev() {
         if !state_advances(rules, kernels, bounds, closures, table, fronts, state) {
             return false;
         }
@@ -243,10 +232,8 @@ fn has_item(
     ensures { (b : Book) (F : Sets) → ItemsIn b F rules.now kernels.now bounds.now closures.now
         → Stands b state rule dot → result ≡ some_item rule dot (core_items b F state) }
 {
-    if dot == 0 {
-        if closures[32 * state + word(rules, 10 * rule)] != 0 {
-            return true;
-        }
+    if dot == 0 && closures[32 * state + word(rules, 10 * rule)] != 0 {
+        return true;
     }
     let first = word(bounds, state);
     let last = word(bounds, state + 1);
@@ -268,13 +255,9 @@ fn comes(
     ensures { (b : Book) (F : Sets) (X : Symbol) → ItemsIn b F rules.now kernels.now bounds.now closures.now
         → Stands b state rule dot → GoSymbol b X → symbol ≡ symbol_code X → result ≡ line_comes b.rules X (core_items b F state) rule dot }
 {
-    if dot == 0 {
-        return false;
-    }
-    if word(rules, 10 * rule + 1 + dot) != symbol {
-        return false;
-    }
-    has_item(rules, kernels, bounds, closures, state, rule, dot - 1)
+    dot != 0
+        && word(rules, 10 * rule + 1 + dot) == symbol
+        && has_item(rules, kernels, bounds, closures, state, rule, dot - 1)
 }
 
 // Whether kernel line i is.
@@ -315,12 +298,10 @@ fn all_come(
         → state < b.states → last ≤ length b.kernels → GoSymbol b X → symbol ≡ symbol_code X
         → result ≡ all_come b.rules X (core_items b F state) (slice first last b.kernels) }
 {
-    let mut i = first;
-    while i < last {
+    for i in first..last {
         if !kernel_comes(rules, kernels, bounds, closures, state, symbol, i) {
             return false;
         }
-        i += 1;
     }
     true
 }
@@ -344,10 +325,7 @@ fn line_comes(
     let target = word(goes, 3 * i + 2);
     let first = word(bounds, target);
     let last = word(bounds, target + 1);
-    if first == last {
-        return false;
-    }
-    all_come(rules, kernels, bounds, closures, state, symbol, first, last)
+    first != last && all_come(rules, kernels, bounds, closures, state, symbol, first, last)
 }
 
 // Whether this holds of all go lines.
@@ -364,12 +342,10 @@ fn lines_come(
     ensures { (b : Book) (F : Sets) → ItemsIn b F rules.now kernels.now bounds.now closures.now
         → GoesIn b.goes goes.now → count ≡ length b.goes → result ≡ go_lines b (core_items b F) b.goes }
 {
-    let mut i = 0;
-    while i < count {
+    for i in 0..count {
         if !line_comes(rules, kernels, goes, bounds, closures, i) {
             return false;
         }
-        i += 1;
     }
     true
 }
@@ -392,7 +368,7 @@ pub fn go_rules(
         table.now → GoesIn b.goes goes.now → lines ≡ length b.goes → states ≡ b.states
         → FrontsIn b rules.now closures.now fronts.now → result ≡ go_rules b (items_at b (items_table b F)) }
 {
-    if !states_advance(
+    states_advance(
         rules,
         kernels,
         bounds,
@@ -400,8 +376,5 @@ pub fn go_rules(
         table,
         fronts,
         states as usize,
-    ) {
-        return false;
-    }
-    lines_come(rules, kernels, goes, bounds, closures, lines as usize)
+    ) && lines_come(rules, kernels, goes, bounds, closures, lines as usize)
 }

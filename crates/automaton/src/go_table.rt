@@ -11,9 +11,7 @@ pub fn go_table(goes: &[u32], count: u32, states: u32, table: &mut [u8])
     requires { Unset states table.old × ((b : Book) × GoLinesIn b goes.now count states) }
     ensures { (b : Book) → GoLinesIn b goes.now count states → GoTableIn b table.new }
 {
-    let mut i = count as usize;
-    while i > 0 {
-        i -= 1;
+    for i in (0..count as usize).rev() {
         let place = 64 * word(goes, 3 * i) + word(goes, 3 * i + 1);
         table[place] = word(goes, 3 * i + 2) as u8;
     }

@@ -34,24 +34,21 @@ fn start_or_other(kernels: &[u32], i: usize) -> bool
     requires { (ks : List Kernel) × SpelledIn ks kernels.now × (i < length ks) }
     ensures { (ks : List Kernel) → SpelledIn ks kernels.now → i < length ks → Decides result (StartAlone (kernel_at ks i)) }
 {
-    if kernels[5 * i + 1] != 0 {
-        return true;
-    }
-    end_alone(kernels, i)
+    kernels[5 * i + 1] != 0 || end_alone(kernels, i)
 }
 
-// The word of the symbol before the dot of kernel line i; 64, which no symbol has, where the dot is in front.
-fn symbol_before(rules: &[u32], kernels: &[u32], i: usize) -> u32
+// The word of the symbol before the dot of kernel line i; none where the dot is in front.
+fn symbol_before(rules: &[u32], kernels: &[u32], i: usize) -> Option<u32>
     requires { (b : Book) × NamedIn b rules.now kernels.now × (i < length b.kernels) }
     ensures { (b : Book) → NamedIn b rules.now kernels.now → i < length b.kernels
         → result ≡ word_before b.rules (kernel_at b.kernels i) }
 {
     let dot = word(kernels, 5 * i + 2);
     if dot == 0 {
-        return 64;
+        return None;
     }
     let rule = word(kernels, 5 * i + 1);
-    rules[10 * rule + 1 + dot]
+    Some(rules[10 * rule + 1 + dot])
 }
 
 // Whether kernel line i, which is not the first, may stand behind the line before it: its dot is not in front; rule 0 has t0 alone; it is of the same
@@ -61,17 +58,16 @@ fn line_right(rules: &[u32], kernels: &[u32], i: usize) -> bool
     ensures { (b : Book) → NamedIn b rules.now kernels.now → 0 < i → i < length b.kernels
         → Decides result (Follows b.rules (kernel_at b.kernels (i - 1)) (kernel_at b.kernels i)) }
 {
-    let symbol = symbol_before(rules, kernels, i);
-    if symbol == 64 {
+    let Some(symbol) = symbol_before(rules, kernels, i) else {
         return false;
-    }
+    };
     if !start_or_other(kernels, i) {
         return false;
     }
     let state = kernels[5 * i];
     let last = kernels[5 * (i - 1)];
     if state == last {
-        return symbol == symbol_before(rules, kernels, i - 1);
+        return symbol_before(rules, kernels, i - 1) == Some(symbol);
     }
     state == last + 1
 }
@@ -82,14 +78,12 @@ fn lines_right(rules: &[u32], kernels: &[u32], count: usize, bounds: &mut [u32])
     ensures { (b : Book) → RuledIn b rules.now kernels.now count → Walked b bounds.old 1
         → Walks b result bounds.new }
 {
-    let mut i = 1;
-    while i < count {
+    for i in 1..count {
         if !line_right(rules, kernels, i) {
             return false;
         }
         let state = word(kernels, 5 * i);
         bounds[state + 1] = (i + 1) as u32;
-        i += 1;
     }
     true
 }

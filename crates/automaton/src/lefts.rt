@@ -4,6 +4,8 @@ ghost use Rattle.std.specs.Prelude.{◌≡◌, ℕ, ◌+◌, ◌*◌, ◌<◌, �
 ghost use Rattle.sets.specs.Sets.{bit};
 ghost use Rattle.automaton.specs.Lefts.{Lefts, Chosen, Gathered, Least};
 ghost use Rattle.automaton.specs.Fronts.{Fronts};
+ghost use Rattle.automaton.specs.Members.{NextMember};
+ghost use Rattle.std.specs.Iterator.{at_most};
 
 use items::words::{nothing, word};
 
@@ -13,11 +15,9 @@ fn fill_lefts(rules: &[u32], count: usize, lefts: &mut [u64])
         × (lefts.old ≡ replicate 32 0) }
     ensures { Lefts rules.now count lefts.new }
 {
-    let mut rule = 0;
-    while rule < count {
+    for rule in 0..count {
         let left = word(rules, 10 * rule);
         lefts[left] |= 1u64 << rule;
-        rule += 1;
     }
 }
 
@@ -36,11 +36,9 @@ fn entered(closures: &[u32], first: usize, lefts: &[u64]) -> u64
     requires { (first + 32 ≤ length closures.now) × (length lefts.now ≡ 32) }
     ensures { Gathered closures.now first lefts.now 32 result }
 {
-    let mut rules = 0u64;
-    let mut i = 0;
-    while i < 32 {
+    let mut rules = 0;
+    for i in 0..32 {
         rules |= chosen(closures[first + i], lefts[i]);
-        i += 1;
     }
     rules
 }
@@ -64,10 +62,29 @@ pub fn fill_fronts(rules: &[u32], count: usize, closures: &[u32], states: usize,
 {
     let mut lefts = [0u64; 32];
     fill_lefts(rules, count, &mut lefts);
-    let mut state = 0;
-    while state < states {
+    for state in 0..states {
         fronts[state] = front(closures, 32 * state, &lefts);
-        state += 1;
+    }
+}
+
+// The members of a set of numbers below 64, one bit each, from the first to the last.
+#[derive(Drop)]
+pub struct Members(pub u64);
+
+impl Iterator for Members {
+    type Item = usize;
+
+    ghost next_gives = { NextMember (λ s. s.0) };
+
+    ghost remaining = { λ s. at_most s.0 };
+
+    fn next(&mut self) -> Option<usize> {
+        if self.0 == 0 {
+            return None;
+        }
+        let first = least(self.0);
+        self.0 &= self.0 - 1;
+        Some(first as usize)
     }
 }
 

@@ -2,12 +2,15 @@ pub mod Counts
 pub mod Header
 pub mod Held
 pub mod HeldLaws
+pub mod Kinds
 pub mod Layout
 pub mod LayoutLaws
 pub mod Lines
 pub mod Numbered
 pub mod Order
+pub mod Refusals
 pub mod Rooms
 pub mod Sections
 pub mod Short
 pub mod Spelling
+pub mod Symbols

@@ -1,8 +1,7 @@
 -- The lines of the sections inh, syn and rule: how much a line leaves, and that the code's steps, one after another, read and keep a whole line.
 -- Assumes nothing.
-use Rattle.std.specs.Prelude.{ℕ, suc, ◌+◌, ◌≤◌, ◌<◌, ◌≡◌, refl, Bool, List, [], ◌∷◌, length, get_or}
-use Rattle.std.proofs.Common.{◌∙◌, arith, lt-ltb, le-ltb}
-use Rattle.std.proofs.Math.Bool.{true, false}
+use Rattle.std.specs.Prelude.{ℕ, suc, ◌≤◌, ◌≡◌, refl, List, [], ◌∷◌, length, get_or}
+use Rattle.std.proofs.Common.{◌∙◌, arith}
 use Rattle.text.specs.Class.{space}
 use Rattle.text.specs.Rest.{rest, mark}
 use Rattle.text.proofs.RestLaws.{found-mark}
@@ -12,8 +11,8 @@ use Rattle.grammar.specs.Data.Symbol.{Symbol, Rule}
 use Rattle.grammar.specs.Format.Reader.{result, remaining, opening, closing}
 use Rattle.grammar.specs.Format.ReaderLaws.{shrinking, opening-less}
 use Rattle.grammar.specs.Format.LineLaws.{most-symbols}
-use Rattle.grammar.specs.Format.Parse.{symbol_of, symbol, symbols, owner_line, rule_line}
-use Rattle.book.specs.Layout.{write_at, put_line, store_lines, code_of, symbol_code, codes, rule_words}
+use Rattle.grammar.specs.Format.Parse.{symbol, symbols, owner_line, rule_line}
+use Rattle.book.specs.Layout.{write_at, put_line, store_lines, symbol_code, codes, rule_words}
 use Rattle.book.specs.LayoutLaws.{put-out}
 use Rattle.book.specs.Numbered.{numbered}
 use Rattle.book.specs.Sections.{Gives, Shrinks, Fills, Puts}
@@ -25,25 +24,6 @@ symbol_words X = symbol_code X ∷ []
 -- the words of a rule
 abbrev pub RULE_WORDS : ℕ
 RULE_WORDS = 10
-
--- The code of a symbol, by its kind and its number
-
-module _ (terminal : Bool) (K : ℕ) where
-  pub code-none : 32 ≤ K → 64 ≡ symbol_code (symbol_of terminal K)
-  unfolding symbol_code symbol_of code_of
-  code-none h = go terminal
-    where
-      go : (t : Bool) → 64 ≡ symbol_code (symbol_of t K)
-      go true = rw (le-ltb K 32 h, code_of)
-      go false = rw (le-ltb K 32 h, code_of)
-
-  pub code-terminal : K < 32 → terminal ≡ true → K ≡ symbol_code (symbol_of terminal K)
-  unfolding symbol_code symbol_of code_of
-  code-terminal h e = rw e (rw (lt-ltb K 32 h, code_of) (omega arith))
-
-  pub code-nonterminal : K < 32 → terminal ≡ false → 32 + K ≡ symbol_code (symbol_of terminal K)
-  unfolding symbol_code symbol_of code_of
-  code-nonterminal h e = rw e (rw (lt-ltb K 32 h, code_of))
 
 -- How much a line leaves
 

@@ -20,18 +20,18 @@ numbered K = do
   decimal_number
 
 -- two short numbers, with a space and `n` between them
-pub brief-numbered : (text : List ℕ) (at k : ℕ) {n a A next : ℕ} → Brief text at n a → 0 < a → a + 1 < length text
-    → eqb (get_or text a 0) 32 && eqb (get_or text (a + 1) 0) 110 && eqb n k ≡ true → Brief text (a + 2) A next → 0 < next
+pub brief-numbered : (text : List ℕ) (at k : ℕ) {n a A next : ℕ} → Brief text at n a → a + 1 < length text
+    → eqb (get_or text a 0) 32 && eqb (get_or text (a + 1) 0) 110 && eqb n k ≡ true → Brief text (a + 2) A next
     → Gives (numbered k (rest text at)) text A next
 unfolding numbered result remaining spelled class_of
-brief-numbered text at k {n} {a} number some h e left found =
+brief-numbered text at k {n} {a} number h e left =
     let (between, same) = both_true _ _ e in
     let (blank, letter) = both_true _ _ between in
-    let first = number.reads some in
+    let first = number.reads in
     let due : must (eqb n k) (rest text a) ≡ rest text a = must-true _ _ same in
     let name : rest text (a + 2) ≡ naming (word_of "n") (rest text a) =
-    naming-at text a 14 h refl (eqb-true _ _ blank) (eqb-true _ _ letter) left found in
-    let second = left.reads found in
+    naming-at text a 14 h refl (eqb-true _ _ blank) (eqb-true _ _ letter) left in
+    let second = left.reads in
     record { result_is = cc; remaining_is = cc }
 
 -- opens every definition of this module

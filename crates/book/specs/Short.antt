@@ -1,9 +1,9 @@
 -- Numbers of one to three digits and the symbols that have such numbers, told by their bytes: what is answered of one, and the laws by its bytes.
 -- Assumes nothing.
-use Rattle.std.specs.Prelude.{ℕ, ◌+◌, ◌*◌, ◌-◌, ◌<◌, ◌≤◌, ◌≡◌, Bool, ◌&&◌, ◌||◌, List, ◌∷◌, length, get_or, drop}
+use Rattle.std.specs.Prelude.{ℕ, ◌+◌, ◌*◌, ◌-◌, ◌<◌, ◌≤◌, ◌≡◌, ◌&&◌, ◌||◌, List, ◌∷◌, length, get_or, drop}
 use Rattle.std.proofs.Common.{arith, sym, ap, ◌∙◌, eq-eqb, eqb-true}
 use Rattle.std.proofs.Math.Path.{refl}
-use Rattle.std.proofs.Math.Bool.{true, false}
+use Rattle.std.proofs.Math.Bool.{true}
 use Rattle.std.proofs.Math.Dec.{eqb}
 use Rattle.text.specs.Class.{class_of, digit, letter, space}
 use Rattle.text.proofs.ClassLaws.{digit-range, letter-range}
@@ -16,19 +16,16 @@ use Rattle.text.proofs.Positional.{decimal-positional, digit_is, numeral-first, 
 use Rattle.text.specs.Reading.{Reads}
 use Rattle.grammar.specs.Format.Reader.{result, remaining, closing, naming}
 use Rattle.grammar.specs.Format.ReaderLaws.{reading, word-ends}
+use Rattle.grammar.specs.Data.Symbol.{Symbol, terminal, nonterminal}
 use Rattle.grammar.specs.Format.Parse.{symbol_of, symbol}
 use Rattle.grammar.specs.Automaton.TestLaws.{both_true}
 use Rattle.book.specs.Sections.{Gives}
 
--- what is answered of a number at a position: the number and the position after it, or position 0
+-- a short number at a position: the number and the position after it
 pub record Brief (text : List ℕ) (at number next : ℕ) : Type 0 where
   pub near : next ≤ at + 3
-  pub written : 0 < next → drop at text ≡ write decimal number (drop next text)
-  pub reads : 0 < next → Reads decimal text at number next
-
--- position 0 says nothing
-pub brief-none : (text : List ℕ) (at number : ℕ) {next : ℕ} → next ≡ 0 → Brief text at number next
-brief-none text at number e = record { near = omega arith; written = λ h. absurd (omega arith); reads = λ h. absurd (omega arith) }
+  pub written : drop at text ≡ write decimal number (drop next text)
+  pub reads : Reads decimal text at number next
 
 -- the digits, one after another
 pub one_written : (b : ℕ) (r : List ℕ) → class_of b ≡ digit → write decimal (b - 48) r ≡ b ∷ r
@@ -57,8 +54,8 @@ module _ (text : List ℕ) (at : ℕ) (long : at + 4 ≤ length text) where
       let here : rest text at ≡ left (write decimal n (drop (at + k) text)) = rest_in text at (omega arith) ∙ ap left e in
       record {
         near = omega arith;
-        written = λ some. e;
-        reads = λ some. record {
+        written = e;
+        reads = record {
           value_is = sym (ap (value decimal) here ∙ value-number n (drop (at + k) text) (omega arith) stop);
           rest_is = rest_in text (at + k) (omega arith) ∙ sym (ap (past decimal) here ∙ past-number n (drop (at + k) text) (omega arith) stop);
         };
@@ -121,11 +118,11 @@ letter-ends b n r c =
     numeral-first letters b _ (λ q. absurd (omega arith)) (λ q. absurd (omega arith)) (omega arith) ∙ rw e (word-ends (b - 96) n r)
 
 pub letter-reads : (text : List ℕ) (at : ℕ) {number next : ℕ} → at < length text → class_of (get_or text at 0) ≡ letter → Brief text (at + 1) number next
-    → 0 < next → Reads letters text at (get_or text at 0 - 96) (at + 1)
+    → Reads letters text at (get_or text at 0 - 96) (at + 1)
 unfolding value past read number_of rest_of
-letter-reads text at {number} {next} h c brief some =
-    let e : rest text at ≡ left (get_or text at 0 ∷ write decimal number (drop next text)) = rest_at text at h ∙ rw (brief.written some) in
-    let f : rest text (at + 1) ≡ left (write decimal number (drop next text)) = rest_in text (at + 1) (omega arith) ∙ ap left (brief.written some) in
+letter-reads text at {number} {next} h c brief =
+    let e : rest text at ≡ left (get_or text at 0 ∷ write decimal number (drop next text)) = rest_at text at h ∙ rw (brief.written) in
+    let f : rest text (at + 1) ≡ left (write decimal number (drop next text)) = rest_in text (at + 1) (omega arith) ∙ ap left (brief.written) in
     record { value_is = rw (e, letter-ends _ number (drop next text) c); rest_is = f ∙ rw (e, letter-ends _ number (drop next text) c) }
 
 -- a letter as a number in base 32: 96 more is its byte
@@ -134,48 +131,46 @@ Letter w = class_of (w + 96) ≡ letter
 
 -- a letter by its byte, and one after a space
 pub keyword-at : (text : List ℕ) (at w : ℕ) {number next : ℕ} → at < length text → Letter w → get_or text at 0 ≡ w + 96
-    → Brief text (at + 1) number next → 0 < next → rest text (at + 1) ≡ keyword w (rest text at)
+    → Brief text (at + 1) number next → rest text (at + 1) ≡ keyword w (rest text at)
 unfolding keyword
-keyword-at text at w h c e brief some =
-    let read : Reads letters text at (get_or text at 0 - 96) (at + 1) = letter-reads text at h (ap class_of e ∙ c) brief some in
+keyword-at text at w h c e brief =
+    let read : Reads letters text at (get_or text at 0 - 96) (at + 1) = letter-reads text at h (ap class_of e ∙ c) brief in
     let same : get_or text at 0 - 96 ≡ w = omega arith in
     read.rest_is ∙ sym (must-true _ _ (eq-eqb _ _ (sym read.value_is ∙ same)))
 
 pub naming-at : (text : List ℕ) (at w : ℕ) {number next : ℕ} → at + 1 < length text → Letter w → get_or text at 0 ≡ 32
-    → get_or text (at + 1) 0 ≡ w + 96 → Brief text (at + 2) number next → 0 < next → rest text (at + 2) ≡ naming w (rest text at)
+    → get_or text (at + 1) 0 ≡ w + 96 → Brief text (at + 2) number next → rest text (at + 2) ≡ naming w (rest text at)
 unfolding naming
-naming-at text at w {number} {next} h c blank e brief some =
+naming-at text at w {number} {next} h c blank e brief =
     let two : at + 2 ≡ at + 1 + 1 = omega arith in
     let near : Brief text (at + 1 + 1) number next = rw (sym two) brief in
-    ap (rest text) two ∙ (keyword-at text (at + 1) w h c e near some ∙ ap (keyword w) (space-at text at (omega arith) blank))
+    ap (rest text) two ∙ (keyword-at text (at + 1) w h c e near ∙ ap (keyword w) (space-at text at (omega arith) blank))
 
--- Symbols: what is answered of one, by its letter
+-- Symbols
 
-pub record BriefSymbol (text : List ℕ) (at : ℕ) (t : Bool) (K next : ℕ) : Type 0 where
+-- by its parts: a word that is one of the letters, and a number
+pub symbol-parts : {text : List ℕ} {at word p₁ p₂ K p₃ : ℕ} {X : Symbol} → Reads letters text at word p₁
+    → rest text p₂ ≡ must (eqb word (word_of "t") || eqb word (word_of "n")) (rest text p₁) → Reads decimal text p₂ K p₃
+    → X ≡ symbol_of (eqb word (word_of "t")) K → Gives (symbol (rest text at)) text X p₃
+unfolding symbol result remaining
+symbol-parts word some number kind = record { result_is = cc; remaining_is = cc }
+
+-- by its letter and a short number
+pub record BriefSymbol (text : List ℕ) (at : ℕ) (X : Symbol) (next : ℕ) : Type 0 where
   pub near : next ≤ at + 4
-  pub gives : 0 < next → Gives (symbol (rest text at)) text (symbol_of t K) next
-
-pub symbol-none : (text : List ℕ) (at : ℕ) (t : Bool) (K : ℕ) → BriefSymbol text at t K 0
-symbol-none text at t K = record { near = omega arith; gives = λ h. absurd (omega arith) }
+  pub gives : Gives (symbol (rest text at)) text X next
 
 module _ (text : List ℕ) (at : ℕ) {K next : ℕ} (h : at < length text) (brief : Brief text (at + 1) K next) where
-  symbol-by : (t : Bool) (w : ℕ) → class_of (get_or text at 0) ≡ letter → w ≡ get_or text at 0 - 96 → (eqb w (word_of "t") || eqb w (word_of "n")) ≡ true
-      → t ≡ eqb w (word_of "t") → BriefSymbol text at t K next
-  unfolding symbol result remaining
-  symbol-by t w c e some kind =
-      record {
-        near = omega (arith, brief.near);
-        gives = λ found.
-            let word : Reads letters text at (get_or text at 0 - 96) (at + 1) = letter-reads text at h c brief found in
-            let number : Reads decimal text (at + 1) K next = brief.reads found in
-            let due : must (eqb w (word_of "t") || eqb w (word_of "n")) (rest text (at + 1)) ≡ rest text (at + 1) = must-true _ _ some in
-            record { result_is = cc; remaining_is = cc };
-      }
+  symbol-by : {X : Symbol} (w : ℕ) → class_of (get_or text at 0) ≡ letter → w ≡ get_or text at 0 - 96
+      → (eqb w (word_of "t") || eqb w (word_of "n")) ≡ true → X ≡ symbol_of (eqb w (word_of "t")) K → BriefSymbol text at X next
+  symbol-by w c e some kind =
+      let word : Reads letters text at w (at + 1) = rw e (letter-reads text at h c brief) in
+      record { near = omega (arith, brief.near); gives = symbol-parts word (sym (must-true _ _ some)) brief.reads kind }
 
-  pub terminal-by : get_or text at 0 ≡ 116 → BriefSymbol text at true K next
-  unfolding class_of spelled
-  terminal-by e = symbol-by true 20 (rw e) (omega arith) refl refl
+  pub terminal-by : get_or text at 0 ≡ 116 → BriefSymbol text at (terminal K) next
+  unfolding class_of spelled symbol_of
+  terminal-by e = symbol-by 20 (rw e) (omega arith) refl refl
 
-  pub nonterminal-by : get_or text at 0 ≡ 110 → BriefSymbol text at false K next
-  unfolding class_of spelled
-  nonterminal-by e = symbol-by false 14 (rw e) (omega arith) refl refl
+  pub nonterminal-by : get_or text at 0 ≡ 110 → BriefSymbol text at (nonterminal K) next
+  unfolding class_of spelled symbol_of
+  nonterminal-by e = symbol-by 14 (rw e) (omega arith) refl refl

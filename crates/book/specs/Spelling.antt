@@ -1,6 +1,6 @@
--- What is answered of a whole text (01, "Spelling of a book"): whether it is a book's, and then the book's numbers and its lines in arrays.
+-- What is answered of a whole text (01, "Spelling of a book"): the numbers of its book, if it is a book's, and the book's lines in arrays.
 -- Assumes nothing.
-use Rattle.std.specs.Prelude.{ℕ, ◌+◌, ◌*◌, ◌<◌, ◌≤◌, ◌≡◌, Bool, true, false, List, length}
+use Rattle.std.specs.Prelude.{ℕ, ◌+◌, ◌*◌, ◌<◌, ◌≤◌, ◌≡◌, List, length, Option, None, Some}
 use Rattle.std.proofs.Math.Option.{none, some}
 use Rattle.grammar.specs.Limits.{MAX_INHERITED, MAX_SYNTHESIZED, MAX_RULES, MAX_DEFINITIONS, MAX_KERNELS, MAX_GOES, MAX_STATES}
 use Rattle.grammar.specs.Data.Book.{Book as Lines}
@@ -49,14 +49,10 @@ stored_in room a b = record {
   goes = store_lines go_words room.goes 0 b.goes a.goes;
 }
 
--- condition 2
-unfoldable pub is_book : List ℕ → Bool
-is_book text = elim (parse_book text) [ none ↦ false | some b ↦ true ]
-
--- the answer, and the arrays before and after
-pub record Spelling (room : Room) (text : List ℕ) (before : Arrays) (spelled : Bool) (numbers : Book) (stored : Arrays) : Type 0 where
-  pub spelled_is : spelled ≡ is_book text
-  pub numbers_are : (b : Lines) → parse_book text ≡ some b → numbers ≡ counts_of b
+-- the answer, the numbers of the book that the text spells if it spells one (condition 2), and the arrays before and after
+pub record Spelling (room : Room) (text : List ℕ) (before : Arrays) (read : Option Book) (stored : Arrays) : Type 0 where
+  pub none_is : parse_book text ≡ none → read ≡ None
+  pub some_is : (b : Lines) → parse_book text ≡ some b → read ≡ Some (counts_of b)
   pub lines_are : (b : Lines) → parse_book text ≡ some b → stored ≡ stored_in room before b
 
 -- where there is less room than a limit allows, nothing was left out
@@ -69,5 +65,5 @@ pub record Complete (room : Room) (numbers : Book) : Type 0 where
 
 -- opens every definition of this module
 unfoldable pub opens : Unit {0}
-unfolding stored_in is_book
+unfolding stored_in
 opens = tt

@@ -1,11 +1,12 @@
 // The first line, `(book T N Q)`.
 ghost use Rattle.text.specs.Rest.{rest};
-ghost use Rattle.text.specs.Reading.{Lent};
 ghost use Rattle.book.specs.Header.{header, numbers_of};
 ghost use Rattle.book.specs.Sections.{Gives};
 
 use super::spelling::{BOOK, closing};
+use lines::heads::Head;
 use lines::line_head;
+use text::source::Source;
 
 // How many terminals, nonterminals and states the book has, and where the text goes on.
 #[derive(Clone, Copy)]
@@ -16,20 +17,23 @@ pub struct HeaderRead {
     pub at: usize,
 }
 
-pub fn header(t: &[u8; 256], text: &[u8], at: usize) -> HeaderRead
-    requires { Lent t.now text.now }
-    ensures { Gives (header (rest text.now at)) text.now (numbers_of result) result.at }
+pub fn header(source: &Source<'_>, at: usize) -> HeaderRead
+    ensures { Gives (header (rest source.now.bytes.now at)) source.now.bytes.now (numbers_of result) result.at }
 {
-    let a = line_head(t, text, at, BOOK, b"(book ");
-    let terminals = text::number(t, text, a);
-    let b = text::mark(t, text, terminals.at, text::SPACE);
-    let nonterminals = text::number(t, text, b);
-    let c = text::mark(t, text, nonterminals.at, text::SPACE);
-    let states = text::number(t, text, c);
+    let first = Head {
+        word: BOOK,
+        bytes: b"(book ",
+    };
+    let a = line_head(source, at, &first);
+    let terminals = source.number(a);
+    let b = source.mark(terminals.at, text::SPACE);
+    let nonterminals = source.number(b);
+    let c = source.mark(nonterminals.at, text::SPACE);
+    let states = source.number(c);
     HeaderRead {
         terminals: terminals.value,
         nonterminals: nonterminals.value,
         states: states.value,
-        at: closing(t, text, states.at),
+        at: closing(source, states.at),
     }
 }

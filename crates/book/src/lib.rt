@@ -2,14 +2,17 @@
 #![tactic(auto)]
 
 pub mod header;
+pub mod kind;
 pub mod order;
 pub mod owners;
+pub mod refusal;
 pub mod rooms;
 pub mod rules;
 pub mod short;
 pub mod spelling;
 pub mod store;
 pub mod symbol;
+pub mod symbols;
 
 ghost use Rattle.std.specs.Prelude.{◌≡◌};
 ghost use Rattle.book.specs.Rooms.{full_room};

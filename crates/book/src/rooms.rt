@@ -20,17 +20,9 @@ pub fn complete(room: Room, book: Book) -> bool
     ensures { Decides result (Complete room book) }
 {
     let definitions = book.inherited_definitions as usize + book.synthesized_definitions as usize;
-    if !fits(room.definitions, definitions, Book::MAX_DEFINITIONS) {
-        return false;
-    }
-    if !fits(room.kernels, book.kernels as usize, Book::MAX_KERNELS) {
-        return false;
-    }
-    if !fits(room.goes, book.goes as usize, Book::MAX_GOES) {
-        return false;
-    }
-    if !fits(room.states, book.states as usize, Book::MAX_STATES) {
-        return false;
-    }
-    fits(room.rules, book.rules as usize, Book::MAX_RULES)
+    fits(room.definitions, definitions, Book::MAX_DEFINITIONS)
+        && fits(room.kernels, book.kernels as usize, Book::MAX_KERNELS)
+        && fits(room.goes, book.goes as usize, Book::MAX_GOES)
+        && fits(room.states, book.states as usize, Book::MAX_STATES)
+        && fits(room.rules, book.rules as usize, Book::MAX_RULES)
 }

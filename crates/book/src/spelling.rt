@@ -1,7 +1,6 @@
 // What lines have in common: their words, the end, the letters of names, and the number of a line; and the last line, which has nothing else.
 ghost use Rattle.std.specs.Prelude.{◌≡◌};
 ghost use Rattle.text.specs.Rest.{rest};
-ghost use Rattle.text.specs.Reading.{Lent};
 ghost use Rattle.grammar.specs.Format.Reader.{closing, naming};
 ghost use Rattle.grammar.specs.Format.Parse.{end_line};
 ghost use Rattle.book.specs.Numbered.{numbered};
@@ -9,6 +8,7 @@ ghost use Rattle.book.specs.Sections.{Gives};
 
 use lines::head;
 use text::Cursor;
+use text::source::Source;
 
 // The words of lines and the letters of names, as numbers in base 32: a is 1, z is 26.
 pub const BOOK: u32 = ((2 * 32 + 15) * 32 + 15) * 32 + 11;
@@ -38,39 +38,35 @@ pub const I: u32 = 9;
 pub const S: u32 = 19;
 
 // `)` and the line feed.
-pub fn closing(t: &[u8; 256], text: &[u8], at: usize) -> usize
-    requires { Lent t.now text.now }
-    ensures { rest text.now result ≡ closing (rest text.now at) }
+pub fn closing(source: &Source<'_>, at: usize) -> usize
+    ensures { rest source.now.bytes.now result ≡ closing (rest source.now.bytes.now at) }
 {
-    let a = text::mark(t, text, at, text::CLOSE);
-    text::mark(t, text, a, text::FEED)
+    let a = source.mark(at, text::CLOSE);
+    source.mark(a, text::FEED)
 }
 
 // A space and the letter of a name.
-pub fn naming(t: &[u8; 256], text: &[u8], at: usize, letter: u32) -> usize
-    requires { Lent t.now text.now }
-    ensures { rest text.now result ≡ naming letter (rest text.now at) }
+pub fn naming(source: &Source<'_>, at: usize, letter: u32) -> usize
+    ensures { rest source.now.bytes.now result ≡ naming letter (rest source.now.bytes.now at) }
 {
-    let a = text::mark(t, text, at, text::SPACE);
-    text::keyword(t, text, a, letter)
+    let a = source.mark(at, text::SPACE);
+    source.keyword(a, letter)
 }
 
 // `K nA` with K given, by its parts: A, and where the text goes on.
-pub fn numbered(t: &[u8; 256], text: &[u8], at: usize, k: u32) -> Cursor
-    requires { Lent t.now text.now }
-    ensures { Gives (numbered k (rest text.now at)) text.now result.value result.at }
+pub fn numbered(source: &Source<'_>, at: usize, k: u32) -> Cursor
+    ensures { Gives (numbered k (rest source.now.bytes.now at)) source.now.bytes.now result.value result.at }
 {
-    let number = text::number(t, text, at);
-    let a = text::require(t, text, number.at, number.value == k);
-    let b = naming(t, text, a, N);
-    text::number(t, text, b)
+    let number = source.number(at);
+    let a = source.require(number.at, number.value == k);
+    let b = naming(source, a, N);
+    source.number(b)
 }
 
 // `(end)` and the line feed.
-pub fn end_line(t: &[u8; 256], text: &[u8], at: usize) -> usize
-    requires { Lent t.now text.now }
-    ensures { rest text.now result ≡ end_line (rest text.now at) }
+pub fn end_line(source: &Source<'_>, at: usize) -> usize
+    ensures { rest source.now.bytes.now result ≡ end_line (rest source.now.bytes.now at) }
 {
-    let a = head(t, text, at, END, text::CLOSE);
-    text::mark(t, text, a, text::FEED)
+    let a = head(source, at, END, text::CLOSE);
+    source.mark(a, text::FEED)
 }

@@ -7,11 +7,7 @@ fn write_at(out: &mut [u32], place: usize, line: &[u32])
     requires { place + length line.now ≤ length out.old }
     ensures { out.new ≡ write_at place line.now out.old }
 {
-    let mut i = 0;
-    while i < line.len() {
-        out[place + i] = line[i];
-        i += 1;
-    }
+    out[place..place + line.len()].copy_from_slice(line);
 }
 
 // Line k at its place, where there is room for it; a line past the room is not kept.

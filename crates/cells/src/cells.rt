@@ -6,18 +6,6 @@ ghost use Rattle.cells.specs.Cells.{cleared, LineAsked, PlanAsked, line_set, lin
 
 use super::values::value;
 
-// `count` words from a place on become 0.
-pub fn clear(words: &mut [u32], from: usize, count: usize)
-    requires { from + count ≤ length words.old }
-    ensures { words.new ≡ cleared from count words.old }
-{
-    let mut i = 0;
-    while i < count {
-        words[from + i] = 0;
-        i += 1;
-    }
-}
-
 // The definition of a line gives its attribute's word of the top cell.
 fn set_attribute(
     definitions: &[u32],
@@ -52,11 +40,8 @@ fn set_lines(
     ensures { (b : Book) (lines : List ℕ) → PlanAsked b definitions.now plan.now from count height lines
         → inherited.new ≡ lines_set b synthesized.now height lines inherited.old }
 {
-    let mut i = 0;
-    while i < count {
-        let line = plan[from + i] as usize;
-        set_attribute(definitions, line, height, inherited, synthesized);
-        i += 1;
+    for line in &plan[from..from + count] {
+        set_attribute(definitions, *line as usize, height, inherited, synthesized);
     }
 }
 
@@ -75,7 +60,8 @@ pub fn set_cell(
     ensures { (b : Book) (lines : List ℕ) → PlanAsked b definitions.now plan.now from count height lines
         → inherited.new ≡ lines_set b synthesized.now height lines (cleared (16 * height) 16 inherited.old) }
 {
-    clear(inherited, 16 * height, 16);
+    let top = 16 * height;
+    inherited[top..top + 16].fill(0);
     set_lines(
         definitions,
         plan,

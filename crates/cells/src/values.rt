@@ -14,34 +14,22 @@ use formulas::nodes::{Leaf, Operator, Stack};
 use formulas::steps::{Step, operands, step_at};
 
 // "Sums and differences are taken modulo 4,294,967,296".
+#[tactic(auto, unfolding(grammar::specs::Data::Term::apply))]
 fn combine(operator: Operator, x: u32, y: u32) -> u32
     ensures { result ≡ apply (operator_of operator) x y }
 {
     match operator {
-        Operator::Add => std::num::wrapping_add_u32(x, y),
-        Operator::Sub => std::num::wrapping_sub_u32(x, y),
-        Operator::Min => {
-            if x < y {
-                return x;
-            }
-            y
-        }
-        Operator::Max => {
-            if x < y {
-                return y;
-            }
-            x
-        }
+        Operator::Add => x.wrapping_add(y),
+        Operator::Sub => x.wrapping_sub(y),
+        Operator::Min => x.min(y),
+        Operator::Max => x.max(y),
     }
 }
 
 fn pick(c: u32, x: u32, y: u32) -> u32
     ensures { result ≡ choose c x y }
 {
-    if c == 0 {
-        return y;
-    }
-    x
+    if c == 0 { y } else { x }
 }
 
 // What a step puts on a stack of `top` words. The rule's right symbol j stands `dot - j` symbols below the top one, its own cell `dot` below the top cell.
@@ -114,14 +102,12 @@ pub fn value<'a>(
     }
     let mut stack = [0u32; Book::MAX_NODES as usize + 1];
     let mut top: usize = 0;
-    let mut i = 0;
-    while i < nodes {
+    for i in 0..nodes {
         let step = step_at(definitions, first + 4 + 3 * i);
         let v = step_value(step, dot, height, inherited, synthesized, &stack, top);
         top -= operands(step);
         stack[top] = v;
         top += 1;
-        i += 1;
     }
     stack[0]
 }

@@ -1,21 +1,23 @@
 -- The first of conditions 2 to 10 that applies to a text, and the book's arrays and tables where none does.
 -- Assumes nothing.
-use Rattle.std.specs.Prelude.{ℕ, zero, suc, ◌≤◌, ◌≡◌, Bool, not, ◌&&◌, List, length}
+use Rattle.std.specs.Prelude.{ℕ, zero, suc, ◌≤◌, ◌≡◌, Bool, List, length, Option, None, Some, Result, Ok, Err, MatchResult}
 use Rattle.std.proofs.Math.Path.{refl, sym, ap}
 use Rattle.std.proofs.Common.{◌∙◌, arith}
 use Rattle.std.proofs.Math.Bool.{true, false}
-use Rattle.std.proofs.lemmas.Bool.{false≢true}
 use Rattle.std.proofs.Math.Option.{none, some}
 use Rattle.grammar.specs.Limits.{MAX_RULES}
 use Rattle.grammar.specs.Data.Book.{Book as Lines}
 use Rattle.grammar.specs.Format.Parse.{parse_book}
 use Rattle.grammar.specs.Format.ParseLaws.{print-parse}
-use Rattle.grammar.specs.Conditions.Decides.{Decides, refutes}
 use Rattle.grammar.specs.Conditions.Tests.{within_limits, declared, owned, defined}
 use Rattle.grammar.specs.Automaton.Compiled.{states_refusal}
 use Rattle.grammar.specs.Refusal.{book_refusal, refusal}
 use Rattle.book.specs.declared.Book.{Book}
 use Rattle.book.specs.declared.Room.{Room}
+use Rattle.book.specs.declared.refusal.Refusal.{Refusal}
+use Rattle.book.specs.declared.refusal.Refusal.TheVariants.{Spelling as Misspelt}
+use Rattle.book.specs.Counts.{counts_of}
+use Rattle.book.specs.Refusals.{number_of, answer_of}
 use Rattle.book.specs.Spelling.{Arrays, Roomy, Spelling, Complete}
 use Rattle.conditions.specs.AskedLaws.{counted}
 use Rattle.conditions.specs.SpellingHeld.{spelled-got, misspelt-none, arrays-held}
@@ -41,13 +43,19 @@ pub record Checked (r : ℕ) (numbers : Book) (inherited synthesized rules defin
   pub told : r ≡ book_refusal b
   pub ready : r ≡ 0 → BookReady numbers inherited synthesized rules definitions kernels goes nullables reaches bounds closures table actions b
 
--- the same of a text, where nothing of it was left out for want of room; where there is room for all, nothing is
-pub record Compiles (room : Room) (text : List ℕ) (complete : Bool) (r : ℕ) (numbers : Book) (inherited synthesized rules definitions kernels goes : List ℕ)
+-- a text is a book's, of which something was left out for want of room
+pub record LeftOut (room : Room) (text : List ℕ) : Type 0 where
+  pub book : Lines
+  pub parsed : parse_book text ≡ some book
+  pub over : Complete room (counts_of book) → ⊥
+
+-- the same of a text: the refusal is told and the book is ready, where nothing of it was left out
+pub record Compiles (room : Room) (text : List ℕ) (compiled : Option (Result Book Refusal)) (inherited synthesized rules definitions kernels goes : List ℕ)
     (nullables reaches bounds closures table actions : List ℕ) : Type 0 where
-  pub left_out : complete ≡ false → Complete room numbers → ⊥
-  pub fits : complete ≡ true → r ≡ 0 → Complete room numbers
-  pub told : complete ≡ true → r ≡ refusal text
-  pub ready : complete ≡ true → r ≡ 0 → (b : Lines) → parse_book text ≡ some b
+  pub left_out : compiled ≡ None → LeftOut room text
+  pub told : (answer : Result Book Refusal) → compiled ≡ Some answer → answer_of answer ≡ refusal text
+  pub fits : (numbers : Book) → compiled ≡ Some (Ok numbers) → Complete room numbers
+  pub ready : (numbers : Book) → compiled ≡ Some (Ok numbers) → (b : Lines) → parse_book text ≡ some b
       → BookReady numbers inherited synthesized rules definitions kernels goes nullables reaches bounds closures table actions b
 
 -- ---- the refusal of a book
@@ -157,58 +165,61 @@ book_refused text b e = rw (e, refusal)
 
 -- ---- what was read
 
-module _ {text : List ℕ} {before stored : Arrays} {spelled : Bool} {numbers : Book} (room : Room)
-    (s : Spelling room text before spelled numbers stored) where
-  compiles-misspelt : {nullables reaches bounds closures table actions : List ℕ} → spelled ≡ false
-      → Compiles room text true 2 numbers stored.inherited stored.synthesized stored.rules stored.definitions stored.kernels stored.goes
+module _ {text : List ℕ} {before stored : Arrays} {read : Option Book} (room : Room) (s : Spelling room text before read stored) where
+  pub compiles-misspelt : {nullables reaches bounds closures table actions : List ℕ} → read ≡ None
+      → Compiles room text (Some (Err Misspelt)) stored.inherited stored.synthesized stored.rules stored.definitions stored.kernels stored.goes
       nullables reaches bounds closures table actions
+  unfolding answer_of number_of
   compiles-misspelt h = record {
-    left_out = λ e. absurd (false≢true (sym e));
-    fits = λ _ z. absurd (omega arith);
-    told = λ _. sym (misspelt-refused text (misspelt-none room s h));
-    ready = λ _ z. absurd (omega arith);
+    left_out = λ e. absurd (cc);
+    told = λ answer e. let same : answer ≡ Err Misspelt = cc in rw same (sym (misspelt-refused text (misspelt-none room s h)));
+    fits = λ numbers e. absurd (cc);
+    ready = λ numbers e. absurd (cc);
   }
 
-  -- the text is misspelt, or something was left out
-  pub compiles-unread : {whole : Bool} {nullables reaches bounds closures table actions : List ℕ} → Decides whole (Complete room numbers)
-      → spelled && whole ≡ false
-      → Compiles room text (not spelled) 2 numbers stored.inherited stored.synthesized stored.rules stored.definitions stored.kernels
-      stored.goes nullables reaches bounds closures table actions
-  compiles-unread {whole} {nullables} {reaches} {bounds} {closures} {table} {actions} d e = go spelled refl whole refl
-    where
-      go : (t : Bool) → spelled ≡ t → (u : Bool) → whole ≡ u
-          → Compiles room text (not spelled) 2 numbers stored.inherited stored.synthesized stored.rules stored.definitions stored.kernels
-          stored.goes nullables reaches bounds closures table actions
-      go false p u q = rw p (compiles-misspelt p)
-      go true p false q = rw p (record {
-        left_out = λ _. refutes (rw q at d);
-        fits = λ f. absurd (false≢true f);
-        told = λ f. absurd (false≢true f);
-        ready = λ f. absurd (false≢true f);
-      })
-      go true p true q = absurd (false≢true (sym (rw (p, q) at e)))
-
-  module _ (roomy : Roomy room before) (complete : Complete room numbers) where
-    pub read_kept : (b : Lines) → parse_book text ≡ some b
-        → BookKept numbers stored.inherited stored.synthesized stored.rules stored.definitions stored.kernels stored.goes b
-    read_kept b e = record { numbers_are = s.numbers_are b e; ordered = (print-parse text b e).1.ordered; arrays_in = arrays-held room s b e roomy complete }
-
-    pub read_some : spelled ≡ true
-        → (b : Lines)
-        × BookKept numbers stored.inherited stored.synthesized stored.rules stored.definitions stored.kernels stored.goes b
-    read_some h = spelled-got room s h λ b e. (b, read_kept b e)
-
-    pub compiles-checked : {r : ℕ} {nullables reaches bounds closures table actions : List ℕ} → spelled ≡ true
-        → ((b : Lines)
-        → BookKept numbers stored.inherited stored.synthesized stored.rules stored.definitions stored.kernels stored.goes b
-        → Checked r numbers stored.inherited stored.synthesized stored.rules stored.definitions stored.kernels stored.goes
-        nullables reaches bounds closures table actions b)
-        → Compiles room text true r numbers stored.inherited stored.synthesized stored.rules stored.definitions stored.kernels stored.goes
+  module _ {numbers : Book} (h : read ≡ Some numbers) where
+    pub compiles-part : {nullables reaches bounds closures table actions : List ℕ} → (Complete room numbers → ⊥)
+        → Compiles room text None stored.inherited stored.synthesized stored.rules stored.definitions stored.kernels stored.goes
         nullables reaches bounds closures table actions
-    compiles-checked h c = spelled-got room s h λ b e.
+    compiles-part over = spelled-got room s numbers h λ b p n.
         record {
-          left_out = λ f. absurd (false≢true (sym f));
-          fits = λ _ _. complete;
-          told = λ _. (c b (read_kept b e)).told ∙ sym (book_refused text b e);
-          ready = λ _ z b' e'. (c b' (read_kept b' e')).ready z;
+          left_out = λ _. record { book = b; parsed = p; over = rw n at over };
+          told = λ answer e. absurd (cc);
+          fits = λ numbers e. absurd (cc);
+          ready = λ numbers e. absurd (cc);
         }
+
+    module _ (roomy : Roomy room before) (complete : Complete room numbers) where
+      read_kept : (b : Lines) → parse_book text ≡ some b
+          → BookKept numbers stored.inherited stored.synthesized stored.rules stored.definitions stored.kernels stored.goes b
+      read_kept b p =
+          let n : numbers ≡ counts_of b = let same : Some numbers ≡ Some (counts_of b) = sym h ∙ s.some_is b p in cc in
+          record { numbers_are = n; ordered = (print-parse text b p).1.ordered; arrays_in = arrays-held room s b p roomy (rw n at complete) }
+
+      pub read_some : (b : Lines)
+          × BookKept numbers stored.inherited stored.synthesized stored.rules stored.definitions stored.kernels stored.goes b
+      read_some = spelled-got room s numbers h λ b p _. (b, read_kept b p)
+
+      pub compiles-checked : {nullables reaches bounds closures table actions : List ℕ} → (checked : Result Unit Refusal)
+          → ((b : Lines)
+          → BookKept numbers stored.inherited stored.synthesized stored.rules stored.definitions stored.kernels stored.goes b
+          → Checked (answer_of checked) numbers stored.inherited stored.synthesized stored.rules stored.definitions stored.kernels stored.goes
+          nullables reaches bounds closures table actions b)
+          → (answer : Result Book Refusal) → MatchResult checked (λ _. answer ≡ Ok numbers) (λ r. answer ≡ Err r)
+          → Compiles room text (Some answer) stored.inherited stored.synthesized stored.rules stored.definitions stored.kernels stored.goes
+          nullables reaches bounds closures table actions
+      unfolding answer_of
+      compiles-checked (Ok _) c answer e = spelled-got room s numbers h λ b p _.
+          record {
+            left_out = λ f. absurd (cc);
+            told = λ answer' f. let same : answer' ≡ Ok numbers = cc in rw same ((c b (read_kept b p)).told ∙ sym (book_refused text b p));
+            fits = λ numbers' f. let same : numbers' ≡ numbers = cc in rw same complete;
+            ready = λ numbers' f b' p'. let same : numbers' ≡ numbers = cc in rw same ((c b' (read_kept b' p')).ready refl);
+          }
+      compiles-checked (Err r) c answer e = spelled-got room s numbers h λ b p _.
+          record {
+            left_out = λ f. absurd (cc);
+            told = λ answer' f. let same : answer' ≡ Err r = cc in rw same ((c b (read_kept b p)).told ∙ sym (book_refused text b p));
+            fits = λ _ f. absurd (cc);
+            ready = λ _ f. absurd (cc);
+          }

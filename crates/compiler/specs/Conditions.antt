@@ -12,7 +12,7 @@ use Rattle.book.specs.Counts.{counts_of}
 use Rattle.book.specs.Held.{Held, kept}
 use Rattle.conditions.specs.Asked.{Kept, Within, DefinitionsOf, NamedBook, OwnedBook}
 use Rattle.conditions.specs.AskedLaws.{kept-book, within-book, definitions-of, named-book, owned-book}
-use Rattle.conditions.specs.Answers.{and_first, and_second}
+use Rattle.std.proofs.lemmas.Bool.{and_parts}
 use Rattle.conditions.specs.DeclaredTests.{names_declared, definitions_declared}
 use Rattle.conditions.specs.DeclaredLaws.{declared-parts}
 use Rattle.conditions.specs.SoundTests.{definitions_sound}
@@ -34,11 +34,11 @@ module _ (b : Lines) where
 
   pub sound-declared : names_declared b ≡ true → definitions_sound b ≡ true → declared b ≡ true
   unfolding definitions_sound
-  sound-declared n s = names-there n ∙ and_first (definitions_declared b) (owned b) s
+  sound-declared n s = names-there n ∙ (and_parts (definitions_declared b) (owned b) s).0
 
   pub sound-owned : definitions_sound b ≡ true → owned b ≡ true
   unfolding definitions_sound
-  sound-owned s = and_second (definitions_declared b) (owned b) s
+  sound-owned s = (and_parts (definitions_declared b) (owned b) s).1
 
 -- ---- what the conditions ask
 

@@ -1,3 +1,5 @@
+pub mod Answered
+pub mod Compiled
 pub mod Compiling
 pub mod Conditions
 pub mod Prepared

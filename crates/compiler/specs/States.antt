@@ -1,6 +1,6 @@
 -- A book that is spelled right (2), within the limits (3) and declared (4), in the arrays from which its states are worked out; the arrays that are
 -- filled; and the first of 7, 8 and 9 that applies. Assumes nothing.
-use Rattle.std.specs.Prelude.{ℕ, ◌+◌, ◌*◌, ◌<◌, ◌≤◌, ◌≡◌, Bool, true, false, List, length, get_or, replicate}
+use Rattle.std.specs.Prelude.{ℕ, ◌+◌, ◌*◌, ◌≤◌, ◌≡◌, Bool, true, false, List, length, replicate}
 use Rattle.std.proofs.Common.{sym, ap, ◌∙◌, arith}
 use Rattle.std.proofs.lemmas.List.{length-replicate}
 use Rattle.text.proofs.Positional.{by_less}
@@ -22,9 +22,9 @@ use Rattle.automaton.specs.KernelRules.{RuledIn}
 use Rattle.items.specs.GrammarIn.{GrammarIn}
 use Rattle.items.specs.GrammarOf.{GrammarHeld, book-grammar}
 use Rattle.items.specs.RestSets.{RestSetsIn}
-use Rattle.automaton.specs.GoTable.{GoLinesIn, Unset, unset-fewer}
-use Rattle.automaton.specs.StatesIn.{StatesIn, ItemsIn, AutomatonIn}
-use Rattle.automaton.specs.Fronts.{Fronts, FrontsIn, fronts-asked}
+use Rattle.automaton.specs.GoTable.{Unset, unset-fewer}
+use Rattle.automaton.specs.StatesIn.{StatesIn, ItemsIn}
+use Rattle.automaton.specs.Fronts.{Fronts, FrontsIn}
 use Rattle.automaton.specs.ActionTable.{Acted}
 use Rattle.automaton.specs.BookHeld.{state-items-in, ruled-in}
 
@@ -160,21 +160,13 @@ module _ {b : Book} {rules kernels : List ℕ} {states : ℕ} (h : KernelsHeld b
   pub held-grammar : {count : ℕ} → count ≡ length b.rules → GrammarHeld b.rules rules count
   held-grammar e = book-grammar h.limits (small-book h.ordered h.limits h.declared) h.rules_in e
 
-  pub held-moves : {goes : List ℕ} {lines : ℕ} → GoesIn b.goes goes → lines ≡ length b.goes → GoLinesIn b goes lines states
-  held-moves g e = record { limits = h.limits; declared = h.declared; lines_in = g; count_is = e; states_is = h.states_are }
-
   rules-held : GrammarIn b rules
   rules-held = record { limits = h.limits; declared = h.declared; rules_in = h.rules_in }
 
-  module _ {count : ℕ} (e : count ≡ length b.rules) {closures : List ℕ} where
-    pub ask-fronts : ClosuresIn b (sets_of b.rules) closures → (fronts : List ℕ) → states ≤ length fronts
-        → (10 * count ≤ length rules) × (count ≤ 64) × ((P : ℕ) → P < count → get_or rules (10 * P) 0 < 32) × (32 * states ≤ length closures)
-        × (states ≤ length fronts)
-    ask-fronts C fronts l = fronts-asked rules-held C e h.states_are fronts l
-
-    -- what was filled, of this book
-    pub held-fronts : {fronts : List ℕ} → Fronts rules count closures states fronts → FrontsIn b rules closures fronts
-    held-fronts W = rw (e, h.states_are) at W
+  -- what was filled, of this book
+  pub held-fronts : {count : ℕ} {closures fronts : List ℕ} → count ≡ length b.rules → Fronts rules count closures states fronts
+      → FrontsIn b rules closures fronts
+  held-fronts e W = rw (e, h.states_are) at W
 
   module _ {bounds : List ℕ} (T : BoundsIn b.kernels b.states bounds) where
     pub held_items : {count : ℕ} {nullables begins : List ℕ} → count ≡ length b.rules → SuffixesIn b.rules (sets_of b.rules) nullables begins
@@ -187,9 +179,6 @@ module _ {b : Book} {rules kernels : List ℕ} {states : ℕ} (h : KernelsHeld b
     module _ {closures : List ℕ} (C : ClosuresIn b (sets_of b.rules) closures) where
       pub held-closures : ItemsIn b (sets_of b.rules) rules kernels bounds closures
       held-closures = record { states_in = held-states; closures_in = C }
-
-      pub held-automaton : {table : List ℕ} → GoTableIn b table → AutomatonIn b (sets_of b.rules) rules kernels bounds closures table
-      held-automaton G = record { states_in = held-states; closures_in = C; table_in = G }
 
 -- ---- the refusal, by what was asked first
 

@@ -4,6 +4,7 @@ ghost use Rattle.std.specs.Prelude.{◌≡◌, ◌*◌, ◌≤◌, length};
 ghost use Rattle.grammar.specs.Data.Book.{Book};
 ghost use Rattle.grammar.specs.Automaton.FirstSets.{sets_of};
 ghost use Rattle.book.specs.Held.{GoesIn};
+ghost use Rattle.book.specs.Refusals.{answer_of};
 ghost use Rattle.items.specs.Arrays.{BoundsIn, ClosuresIn, GoTableIn};
 ghost use Rattle.items.specs.Closures.{Blank};
 ghost use Rattle.automaton.specs.Fronts.{FrontsIn};
@@ -15,6 +16,7 @@ use automaton::go_rules::go_rules;
 use automaton::go_table::go_table;
 use automaton::kernel_rules::kernel_rules;
 use automaton::lefts::fill_fronts;
+use book::refusal::Refusal;
 use items::closures::fill_closures;
 use items::rests::rests;
 
@@ -69,7 +71,7 @@ fn moves(
     )
 }
 
-// Fills the arrays, up to the first of 7, 8 and 9 that applies; that, or 0.
+// Fills the arrays, up to the first of 7, 8 and 9 that applies.
 pub fn tables(
     rules: &[u32],
     count: u32,
@@ -87,16 +89,16 @@ pub fn tables(
     fronts: &mut [u64],
     table: &mut [u8],
     actions: &mut [u8],
-) -> u32
+) -> Result<(), Refusal>
     requires book_held { (b : Book) × BookHeld b rules.now count kernels.now items goes.now lines terminals states }
     requires tables_room { TablesRoom count states nullables.old begins.old reaches.old bounds.old closures.old fronts.old table.old
         actions.old }
     ensures { (b : Book) → BookHeld b rules.now count kernels.now items goes.now lines terminals states
-        → Tabled b result rules.now nullables.new begins.new reaches.new bounds.new
+        → Tabled b (answer_of result) rules.now nullables.new begins.new reaches.new bounds.new
         closures.new fronts.new table.new actions.new }
 {
     if !kernel_rules(rules, kernels, items, states, bounds) {
-        return 7;
+        return Err(Refusal::Kernel);
     }
     fill_items(
         rules, count, kernels, states, bounds, nullables, begins, reaches, closures,
@@ -105,12 +107,12 @@ pub fn tables(
     if !moves(
         rules, kernels, goes, lines, states, bounds, closures, fronts, table,
     ) {
-        return 8;
+        return Err(Refusal::Go);
     }
     if !fill_actions(
         rules, kernels, bounds, closures, fronts, terminals, states, actions,
     ) {
-        return 9;
+        return Err(Refusal::Conflict);
     }
-    0
+    Ok(())
 }

@@ -1,9 +1,9 @@
 -- Contracts of functions over arrays speak of what the arrays hold, which the code does not know: such a function is asked where something is held,
--- and answers for whatever is held. A loop over the places below a number that asks a test of each is proved by four laws: it starts, turns,
--- stops at the first place that fails, and ends. Assumes nothing.
-use Rattle.std.specs.Prelude.{ℕ, zero, suc, ◌+◌, ◌≤◌, ◌<◌, ◌≡◌, Bool, true, false, ◌&&◌, List, [], ◌∷◌, eqb, length, get_or}
-use Rattle.std.proofs.Common.{zero-le, arith, add-one, sym, ap, ap₂, ◌∙◌, eqb-true}
+-- and answers for whatever is held. With laws of tests by parts. Assumes nothing.
+use Rattle.std.specs.Prelude.{ℕ, zero, suc, ◌+◌, ◌<◌, ◌≡◌, Bool, true, false, ◌&&◌, List, [], ◌∷◌, eqb, length, get_or}
+use Rattle.std.proofs.Common.{arith, sym, ap, ap₂, ◌∙◌, eqb-true}
 use Rattle.std.proofs.Math.Path.{refl}
+use Rattle.std.proofs.Math.Bool.{and_assoc, and-true, and-false}
 use Rattle.std.proofs.lemmas.Bool.{eqb-false}
 use Rattle.grammar.specs.Conditions.Decides.{Decides, all, all_below, all_below-decides}
 
@@ -18,10 +18,6 @@ pub record Answers {A : Type 0} (H : A → Type 0) (test : A → Bool) (r : Bool
 pub answers-same : {A : Type 0} {H : A → Type 0} {s t : A → Bool} {r : Bool} → ((x : A) → H x → s x ≡ t x) → Answers H s r → Answers H t r
 answers-same e a = record { for_all = λ x h. a.for_all x h ∙ e x h }
 
--- what answers for more answers for less
-pub answers-where : {A : Type 0} {H H' : A → Type 0} {t : A → Bool} {r : Bool} → ((x : A) → H x → H' x) → Answers H' t r → Answers H t r
-answers-where f a = record { for_all = λ x h. a.for_all x (f x h) }
-
 -- a test decides that it holds
 pub holds : (t : Bool) → Decides t (t ≡ true)
 holds t = record { sound = λ e. e; complete = λ e. e }
@@ -31,26 +27,6 @@ holds t = record { sound = λ e. e; complete = λ e. e }
 pub then-and : (s t : Bool) → elim s [ true ↦ t | false ↦ false ] ≡ s && t
 then-and true t = refl
 then-and false t = refl
-
-pub and_assoc : (r s t : Bool) → (r && s) && t ≡ r && (s && t)
-and_assoc true s t = refl
-and_assoc false s t = refl
-
-pub and-true : (t : Bool) → t && true ≡ t
-and-true true = refl
-and-true false = refl
-
-pub and-false : (t : Bool) → t && false ≡ false
-and-false true = refl
-and-false false = refl
-
-pub and_first : (s t : Bool) → s && t ≡ true → s ≡ true
-and_first true t e = refl
-and_first false t e = e
-
-pub and_second : (s t : Bool) → s && t ≡ true → t ≡ true
-and_second true t e = e
-and_second false t e = absurd (let z : ◌≡◌ {A = ℕ} 0 1 = cc in omega arith)
 
 -- pair by pair
 pub and-mixed : (p q r s : Bool) → (p && q) && (r && s) ≡ (p && r) && (q && s)
@@ -65,11 +41,12 @@ pub and-where : (s : Bool) {t u : Bool} → (s ≡ true → t ≡ u) → s && t 
 and-where true f = f refl
 and-where false f = refl
 
-pub and-asked : {d p q r : Bool} → d ≡ p → d ≡ true → r ≡ q → r ≡ p && q
+-- what `a && b` answers, by its first part
+pub and-asked : {a b p q : Bool} → a ≡ p → a ≡ true → b ≡ q → b ≡ p && q
 and-asked {q = q} e t f = f ∙ ap (λ (s : Bool). s && q) (sym t ∙ e)
 
-pub and-refused : {d p : Bool} (q : Bool) → d ≡ p → d ≡ false → false ≡ p && q
-and-refused q e t = ap (λ (s : Bool). s && q) (sym t ∙ e)
+pub and-stop : {a p : Bool} (q : Bool) → a ≡ p → a ≡ false → a ≡ p && q
+and-stop q e t = t ∙ ap (λ (s : Bool). s && q) (sym t ∙ e)
 
 below_more : (f : ℕ → Bool) (n : ℕ) → all_below (suc n) f ≡ all_below n f && f n
 unfolding all_below
@@ -119,7 +96,7 @@ pub below_all : (f : ℕ → Bool) (n : ℕ) → ((i : ℕ) → i < n → f i �
 below_all f n h = (all_below-decides {f = f} (λ k. holds (f k)) n).complete h
 
 -- a test that fails of one number
-fails : (f : ℕ → Bool) (n i : ℕ) → i < n → f i ≡ false → all_below n f ≡ false
+pub fails : (f : ℕ → Bool) (n i : ℕ) → i < n → f i ≡ false → all_below n f ≡ false
 unfolding all_below
 fails f zero i h e = absurd (omega arith)
 fails f (suc n) i h e = below_more f n ∙ go (λ l. fails f n i l e) (eqb i n) refl
@@ -127,41 +104,3 @@ fails f (suc n) i h e = below_more f n ∙ go (λ l. fails f n i l e) (eqb i n) 
     go : (i < n → all_below n f ≡ false) → (t : Bool) → eqb i n ≡ t → all_below n f && f n ≡ false
     go further true q = ap (λ (t : Bool). all_below n f && t) (ap f (sym (eqb-true i n q)) ∙ e) ∙ and-false (all_below n f)
     go further false q = let d : i ≡ n → ⊥ = eqb-false i n q in ap (λ (t : Bool). t && f n) (further (omega arith))
-
--- A loop that asks a test of each place below n, and has come to i
-
-pub record Passing {A : Type 0} (H : A → Type 0) (f : A → ℕ → Bool) (n i : ℕ) : Type 0 where
-  pub within : i ≤ n
-  pub so_far : (x : A) → H x → all_below i (f x) ≡ true
-
-module _ {A : Type 0} {H : A → Type 0} {f : A → ℕ → Bool} {n : ℕ} where
-  pub passing-start : Passing H f n 0
-  unfolding all_below
-  passing-start = record { within = zero-le; so_far = λ x h. refl }
-
-  module _ {i : ℕ} (p : Passing H f n i) where
-    pub passing-turn : {r : Bool} → i < n → Answers H (λ x. f x i) r → r ≡ true → Passing H f n (i + 1)
-    unfolding all_below
-    passing-turn h a e = record { within = omega arith; so_far = λ x k. rw (add-one i, p.so_far x k) (sym (a.for_all x k) ∙ e) }
-
-    pub passing-stop : {r : Bool} → i < n → Answers H (λ x. f x i) r → r ≡ false → Answers H (λ x. all_below n (f x)) false
-    passing-stop h a e = record { for_all = λ x k. sym (fails (f x) n i h (sym (a.for_all x k) ∙ e)) }
-
-    pub passing-end : n ≤ i → Answers H (λ x. all_below n (f x)) true
-    passing-end h = let e : i ≡ n = omega (arith, p.within) in
-        record { for_all = λ x k. sym (rw e at (p.so_far x k)) }
-
--- the same loop over the places of a list
-module _ {A B : Type 0} {H : A → Type 0} {n : ℕ} (d : B) (list : A → List B) (g : A → B → Bool) (count : (x : A) → H x → n ≡ length (list x)) where
-  at_places : {r : Bool} → Answers H (λ x. all_below n (λ i. g x (get_or (list x) i d))) r → Answers H (λ x. all (g x) (list x)) r
-  at_places a =
-      record {
-        for_all = λ x h. a.for_all x h ∙ (ap (λ (k : ℕ). all_below k (λ i. g x (get_or (list x) i d))) (count x h) ∙ sym (all-below (g x) d (list x)));
-      }
-
-  module _ {i : ℕ} (p : Passing H (λ x i. g x (get_or (list x) i d)) n i) where
-    pub all-stop : {r : Bool} → i < n → Answers H (λ x. g x (get_or (list x) i d)) r → r ≡ false → Answers H (λ x. all (g x) (list x)) false
-    all-stop h a e = at_places (passing-stop p h a e)
-
-    pub all_end : n ≤ i → Answers H (λ x. all (g x) (list x)) true
-    all_end h = at_places (passing-end p h)

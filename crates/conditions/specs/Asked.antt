@@ -1,6 +1,6 @@
 -- What functions over a book's arrays are asked: that the numbers and the arrays that they are lent are those of one book.
 -- Assumes nothing.
-use Rattle.std.specs.Prelude.{ℕ, ◌+◌, ◌*◌, ◌≤◌, ◌<◌, ◌≡◌, true, length, get_or}
+use Rattle.std.specs.Prelude.{ℕ, ◌+◌, ◌*◌, ◌≤◌, ◌<◌, ◌≡◌, true, length, get_or, Option, None, Some}
 use mathlib.Core.List.{List, Memᴰ as Mem}
 use Rattle.grammar.specs.Limits.{MAX_INHERITED, MAX_SYNTHESIZED, MAX_RIGHT, MAX_DEFINITIONS, MAX_NODES}
 use Rattle.grammar.specs.Data.Symbol.{Symbol, Rule, right_of}
@@ -12,6 +12,8 @@ use Rattle.grammar.specs.Conditions.Decides.{OneTo}
 use Rattle.grammar.specs.Format.Ordered.{Ascending, kernel_key, Ordered}
 use Rattle.book.specs.declared.Book.{Book}
 use Rattle.book.specs.Held.{OwnersIn, RulesIn, DefinitionIn, DefinitionsIn, KernelsIn, GoesIn, kept}
+use Rattle.conditions.specs.declared.place.Place.{Place}
+use Rattle.conditions.specs.declared.place.Place.TheVariants.{Own, At, Val}
 
 -- the numbers are the book's
 pub record Counted (numbers : Book) (b : Lines) : Type 0 where
@@ -139,14 +141,17 @@ pub record DeclaredIn (inherited synthesized rules : List ℕ) (b : Lines) : Typ
   pub inherited-in : OwnersIn MAX_INHERITED b.inherited_owners inherited
   pub synthesized-in : OwnersIn MAX_SYNTHESIZED b.synthesized_owners synthesized
 
--- the words of a node of rule p name what is there
-pub record NodeThere (inherited synthesized rules : List ℕ) (p kind first second : ℕ) : Type 0 where
+-- what a node reads is there
+abbrev pub InReach : List ℕ → List ℕ → Option Place → Type 0
+InReach inherited synthesized None = Unit {0}
+InReach inherited synthesized (Some (Own K)) = K < length inherited
+InReach inherited synthesized (Some (At J K)) = (J ≤ MAX_RIGHT) × (K < length synthesized) × (get_or synthesized K 0 < 32)
+InReach inherited synthesized (Some (Val J)) = J ≤ MAX_RIGHT
+
+-- in rule p
+pub record PlaceThere (inherited synthesized rules : List ℕ) (p : ℕ) (place : Option Place) : Type 0 where
   pub rule_there : 10 * p + 10 ≤ length rules
-  pub own_there : kind ≡ 1 → first < length inherited
-  pub at_right : kind ≡ 2 → first ≤ MAX_RIGHT
-  pub val_right : kind ≡ 3 → first ≤ MAX_RIGHT
-  pub at_there : kind ≡ 2 → second < length synthesized
-  pub at_owner : kind ≡ 2 → get_or synthesized second 0 < 32
+  pub in_reach : InReach inherited synthesized place
 
 -- the definition in line i, declared or not
 pub record LineThere (numbers : Book) (inherited synthesized rules definitions : List ℕ) (i : ℕ) (x : Entry) : Type 0 where

@@ -1,7 +1,7 @@
 -- What follows from numbers and arrays of one book, for the functions over the lines of one kind.
 -- Assumes nothing.
 use Rattle.std.specs.Prelude.{ℕ, zero, suc, ◌+◌, ◌<◌, ◌≡◌, refl, true, ◌&&◌, List, [], ◌∷◌, eqb, length, get_or, take}
-use Rattle.std.proofs.Common.{sym, ap, ap₂, ◌∙◌, arith, length-take, get_or-take, ext_get_or}
+use Rattle.std.proofs.Common.{ap₂, ◌∙◌, arith, length-take, get_or-take, ext_get_or}
 use Rattle.grammar.specs.Data.Book.{SynthesizedDefinition, Book as Lines}
 use Rattle.grammar.specs.Data.Symbol.{Symbol, terminal, nonterminal, left_of, right_of}
 use Rattle.grammar.specs.Conditions.Decides.{Decides, and-decides, one_to-decides, all-decides, all_below}
@@ -36,7 +36,8 @@ use Rattle.conditions.specs.Asked.{
   NamedBook,
   OwnedBook,
 }
-use Rattle.conditions.specs.Answers.{holds, and_first}
+use Rattle.std.proofs.lemmas.Bool.{and_parts}
+use Rattle.conditions.specs.Answers.{holds}
 use Rattle.conditions.specs.DeclaredTests.{left_declared, grammar_declared, names_declared}
 
 -- where there is room, what is kept is all
@@ -65,9 +66,6 @@ pub owners-are : {room n : ℕ} {owners array : List ℕ} → OwnersIn room owne
 owners-are {room} {n} {owners} {array} h e =
     let size : length (take n array) ≡ length owners = length-take n array ∙ omega (arith, h.long, h.fits) in
     ext_get_or 0 (take n array) owners size λ i l. get_or-take n array i 0 (omega arith) ∙ (h.owner_is i (omega arith) ∙ within owners i 32 0 (omega arith))
-
-pub owners-part : {room n : ℕ} {owners array : List ℕ} → OwnersIn room owners array → n ≡ length owners → n ≡ length (take n array)
-owners-part h e = e ∙ sym (ap length (owners-are h e))
 
 module _ {numbers : Book} {inherited synthesized rules definitions kernels : List ℕ} {b : Lines}
     (h : Stored numbers inherited synthesized rules definitions kernels b) where
@@ -216,7 +214,7 @@ module _ {numbers : Book} {inherited synthesized rules definitions kernels goes 
       record {
         counted = h.stored.counted;
         declared_in = record {
-          symbols_in = symbols-named (within-limits h) h.stored.rules_in (and_first (grammar_declared b) _ n);
+          symbols_in = symbols-named (within-limits h) h.stored.rules_in (and_parts (grammar_declared b) _ n).0;
           inherited-in = h.stored.inherited-in;
           synthesized-in = h.stored.synthesized-in;
         };

@@ -9,10 +9,9 @@ use Rattle.std.proofs.Math.Dec.{eqb, ltb, leb}
 use Rattle.std.proofs.Math.ListN.{length, get_or}
 use borrow.Author.Tests.{ltb-true, lt-ltb, le-ltb, le-leb, lt-leb, leb-true, ne_eqb}
 use Rattle.grammar.specs.Conditions.Decides.{OneTo, one_to, one_to-decides, all, all_below}
-use Rattle.grammar.specs.Limits.{MAX_RULES}
 use Rattle.grammar.specs.Data.Symbol.{Symbol, terminal, nonterminal, rule_at, left_of, right_of}
 use Rattle.grammar.specs.Data.Postfix.{Step, push, load, operate, select, postfix, length-postfix}
-use Rattle.grammar.specs.Data.Term.{add, sub, min, max, nodes}
+use Rattle.grammar.specs.Data.Term.{nodes}
 use Rattle.grammar.specs.Data.Book.{Place, own, at, val, InheritedDefinition, SynthesizedDefinition, Book as Lines}
 use Rattle.grammar.specs.Conditions.Meaning.{WithinLimits}
 use Rattle.grammar.specs.Conditions.Tests.{
@@ -33,12 +32,15 @@ use Rattle.grammar.specs.Format.Ordered.{Ascends, ascends-[], ascends-∷, looka
 use Rattle.grammar.specs.Conditions.MeaningLaws.{right-length}
 use Rattle.book.specs.declared.Book.{Book}
 use Rattle.book.specs.Layout.{symbol_code, last_of}
-use Rattle.book.specs.Held.{synthesized_at, node_at, kernel_at, go_at, node_kind, node_first, node_second, RulesIn}
+use Rattle.book.specs.Held.{synthesized_at, node_at, kernel_at, go_at, RulesIn}
 use Rattle.conditions.specs.Asked.{Counted, RuleOf, Entry, LineIs, EntryOf, LeavesOf, KernelOf, GoesOf}
-use Rattle.conditions.specs.AskedLaws.{synthesized_entry}
+use Rattle.conditions.specs.AskedLaws.{inherited_entry, synthesized_entry}
 use Rattle.conditions.specs.Runs.{lead, before-lead}
-use Rattle.conditions.specs.Answers.{then-and, and_assoc, and-true, and-false, and_first, all-below, below-and, below_at}
-use Rattle.conditions.specs.Leaves.{of_leaf}
+use Rattle.std.proofs.Math.Bool.{and_assoc, and-true, and-false}
+use Rattle.std.proofs.lemmas.Bool.{and_parts}
+use Rattle.conditions.specs.Answers.{then-and, all-below, below-same, below-and, below_at}
+use Rattle.conditions.specs.Leaves.{of_leaf, leaves-nodes}
+use Rattle.conditions.specs.Places.{place_in, place_of_step, place-in}
 use Rattle.conditions.specs.SymbolWords.{terminal-code, nonterminal-code, right-code, go-code}
 use Rattle.conditions.specs.DeclaredTests.{
   right_code,
@@ -65,35 +67,14 @@ use Rattle.conditions.specs.DeclaredTests.{
 -- Nodes
 
 pub place-code : {numbers : Book} {b : Lines} → Counted numbers b → (P size : ℕ) → size ≡ length (right_of b.rules P) → (s : Step Place)
-    → place_code numbers size (node_kind s) (node_first s) (node_second s) ≡ of_leaf (declared_place b P) s
-unfolding place_code node_kind node_first node_second of_leaf declared_place is_position
+    → place_code numbers size (place_of_step s) ≡ of_leaf (declared_place b P) s
+unfolding place_code place_of_step of_leaf declared_place is_position
 place-code c P size e (push n) = refl
 place-code c P size e (load (own K)) = ap (ltb K) c.inherited_are
 place-code c P size e (load (at J K)) = ap₂ ◌&&◌ (ap (λ (n : ℕ). one_to n J) e) (ap (ltb K) c.synthesized_are)
 place-code c P size e (load (val J)) = ap (λ (n : ℕ). one_to n J) e
-place-code c P size e (operate add) = refl
-place-code c P size e (operate sub) = refl
-place-code c P size e (operate min) = refl
-place-code c P size e (operate max) = refl
+place-code c P size e (operate o) = refl
 place-code c P size e select = refl
-
--- by the kind of the node
-module _ (numbers : Book) (size kind first second : ℕ) where
-  pub place-own : kind ≡ 1 → ltb first numbers.inherited ≡ place_code numbers size kind first second
-  unfolding place_code
-  place-own e = rw e
-
-  pub place_at : kind ≡ 2 → one_to size first && ltb second numbers.synthesized ≡ place_code numbers size kind first second
-  unfolding place_code
-  place_at e = rw e
-
-  pub place-val : kind ≡ 3 → one_to size first ≡ place_code numbers size kind first second
-  unfolding place_code
-  place-val e = rw e
-
-  pub place_none : (kind ≡ 1 → ⊥) → (kind ≡ 2 → ⊥) → (kind ≡ 3 → ⊥) → true ≡ place_code numbers size kind first second
-  unfolding place_code
-  place_none e f g = rw (ne_eqb kind 1 e, place_code) (rw (ne_eqb kind 2 f) (rw (ne_eqb kind 3 g)))
 
 -- Lookaheads: the last of those that ascend is the largest
 
@@ -134,6 +115,14 @@ right-symbol {numbers} {rules} {b} {P} h D l =
     ap (right_code numbers) (g.rules_in.symbol_is P D h.rule_there l (omega (arith, right-length g.within P)))
     ∙ right-code g.counted g.within (get_or (right_of b.rules P) D (terminal 0))
 
+-- all of them
+pub right-asked : {numbers : Book} {rules : List ℕ} {b : Lines} {P : ℕ} → RuleOf numbers rules P b
+    → all_below (get_or rules (10 * P + 1) 0) (λ D. right_code numbers (get_or rules (10 * P + 2 + D) 0)) ≡ right_declared P b
+unfolding right_declared
+right-asked {numbers} {rules} {b} {P} h =
+    ap (λ (n : ℕ). all_below n (λ D. right_code numbers (get_or rules (10 * P + 2 + D) 0))) h.size_is
+    ∙ below-same (length (right_of b.rules P)) (right-symbol h) ∙ sym (all-below (right_symbol b) (terminal 0) (right_of b.rules P))
+
 -- kernel line i
 module _ {numbers : Book} {rules kernels : List ℕ} {i : ℕ} {b : Lines} (h : KernelOf numbers rules kernels i b) where
   pub kernel-asked : get_or kernels (5 * i + 1) 0 < numbers.rules
@@ -165,30 +154,44 @@ module _ {numbers : Book} {rules kernels : List ℕ} {i : ℕ} {b : Lines} (h : 
       let past : length b.rules ≤ P = omega (arith, g.rules_of.counted.rules_are, g.kernels-in.rule_is i h.kernel_there) in
       rw (le-ltb P (length b.rules) past, and-false)
 
--- go line i
-pub go_asked : {numbers : Book} {goes : List ℕ} {b : Lines} (i : ℕ) {known : Bool} → GoesOf numbers goes b → i < length b.goes
-    → known ≡ go_code numbers (get_or goes (3 * i + 1) 0)
-    → ltb (get_or goes (3 * i) 0) numbers.states && known && ltb (get_or goes (3 * i + 2) 0) numbers.states ≡ declared_go b (go_at b.goes i)
-unfolding declared_go
-go_asked {numbers} {goes} {b} i h there e =
-    ap₂ ◌&&◌ (ap₂ ◌&&◌ (ap₂ ltb (h.goes_in.state_is i there) h.counted.states_are)
-    (e ∙ (ap (go_code numbers) (h.goes_in.symbol_is i there) ∙ go-code h.counted h.within (go_at b.goes i).symbol)))
-    (ap₂ ltb (h.goes_in.target_is i there) h.counted.states_are)
+-- all go lines
+pub goes_asked : {numbers : Book} {goes : List ℕ} {b : Lines} → GoesOf numbers goes b
+    → all_below numbers.goes (λ i. (ltb (get_or goes (3 * i) 0) numbers.states && go_code numbers (get_or goes (3 * i + 1) 0))
+    && ltb (get_or goes (3 * i + 2) 0) numbers.states) ≡ goes_declared b
+unfolding goes_declared declared_go
+goes_asked {numbers} {goes} {b} h =
+    let c = h.counted in
+    ap (λ (n : ℕ). all_below n (λ i. (ltb (get_or goes (3 * i) 0) numbers.states && go_code numbers (get_or goes (3 * i + 1) 0))
+    && ltb (get_or goes (3 * i + 2) 0) numbers.states)) c.goes_are
+    ∙ below-same (length b.goes) (λ i l.
+    ap₂ ◌&&◌ (ap₂ ◌&&◌ (ap₂ ltb (h.goes_in.state_is i l) c.states_are)
+    (ap (go_code numbers) (h.goes_in.symbol_is i l) ∙ go-code c h.within (go_at b.goes i).symbol))
+    (ap₂ ltb (h.goes_in.target_is i l) c.states_are))
+    ∙ sym (all-below (declared_go b) _ b.goes)
 
 -- node j of the definition in line i
 pub node-asked : {numbers : Book} {definitions : List ℕ} {i size : ℕ} {x : Entry} → LeavesOf numbers definitions i size x → (j : ℕ)
     → j < nodes x.line.expression
-    → place_code numbers size (get_or definitions (49 * i + 4 + 3 * j) 0) (get_or definitions (49 * i + 4 + 3 * j + 1) 0)
-    (get_or definitions (49 * i + 4 + 3 * j + 2) 0)
-    ≡ of_leaf (declared_place x.book x.line.rule) (node_at x.line.expression j)
+    → place_code numbers size (place_in definitions (49 * i + 4 + 3 * j)) ≡ of_leaf (declared_place x.book x.line.rule) (node_at x.line.expression j)
 node-asked {numbers} {definitions} {i} {size} {x} h j l =
-    let n = h.line_is.line_in.node_is j l (omega (arith, h.line_is.few_nodes)) in
-    rw (n.kind_is, n.first_is, n.second_is) (place-code h.counted x.line.rule size h.size_is (node_at x.line.expression j))
+    rw (place-in (h.line_is.line_in.node_is j l (omega (arith, h.line_is.few_nodes))))
+    (place-code h.counted x.line.rule size h.size_is (node_at x.line.expression j))
 
 -- the number of nodes in line i
 pub node-count : {definitions : List ℕ} {i : ℕ} {d : InheritedDefinition} → LineIs definitions i d → get_or definitions (49 * i + 3) 0
     ≡ length (postfix d.expression)
 node-count {d = d} h = h.line_in.nodes_is ∙ sym (length-postfix d.expression)
+
+-- its nodes, one after the other
+pub leaves-asked : {numbers : Book} {definitions : List ℕ} {i size : ℕ} {x : Entry} → LeavesOf numbers definitions i size x
+    → all_below (get_or definitions (49 * i + 3) 0) (λ j. place_code numbers size (place_in definitions (49 * i + 4 + 3 * j))) ≡ leaves_declared x
+unfolding leaves_declared
+leaves-asked {numbers} {definitions} {i} {size} {x} h =
+    let e = x.line.expression in
+    let f = of_leaf (declared_place x.book x.line.rule) in
+    ap (λ (n : ℕ). all_below n (λ j. place_code numbers size (place_in definitions (49 * i + 4 + 3 * j)))) (node-count h.line_is)
+    ∙ below-same (length (postfix e)) (λ j l. node-asked h j (omega (arith, length-postfix e)))
+    ∙ sym (leaves-nodes (declared_place x.book x.line.rule) e ∙ all-below f select (postfix e))
 
 -- the definition in line i
 module _ {numbers : Book} {rules definitions : List ℕ} {i : ℕ} {x : Entry} (h : EntryOf numbers rules definitions i x) where
@@ -202,31 +205,26 @@ module _ {numbers : Book} {rules definitions : List ℕ} {i : ℕ} {x : Entry} (
   pub leaves_of : get_or definitions (49 * i) 0 < numbers.rules → LeavesOf numbers definitions i (get_or rules (10 * get_or definitions (49 * i) 0 + 1) 0) x
   leaves_of l = record { counted = h.rules_of.counted; line_is = h.line_is; size_is = rule-size (rule_there l) }
 
-  pub definition-asked : {r : Bool} (attributes : ℕ) → get_or definitions (49 * i) 0 < numbers.rules → r ≡ leaves_declared x
-      → ltb (get_or definitions (49 * i + 2) 0) attributes && r ≡ definition_declared attributes x
+  pub definition-asked : (attributes : ℕ) → get_or definitions (49 * i) 0 < numbers.rules
+      → ltb (get_or definitions (49 * i + 2) 0) attributes && leaves_declared x ≡ definition_declared attributes x
   unfolding definition_declared
-  definition-asked attributes l e =
-      rw (lt-ltb x.line.rule (length x.book.rules) (rule_there l))
-      (ap₂ ◌&&◌ (ap (λ (K : ℕ). ltb K attributes) h.line_is.line_in.attribute_is) e)
+  definition-asked attributes l = rw (lt-ltb x.line.rule (length x.book.rules) (rule_there l), h.line_is.line_in.attribute_is)
 
-  pub definition-refused : (attributes : ℕ) → numbers.rules ≤ get_or definitions (49 * i) 0 → false ≡ definition_declared attributes x
+  pub rule-refused : (attributes : ℕ) → numbers.rules ≤ get_or definitions (49 * i) 0 → false ≡ definition_declared attributes x
   unfolding definition_declared
-  definition-refused attributes l =
+  rule-refused attributes l =
       rw (le-ltb x.line.rule (length x.book.rules) (omega (arith, h.line_is.line_in.rule_is, h.rules_of.counted.rules_are)))
 
   -- such a definition has a rule
   pub declared-rule : (attributes : ℕ) → definition_declared attributes x ≡ true → x.line.rule < length x.book.rules
   unfolding definition_declared
-  declared-rule attributes e = ltb-true x.line.rule (length x.book.rules) (and_first _ _ e)
-
-  pub declared-word : (attributes : ℕ) → definition_declared attributes x ≡ true → get_or definitions (49 * i) 0 < MAX_RULES
-  declared-word attributes e = omega (arith, declared-rule attributes e, h.line_is.line_in.rule_is, h.rules_of.rules_in.fits)
+  declared-rule attributes e = ltb-true x.line.rule (length x.book.rules) (and_parts _ _ e).0
 
   pub declared-place : (attributes : ℕ) → definition_declared attributes x ≡ true → 10 * get_or definitions (49 * i) 0 + 10 ≤ length rules
   declared-place attributes e = omega (arith, declared-rule attributes e, h.line_is.line_in.rule_is, h.rules_of.rules_in.long)
 
   -- the position last
-  inherited-parts : inherited_line_declared x
+  pub inherited-parts : inherited_line_declared x
       ≡ definition_declared numbers.inherited x && is_position x.book x.line.rule x.line.position
   unfolding inherited_line_declared declared_inherited definition_declared leaves_declared
   inherited-parts =
@@ -238,15 +236,12 @@ module _ {numbers : Book} {rules definitions : List ℕ} {i : ℕ} {x : Entry} (
       moved true false r s = sym (and-false (r && s))
       moved false q r s = refl
 
-  pub inherited-asked : definition_declared numbers.inherited x ≡ true
-      → one_to (get_or rules (10 * get_or definitions (49 * i) 0 + 1) 0) (get_or definitions (49 * i + 1) 0) ≡ inherited_line_declared x
+  pub position-asked : definition_declared numbers.inherited x ≡ true
+      → one_to (get_or rules (10 * get_or definitions (49 * i) 0 + 1) 0) (get_or definitions (49 * i + 1) 0) ≡ is_position x.book x.line.rule x.line.position
   unfolding is_position
-  inherited-asked e = ap₂ one_to (rule-size (declared-rule numbers.inherited e)) h.line_is.line_in.position_is ∙ sym (inherited-parts ∙ rw e)
+  position-asked e = ap₂ one_to (rule-size (declared-rule numbers.inherited e)) h.line_is.line_in.position_is
 
-  pub inherited-refused : definition_declared numbers.inherited x ≡ false → false ≡ inherited_line_declared x
-  inherited-refused e = sym (inherited-parts ∙ rw e)
-
-pub synthesized-parts : {numbers : Book} {b : Lines} (i : ℕ) → Counted numbers b
+synthesized-parts : {numbers : Book} {b : Lines} (i : ℕ) → Counted numbers b
     → definition_declared numbers.synthesized (synthesized_entry b i) ≡ declared_synthesized b (synthesized_at b.synthesized_definitions i)
 unfolding definition_declared declared_synthesized leaves_declared
 synthesized-parts {b = b} i c =
@@ -260,26 +255,21 @@ left_other : (P : ℕ) (b : Lines) → 0 < P → left_declared P b ≡ one_to b.
 unfolding left_declared
 left_other P b l = rw (lt-ltb 0 P l, left_declared)
 
-left-first : (P : ℕ) (b : Lines) → P ≤ 0 → left_declared P b ≡ true
+pub left-first : (P : ℕ) (b : Lines) → P ≤ 0 → left_declared P b ≡ true
 unfolding left_declared
 left-first P b l = rw (le-ltb 0 P l, left_declared)
 
 module _ {numbers : Book} {rules : List ℕ} {P : ℕ} {b : Lines} (h : RuleOf numbers rules P b) where
-  pub rule-asked : {r s : Bool} → 0 < P → s ≡ one_to numbers.nonterminals (get_or rules (10 * P) 0) → r ≡ right_declared P b → s && r ≡ rule_declared P b
-  unfolding rule_declared
-  rule-asked l e f =
-      ap₂ ◌&&◌ (e ∙ (ap₂ one_to h.rules_of.counted.nonterminals_are (h.rules_of.rules_in.left_is P h.rule_there) ∙ sym (left_other P b l))) f
-
-  pub rule-first : {r : Bool} → P ≤ 0 → r ≡ right_declared P b → r ≡ rule_declared P b
-  unfolding rule_declared
-  rule-first l e = e ∙ sym (ap (λ (t : Bool). t && right_declared P b) (left-first P b l))
+  pub left-asked : {s : Bool} → (P ≡ 0 → ⊥) → s ≡ one_to numbers.nonterminals (get_or rules (10 * P) 0) → s ≡ left_declared P b
+  left-asked n e =
+      e ∙ (ap₂ one_to h.rules_of.counted.nonterminals_are (h.rules_of.rules_in.left_is P h.rule_there) ∙ sym (left_other P b (omega arith)))
 
 -- Rule 0, where its right symbols are declared
 
 module _ {b : Lines} (w : WithinLimits b) where
   first-declared : (X : Symbol) (β : List Symbol) → all (right_symbol b) (X ∷ β) ≡ true → right_symbol b X ≡ true
   unfolding all
-  first-declared X β d = and_first (right_symbol b X) (all (right_symbol b) β) (sym (then-and (right_symbol b X) (all (right_symbol b) β)) ∙ d)
+  first-declared X β d = (and_parts (right_symbol b X) (all (right_symbol b) β) (sym (then-and (right_symbol b X) (all (right_symbol b) β)) ∙ d)).0
 
   one_code : (β : List Symbol) (n code : ℕ) → n ≡ length β → (0 < length β → code ≡ symbol_code (get_or β 0 (terminal 0))) → all (right_symbol b) β ≡ true
       → eqb n 1 && leb 32 code ≡ one_nonterminal β
@@ -322,6 +312,29 @@ start-rules {rules} {b} w h =
     ∙ ap (λ (t : Bool). all_below (length b.rules) (λ P. left_declared P b) && t) (sym rights))
     ∙ and-when (all_below (length b.rules) (λ P. left_declared P b)) (all (λ r. all (right_symbol b) r.right) b.rules)
     (λ e. start-code w h (below_at (λ P. right_declared P b) (length b.rules) 0 (sym rights ∙ e) w.rules_limit.low))
+
+-- the lines of each kind make what is asked of them all
+module _ {numbers : Book} {b : Lines} (c : Counted numbers b) where
+  pub rules-lines : all_below numbers.rules (λ P. rule_declared P b) ≡ rules_declared b
+  unfolding rules_declared
+  rules-lines = ap (λ (n : ℕ). all_below n (λ P. rule_declared P b)) c.rules_are
+
+  pub kernels-lines : all_below numbers.kernels (λ i. kernel_declared i b) ≡ kernels_declared b
+  unfolding kernels_declared kernel_declared
+  kernels-lines = ap (λ (n : ℕ). all_below n (λ i. kernel_declared i b)) c.kernels_are ∙ sym (all-below (declared_kernel b) _ b.kernels)
+
+  pub inherited-lines : all_below numbers.inherited_definitions (λ i. inherited_line_declared (inherited_entry b i)) ≡ inherited_declared b
+  unfolding inherited_declared inherited_line_declared
+  inherited-lines =
+      ap (λ (n : ℕ). all_below n (λ i. inherited_line_declared (inherited_entry b i))) c.inherited_definitions_are
+      ∙ sym (all-below (declared_inherited b) _ b.inherited_definitions)
+
+  pub synthesized-lines : all_below numbers.synthesized_definitions (λ i. definition_declared numbers.synthesized (synthesized_entry b i)) ≡ synthesized_declared b
+  unfolding synthesized_declared
+  synthesized-lines =
+      ap (λ (n : ℕ). all_below n (λ i. definition_declared numbers.synthesized (synthesized_entry b i))) c.synthesized_definitions_are
+      ∙ below-same (length b.synthesized_definitions) (λ i l. synthesized-parts i c)
+      ∙ sym (all-below (declared_synthesized b) _ b.synthesized_definitions)
 
 pub declared-parts : (b : Lines) → names_declared b && definitions_declared b ≡ declared b
 unfolding names_declared definitions_declared grammar_declared left_declared inherited_declared synthesized_declared kernels_declared goes_declared declared

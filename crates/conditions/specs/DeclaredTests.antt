@@ -1,6 +1,6 @@
--- Condition 4 in the parts that code asks one by one: what is asked of the words of a symbol and of a node, then of lines.
+-- Condition 4 in the parts that code asks one by one: what is asked of the word of a symbol and of a node, then of lines.
 -- Assumes nothing.
-use Rattle.std.specs.Prelude.{ℕ, ◌-◌, Bool, true, false, ◌&&◌, List, leb, ltb, eqb, length, get_or}
+use Rattle.std.specs.Prelude.{ℕ, ◌-◌, Bool, true, false, ◌&&◌, List, leb, ltb, eqb, length, get_or, Option, None, Some}
 use Rattle.grammar.specs.Conditions.Decides.{one_to, all, all_below}
 use Rattle.grammar.specs.Data.Symbol.{left_of, right_of}
 use Rattle.grammar.specs.Data.Book.{Book as Lines}
@@ -16,6 +16,8 @@ use Rattle.grammar.specs.Conditions.Tests.{
 }
 use Rattle.book.specs.declared.Book.{Book}
 use Rattle.book.specs.Held.{kernel_at}
+use Rattle.conditions.specs.declared.place.Place.{Place}
+use Rattle.conditions.specs.declared.place.Place.TheVariants.{Own, At, Val}
 use Rattle.conditions.specs.Asked.{Entry}
 
 -- a symbol's word: a right symbol, a go line's symbol
@@ -29,18 +31,12 @@ go_code numbers code = elim (ltb code 32) [ true ↦ one_to numbers.terminals co
 unfoldable pub start_code : List ℕ → Bool
 start_code rules = eqb (get_or rules 0 0) 0 && eqb (get_or rules 1 0) 1 && leb 32 (get_or rules 2 0)
 
--- a node's words, in a rule with so many right symbols
-unfoldable pub place_code : Book → ℕ → ℕ → ℕ → ℕ → Bool
-place_code numbers size kind first second =
-    elim (eqb kind 1) [
-      | true ↦ ltb first numbers.inherited
-      | false ↦
-          elim (eqb kind 2) [
-            | true ↦ one_to size first && ltb second numbers.synthesized
-            | false ↦
-                elim (eqb kind 3) [ true ↦ one_to size first | false ↦ true ]
-          ]
-    ]
+-- what a node reads, in a rule with so many right symbols
+unfoldable pub place_code : Book → ℕ → Option Place → Bool
+place_code numbers size None = true
+place_code numbers size (Some (Own K)) = ltb K numbers.inherited
+place_code numbers size (Some (At J K)) = one_to size J && ltb K numbers.synthesized
+place_code numbers size (Some (Val J)) = one_to size J
 
 -- rule P
 unfoldable pub right_declared : ℕ → Lines → Bool

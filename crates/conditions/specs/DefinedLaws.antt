@@ -12,7 +12,8 @@ use Rattle.grammar.specs.Data.Book.{InheritedDefinition, SynthesizedDefinition, 
 use Rattle.grammar.specs.Format.Ordered.{Ordered, inherited_key, synthesized_key}
 use Rattle.grammar.specs.Conditions.Meaning.{Declared, Owned}
 use Rattle.grammar.specs.Conditions.Tests.{is_nonterminal, nonterminal_at, defines_inherited, defines_synthesized, right_defined, left_defined, defined}
-use Rattle.conditions.specs.Answers.{and_first, and_second, below-and}
+use Rattle.std.proofs.lemmas.Bool.{and_parts}
+use Rattle.conditions.specs.Answers.{below-and}
 use Rattle.conditions.specs.Sums.{sum, one, sum_same, Tight, below-tight}
 use Rattle.conditions.specs.Tallies.{tally, tally-all, tally-none, tally-parts, tally-tight, tally-key}
 
@@ -53,17 +54,17 @@ module _ (b : Lines) where
 inherited-key : (P J K : ℕ) (d : InheritedDefinition) → of_attribute P J K d ≡ true → inherited_key d ≡ P ∷ J ∷ K ∷ []
 unfolding inherited_key
 inherited-key P J K d e =
-    let f = and_first (of_position P J d) (eqb d.attribute K) e in
-    let p : d.rule ≡ P = eqb-true d.rule P (and_first (of_rule P d) (eqb d.position J) f) in
-    let j : d.position ≡ J = eqb-true d.position J (and_second (of_rule P d) (eqb d.position J) f) in
-    let k : d.attribute ≡ K = eqb-true d.attribute K (and_second (of_position P J d) (eqb d.attribute K) e) in
+    let f = (and_parts (of_position P J d) (eqb d.attribute K) e).0 in
+    let p : d.rule ≡ P = eqb-true d.rule P (and_parts (of_rule P d) (eqb d.position J) f).0 in
+    let j : d.position ≡ J = eqb-true d.position J (and_parts (of_rule P d) (eqb d.position J) f).1 in
+    let k : d.attribute ≡ K = eqb-true d.attribute K (and_parts (of_position P J d) (eqb d.attribute K) e).1 in
     cc
 
 synthesized-key : (P K : ℕ) (d : SynthesizedDefinition) → of_left_attribute P K d ≡ true → synthesized_key d ≡ P ∷ K ∷ []
 unfolding synthesized_key
 synthesized-key P K d e =
-    let p : d.rule ≡ P = eqb-true d.rule P (and_first (of_left P d) (eqb d.attribute K) e) in
-    let k : d.attribute ≡ K = eqb-true d.attribute K (and_second (of_left P d) (eqb d.attribute K) e) in
+    let p : d.rule ≡ P = eqb-true d.rule P (and_parts (of_left P d) (eqb d.attribute K) e).0 in
+    let k : d.attribute ≡ K = eqb-true d.attribute K (and_parts (of_left P d) (eqb d.attribute K) e).1 in
     cc
 
 -- a test fails where it would make another hold that does not

@@ -7,7 +7,8 @@ use Rattle.grammar.specs.Conditions.Decides.{all}
 use Rattle.grammar.specs.Data.Term.{Term, number, leaf, both, pick}
 use Rattle.grammar.specs.Data.Postfix.{Step, push, load, operate, select, postfix}
 use Rattle.grammar.specs.Conditions.Tests.{all_leaves}
-use Rattle.conditions.specs.Answers.{then-and, and-true, and_assoc}
+use Rattle.std.proofs.Math.Bool.{and-true, and_assoc}
+use Rattle.conditions.specs.Answers.{then-and}
 
 all_append : {B : Type 0} (f : B → Bool) (xs ys : List B) → all f (xs ++ ys) ≡ all f xs && all f ys
 unfolding all

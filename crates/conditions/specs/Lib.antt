@@ -1,6 +1,7 @@
 pub mod Answers
 pub mod Asked
 pub mod AskedLaws
+pub mod Chains
 pub mod DeclaredLaws
 pub mod DeclaredTests
 pub mod DefinedLaws
@@ -11,6 +12,7 @@ pub mod LimitLaws
 pub mod LimitTests
 pub mod Often
 pub mod OwnedLaws
+pub mod Places
 pub mod Runs
 pub mod SoundLines
 pub mod SoundTests

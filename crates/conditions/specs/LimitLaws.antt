@@ -1,10 +1,12 @@
 -- Condition 3: what the loops over lines keep true, that ascending numbers repeat in one run, and that the parts make the whole.
 -- Assumes nothing.
-use Rattle.std.specs.Prelude.{ℕ, zero, suc, ◌+◌, ◌*◌, ◌-◌, ◌≤◌, ◌<◌, ◌≡◌, true, ◌&&◌, not, List, map, eqb, leb, length, get_or, drop}
-use Rattle.std.proofs.Common.{zero-le, sym, ap₂, ◌∙◌, arith, add-one, drop_of_length-le, drop-cons}
+use Rattle.std.specs.Prelude.{ℕ, zero, suc, ◌+◌, ◌*◌, ◌-◌, ◌≤◌, ◌<◌, ◌≡◌, true, ◌&&◌, not, Bool, false, cond, List, map, eqb, leb, length, get_or, refl}
+use Rattle.std.proofs.Common.{sym, ap₂, ◌∙◌, arith}
 use Rattle.std.proofs.Math.Path.{ap}
 use Rattle.std.proofs.lemmas.List.{length-map}
 use Rattle.std.proofs.Math.ListN.{get_or-map}
+use Rattle.std.specs.List.{count_by}
+use Rattle.std.proofs.lemmas.List.Recursion.{is_count_by}
 use Rattle.grammar.specs.Conditions.Decides.{
   Decides,
   decides-same,
@@ -37,40 +39,32 @@ use Rattle.grammar.specs.Limits.{
   MAX_STATE_KERNELS,
   MAX_GOES,
 }
+use Rattle.grammar.specs.Data.Symbol.{Rule, rule_at}
 use Rattle.grammar.specs.Data.Term.{nodes}
 use Rattle.grammar.specs.Data.Book.{InheritedDefinition, SynthesizedDefinition, Kernel, Book as Lines}
 use Rattle.grammar.specs.Format.Ordered.{Ascends, ascends-[], ascends-∷, kernel_key}
-use Rattle.conditions.specs.Runs.{lead, before-lead, count_same, count-other, Sorted, sorted-[], sorted-∷, apart, few-sorted}
+use Rattle.conditions.specs.Runs.{lead, before-lead, Sorted, sorted-[], sorted-∷, apart, few-sorted}
 use Rattle.conditions.specs.Answers.{below-same, below-join, all-below}
-use Rattle.conditions.specs.Asked.{DefinitionLines, KernelLines}
+use Rattle.conditions.specs.Asked.{RuleLines, DefinitionLines, KernelLines}
 use Rattle.book.specs.Held.{HasRoom}
 use Rattle.conditions.specs.LimitTests.{numbers_within, rights_within, nodes_within, states_within, lines_within}
 
--- counting a word from a place on, n times so far
-pub record Counting (words : List ℕ) (from word n i : ℕ) : Type 0 where
-  pub within : i ≤ length words
-  pub small : n ≤ i
-  pub same : n + count word (drop i words) ≡ count word (drop from words)
+-- how often a word stands in a list
+pub counted-by : (word : ℕ) (words : List ℕ) → count_by (λ (w : ℕ). eqb w word) words ≡ count word words
+unfolding count
+counted-by word words = sym (is_count_by (count word) (λ (w : ℕ). eqb w word) refl (λ w ws. go (eqb w word) (count word ws)) words)
+  where
+    go : (t : Bool) (n : ℕ) → elim t [ true ↦ suc n | false ↦ n ] ≡ cond t (1 + n) n
+    go true n = omega arith
+    go false n = refl
 
-pub counting-start : {words : List ℕ} {from word : ℕ} → from ≤ length words → Counting words from word 0 from
-counting-start h = record { within = h; small = zero-le; same = omega arith }
-
-module _ {words : List ℕ} {from word n i : ℕ} (c : Counting words from word n i) where
-  pub counting-met : i < length words → get_or words i 0 ≡ word → Counting words from word (n + 1) (i + 1)
-  counting-met h e =
-      let here : count word (drop i words) ≡ suc (count word (drop (suc i) words)) =
-      ap (count word) (drop-cons words i 0 h) ∙ count_same word (get_or words i 0) (drop (suc i) words) e in
-      record { within = omega arith; small = omega (arith, c.small); same = rw (add-one i) (omega (arith, here, c.same)) }
-
-  pub counting-on : i < length words → (get_or words i 0 ≡ word → ⊥) → Counting words from word n (i + 1)
-  counting-on h e =
-      let here : count word (drop i words) ≡ count word (drop (suc i) words) =
-      ap (count word) (drop-cons words i 0 h) ∙ count-other word (get_or words i 0) (drop (suc i) words) e in
-      record { within = omega arith; small = omega (arith, c.small); same = rw (add-one i) (omega (arith, here, c.same)) }
-
-  pub counting-end : length words ≤ i → n ≡ count word (drop from words)
-  unfolding count
-  counting-end h = let rest : count word (drop i words) ≡ 0 = ap (count word) (drop_of_length-le words h) in omega (arith, rest, c.same)
+-- every rule's number of right symbols
+pub rights-lines : {rules : List ℕ} {n : ℕ} (G : List Rule) → RuleLines rules n G
+    → all_below n (λ k. leb (get_or rules (10 * k + 1) 0) MAX_RIGHT) ≡ rights_within G
+unfolding rights_within rule_at
+rights-lines {rules} {n} G h =
+    ap (λ k. all_below k (λ i. leb (get_or rules (10 * i + 1) 0) MAX_RIGHT)) h.count
+    ∙ (below-same (length G) (λ i l. ap (λ k. leb k MAX_RIGHT) (h.lines.size_is i l)) ∙ sym (all-below (λ r. leb (length r.right) MAX_RIGHT) _ G))
 
 -- every line's number of nodes
 pub nodes-lines : {definitions : List ℕ} {n : ℕ} (b : Lines) → DefinitionLines definitions n b

@@ -7,9 +7,9 @@ use Rattle.std.proofs.Math.Bool.{true, false, ◌&&◌}
 use native.Mathlib.Omega.{arith}
 use Rattle.std.proofs.Math.Dec.{eqb, ltb}
 use borrow.Author.Tests.{lt-ltb, le-ltb}
-use Rattle.grammar.specs.Conditions.Decides.{and-decides, lt-decides, one_to, one_to-decides, all}
+use Rattle.grammar.specs.Conditions.Decides.{and-decides, lt-decides, one_to, one_to-decides, all, all_below}
 use Rattle.grammar.specs.Data.Symbol.{left_of, right_of}
-use Rattle.grammar.specs.Data.Postfix.{Step, select, postfix}
+use Rattle.grammar.specs.Data.Postfix.{Step, select, postfix, length-postfix}
 use Rattle.grammar.specs.Data.Term.{nodes}
 use Rattle.grammar.specs.Data.Book.{Place, Book as Lines, inherited_owner, synthesized_owner}
 use Rattle.grammar.specs.Conditions.Tests.{
@@ -26,34 +26,29 @@ use Rattle.grammar.specs.Conditions.Tests.{
   owned,
 }
 use Rattle.grammar.specs.Conditions.MeaningLaws.{right-length}
-use Rattle.conditions.specs.Answers.{
-  then-and,
-  and-true,
-  and-false,
-  and-mixed,
-  and-where,
-  all-below,
-  below_at,
-  below_all,
-}
+use Rattle.std.proofs.Math.Bool.{and-true, and-false}
+use Rattle.conditions.specs.Answers.{then-and, and-mixed, and-where, below-same, all-below, below_at, below_all}
 use Rattle.book.specs.declared.Book.{Book}
 use Rattle.book.specs.Held.{node_at}
-use Rattle.conditions.specs.Asked.{Entry, NodeThere, LineThere, LeavesThere, InheritedThere, SynthesizedThere, NamedBook}
+use Rattle.conditions.specs.Asked.{Counted, Entry, PlaceThere, LineThere, LeavesThere, InheritedThere, SynthesizedThere, NamedBook}
 use Rattle.conditions.specs.AskedLaws.{inherited_entry, synthesized_entry, inherited-line, synthesized-line}
 use Rattle.conditions.specs.Leaves.{of_leaf, leaves-nodes}
+use Rattle.conditions.specs.Places.{place_in, place_of_step, place-in}
 use Rattle.conditions.specs.DeclaredTests.{place_code, leaves_declared, inherited_declared, synthesized_declared, definitions_declared}
-use Rattle.conditions.specs.DeclaredLaws.{node-asked}
+use Rattle.conditions.specs.DeclaredLaws.{node-asked, node-count}
 use Rattle.conditions.specs.SoundTests.{
   owned_code,
   leaves_owned,
   leaves_sound,
   inherited_line_sound,
   synthesized_line_sound,
+  sound_inherited,
+  sound_synthesized,
   inherited_sound,
   synthesized_sound,
   definitions_sound,
 }
-use Rattle.conditions.specs.OwnedLaws.{nonterminal-word, inherited-owner, node-there, owned-code, before-nine}
+use Rattle.conditions.specs.OwnedLaws.{nonterminal-word, inherited-owner, place-there, owned-code, before-nine}
 
 -- two tests of a list's elements at once
 all-and : {B : Type 0} (f g : B → Bool) (xs : List B) → all (λ x. f x && g x) xs ≡ all f xs && all g xs
@@ -70,10 +65,10 @@ all-at f d xs i e l = below_at (λ i. f (get_or xs i d)) (length xs) i (sym (all
 abbrev owned_node : ℕ → Entry → Step Place → Bool
 owned_node limit x s = of_leaf (owned_place x.book x.line.rule) s && of_leaf (before limit) s
 
-abbrev pub sound_node : ℕ → Entry → Step Place → Bool
+abbrev sound_node : ℕ → Entry → Step Place → Bool
 sound_node limit x s = of_leaf (declared_place x.book x.line.rule) s && owned_node limit x s
 
-pub leaves-sound-nodes : (limit : ℕ) (x : Entry) → all (sound_node limit x) (postfix x.line.expression) ≡ leaves_sound limit x
+leaves-sound-nodes : (limit : ℕ) (x : Entry) → all (sound_node limit x) (postfix x.line.expression) ≡ leaves_sound limit x
 unfolding leaves_sound leaves_declared leaves_owned
 leaves-sound-nodes limit x =
     let e = x.line.expression in
@@ -86,45 +81,45 @@ leaves-sound-nodes limit x =
 -- node j of line i
 module _ {numbers : Book} {inherited synthesized rules definitions : List ℕ} {i size : ℕ} {x : Entry}
     (h : LeavesThere numbers inherited synthesized rules definitions i size x) (j : ℕ) (l : j < nodes x.line.expression) where
-  pub node-in-reach : place_code numbers size (get_or definitions (49 * i + 4 + 3 * j) 0) (get_or definitions (49 * i + 4 + 3 * j + 1) 0)
-      (get_or definitions (49 * i + 4 + 3 * j + 2) 0)
-      ≡ true
-      → NodeThere inherited synthesized rules (get_or definitions (49 * i) 0) (get_or definitions (49 * i + 4 + 3 * j) 0)
-      (get_or definitions (49 * i + 4 + 3 * j + 1) 0) (get_or definitions (49 * i + 4 + 3 * j + 2) 0)
-  node-in-reach e =
-      let g = h.leaves_of.line_is in
-      let n = g.line_in.node_is j l (omega (arith, g.few_nodes)) in
+  node-read : place_in definitions (49 * i + 4 + 3 * j) ≡ place_of_step (node_at x.line.expression j)
+  node-read = let g = h.leaves_of.line_is in place-in (g.line_in.node_is j l (omega (arith, g.few_nodes)))
+
+  pub place-in-reach : place_code numbers size (place_in definitions (49 * i + 4 + 3 * j)) ≡ true
+      → PlaceThere inherited synthesized rules (get_or definitions (49 * i) 0) (place_in definitions (49 * i + 4 + 3 * j))
+  place-in-reach e =
       let d : of_leaf (declared_place x.book x.line.rule) (node_at x.line.expression j) ≡ true = sym (node-asked h.leaves_of j l) ∙ e in
-      rw (g.line_in.rule_is, n.kind_is, n.first_is, n.second_is)
-      (node-there h.declared_in x.line.rule h.rule_there (node_at x.line.expression j) d)
+      rw (h.leaves_of.line_is.line_in.rule_is, node-read) (place-there h.declared_in x.line.rule h.rule_there (node_at x.line.expression j) d)
 
   node-owned : (limit : ℕ) → of_leaf (declared_place x.book x.line.rule) (node_at x.line.expression j) ≡ true
-      → owned_code inherited synthesized rules (get_or definitions (49 * i) 0) limit (get_or definitions (49 * i + 4 + 3 * j) 0)
-      (get_or definitions (49 * i + 4 + 3 * j + 1) 0) (get_or definitions (49 * i + 4 + 3 * j + 2) 0)
+      → owned_code inherited synthesized rules (get_or definitions (49 * i) 0) limit (place_in definitions (49 * i + 4 + 3 * j))
       ≡ owned_node limit x (node_at x.line.expression j)
   node-owned limit d =
-      let g = h.leaves_of.line_is in
-      let n = g.line_in.node_is j l (omega (arith, g.few_nodes)) in
-      rw (g.line_in.rule_is, n.kind_is, n.first_is, n.second_is)
-      (owned-code h.declared_in x.line.rule h.rule_there limit (node_at x.line.expression j) d)
+      rw (h.leaves_of.line_is.line_in.rule_is, node-read) (owned-code h.declared_in x.line.rule h.rule_there limit (node_at x.line.expression j) d)
 
-  pub node-sound : (limit : ℕ)
-      → place_code numbers size (get_or definitions (49 * i + 4 + 3 * j) 0) (get_or definitions (49 * i + 4 + 3 * j + 1) 0)
-      (get_or definitions (49 * i + 4 + 3 * j + 2) 0)
-      && owned_code inherited synthesized rules (get_or definitions (49 * i) 0) limit (get_or definitions (49 * i + 4 + 3 * j) 0)
-      (get_or definitions (49 * i + 4 + 3 * j + 1) 0) (get_or definitions (49 * i + 4 + 3 * j + 2) 0)
+  node-sound : (limit : ℕ)
+      → place_code numbers size (place_in definitions (49 * i + 4 + 3 * j))
+      && owned_code inherited synthesized rules (get_or definitions (49 * i) 0) limit (place_in definitions (49 * i + 4 + 3 * j))
       ≡ sound_node limit x (node_at x.line.expression j)
   node-sound limit =
-      ap (λ (t : Bool). t && owned_code inherited synthesized rules (get_or definitions (49 * i) 0) limit (get_or definitions (49 * i + 4 + 3 * j) 0)
-      (get_or definitions (49 * i + 4 + 3 * j + 1) 0) (get_or definitions (49 * i + 4 + 3 * j + 2) 0)) (node-asked h.leaves_of j l)
+      ap (λ (t : Bool). t && owned_code inherited synthesized rules (get_or definitions (49 * i) 0) limit (place_in definitions (49 * i + 4 + 3 * j)))
+      (node-asked h.leaves_of j l)
       ∙ and-where (of_leaf (declared_place x.book x.line.rule) (node_at x.line.expression j)) (node-owned limit)
+
+-- the nodes of line i, one after the other
+pub leaves-sound-asked : {numbers : Book} {inherited synthesized rules definitions : List ℕ} {i size : ℕ} {x : Entry} (limit : ℕ)
+    → LeavesThere numbers inherited synthesized rules definitions i size x
+    → all_below (get_or definitions (49 * i + 3) 0) (λ j. place_code numbers size (place_in definitions (49 * i + 4 + 3 * j))
+    && owned_code inherited synthesized rules (get_or definitions (49 * i) 0) limit (place_in definitions (49 * i + 4 + 3 * j))) ≡ leaves_sound limit x
+leaves-sound-asked {numbers} {inherited} {synthesized} {rules} {definitions} {i} {size} {x} limit h =
+    let steps = postfix x.line.expression in
+    ap (λ (n : ℕ). all_below n (λ j. place_code numbers size (place_in definitions (49 * i + 4 + 3 * j))
+    && owned_code inherited synthesized rules (get_or definitions (49 * i) 0) limit (place_in definitions (49 * i + 4 + 3 * j)))) (node-count h.leaves_of.line_is)
+    ∙ below-same (length steps) (λ j l. node-sound h j (omega (arith, length-postfix x.line.expression)) limit)
+    ∙ sym (all-below (sound_node limit x) select steps) ∙ leaves-sound-nodes limit x
 
 -- an inherited attribute's definition
 module _ {numbers : Book} {inherited synthesized rules definitions : List ℕ} {i size : ℕ} {x : Entry}
     (h : InheritedThere numbers inherited synthesized rules definitions i size x) where
-  pub owner-word : get_or inherited (get_or definitions (49 * i + 2) 0) 0 < 32
-  owner-word = rw h.leaves_there.leaves_of.line_is.line_in.attribute_is h.owner_low
-
   inherited-declared : declared_inherited x.book x.line ≡ leaves_declared x
   unfolding declared_inherited is_position leaves_declared
   inherited-declared =
@@ -303,6 +298,20 @@ module _ {numbers : Book} {inherited synthesized rules definitions : List ℕ} {
       → LineThere numbers inherited synthesized rules definitions (n + i) (synthesized_entry b i)
   synthesized-line-there e l =
       record { counted = h.counted; declared_in = h.declared_in; line_is = synthesized-line h.declared_in.symbols_in.within h.definitions_in i e l }
+
+-- the lines of each kind make what is asked of them all
+module _ {numbers : Book} {b : Lines} (c : Counted numbers b) where
+  pub inherited-sound-lines : all_below numbers.inherited_definitions (λ i. inherited_line_sound (inherited_entry b i)) ≡ inherited_sound b
+  unfolding inherited_sound inherited_line_sound
+  inherited-sound-lines =
+      ap (λ (n : ℕ). all_below n (λ i. inherited_line_sound (inherited_entry b i))) c.inherited_definitions_are
+      ∙ sym (all-below (sound_inherited b) _ b.inherited_definitions)
+
+  pub synthesized-sound-lines : all_below numbers.synthesized_definitions (λ i. synthesized_line_sound (synthesized_entry b i)) ≡ synthesized_sound b
+  unfolding synthesized_sound synthesized_line_sound
+  synthesized-sound-lines =
+      ap (λ (n : ℕ). all_below n (λ i. synthesized_line_sound (synthesized_entry b i))) c.synthesized_definitions_are
+      ∙ sym (all-below (sound_synthesized b) _ b.synthesized_definitions)
 
 pub sound-parts : (b : Lines) → inherited_sound b && synthesized_sound b ≡ definitions_sound b
 unfolding inherited_sound synthesized_sound definitions_sound definitions_declared inherited_declared synthesized_declared owned

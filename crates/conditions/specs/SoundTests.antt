@@ -1,6 +1,6 @@
--- What conditions 4 and 5 ask of definitions, in the parts that code asks one by one: of the words of a node, then of lines.
+-- What conditions 4 and 5 ask of definitions, in the parts that code asks one by one: of what a node reads, then of lines.
 -- Assumes nothing.
-use Rattle.std.specs.Prelude.{ℕ, ◌+◌, ◌*◌, Bool, true, false, ◌&&◌, List, ltb, eqb, get_or}
+use Rattle.std.specs.Prelude.{ℕ, ◌+◌, ◌*◌, Bool, true, ◌&&◌, List, ltb, eqb, get_or, Option, None, Some}
 use Rattle.grammar.specs.Conditions.Decides.{all}
 use Rattle.grammar.specs.Data.Book.{InheritedDefinition, SynthesizedDefinition, Book as Lines}
 use Rattle.grammar.specs.Conditions.Tests.{
@@ -13,21 +13,17 @@ use Rattle.grammar.specs.Conditions.Tests.{
   owned_synthesized,
   owned,
 }
+use Rattle.conditions.specs.declared.place.Place.{Place}
+use Rattle.conditions.specs.declared.place.Place.TheVariants.{Own, At, Val}
 use Rattle.conditions.specs.Asked.{Entry}
 use Rattle.conditions.specs.DeclaredTests.{leaves_declared, definitions_declared}
 
--- a node's words, in rule p and left of a position: condition 5
-unfoldable pub owned_code : List ℕ → List ℕ → List ℕ → ℕ → ℕ → ℕ → ℕ → ℕ → Bool
-owned_code inherited synthesized rules p limit kind first second =
-    elim (eqb kind 1) [
-      | true ↦ eqb (get_or inherited first 0) (get_or rules (10 * p) 0)
-      | false ↦
-          elim (eqb kind 2) [
-            | true ↦ eqb (get_or rules (10 * p + 1 + first) 0) (32 + get_or synthesized second 0) && ltb first limit
-            | false ↦
-                elim (eqb kind 3) [ true ↦ ltb (get_or rules (10 * p + 1 + first) 0) 32 && ltb first limit | false ↦ true ]
-          ]
-    ]
+-- what a node reads, in rule p and left of a position: condition 5
+unfoldable pub owned_code : List ℕ → List ℕ → List ℕ → ℕ → ℕ → Option Place → Bool
+owned_code inherited synthesized rules p limit None = true
+owned_code inherited synthesized rules p limit (Some (Own K)) = eqb (get_or inherited K 0) (get_or rules (10 * p) 0)
+owned_code inherited synthesized rules p limit (Some (At J K)) = eqb (get_or rules (10 * p + 1 + J) 0) (32 + get_or synthesized K 0) && ltb J limit
+owned_code inherited synthesized rules p limit (Some (Val J)) = ltb (get_or rules (10 * p + 1 + J) 0) 32 && ltb J limit
 
 unfoldable pub leaves_owned : ℕ → Entry → Bool
 leaves_owned limit x = all_leaves (owned_place x.book x.line.rule) x.line.expression && all_leaves (before limit) x.line.expression

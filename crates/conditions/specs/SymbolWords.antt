@@ -6,14 +6,14 @@ use Rattle.std.proofs.Common.{◌∙◌}
 use Rattle.std.proofs.Math.Bool.{false}
 use native.Mathlib.Omega.{arith}
 use Rattle.std.proofs.Math.Dec.{leb}
-use borrow.Author.Tests.{ltb-true, ltb-false, lt-ltb, le-ltb, lt-leb}
+use borrow.Author.Tests.{ltb-true, ltb-false, lt-ltb, le-ltb, lt-leb, le-leb}
 use Rattle.grammar.specs.Conditions.Decides.{one_to}
 use Rattle.grammar.specs.Data.Symbol.{Symbol, terminal, nonterminal}
 use Rattle.grammar.specs.Data.Book.{Book as Lines}
 use Rattle.grammar.specs.Conditions.Meaning.{WithinLimits, IsTerminal, IsNonterminal}
 use Rattle.grammar.specs.Conditions.Tests.{right_symbol, go_symbol}
 use Rattle.book.specs.declared.Book.{Book}
-use Rattle.conditions.specs.Answers.{and-false}
+use Rattle.std.proofs.Math.Bool.{and-false}
 use Rattle.book.specs.Layout.{code_of, symbol_code}
 use Rattle.conditions.specs.Asked.{Counted}
 use Rattle.conditions.specs.DeclaredTests.{right_code, go_code}
@@ -54,13 +54,24 @@ module _ (numbers : Book) (code : ℕ) where
   unfolding right_code
   right-high h = rw (le-ltb code 32 h, right_code)
 
-  pub go-low : code < 32 → go_code numbers code ≡ one_to numbers.terminals code
+  go-low : code < 32 → go_code numbers code ≡ one_to numbers.terminals code
   unfolding go_code
   go-low h = rw (lt-ltb code 32 h, go_code)
 
-  pub go-high : 32 ≤ code → go_code numbers code ≡ leb (code - 32) numbers.nonterminals
+  go-high : 32 ≤ code → go_code numbers code ≡ leb (code - 32) numbers.nonterminals
   unfolding go_code
   go-high h = rw (le-ltb code 32 h, go_code)
+
+  pub go-first : code ≡ 32 → true ≡ go_code numbers code
+  go-first e = sym (go-high (omega arith) ∙ le-leb (code - 32) numbers.nonterminals (omega arith))
+
+  pub go-other : (code ≡ 32 → ⊥) → right_code numbers code ≡ go_code numbers code
+  unfolding one_to
+  go-other n = go (ltb code 32) refl
+    where
+      go : (t : Bool) → ltb code 32 ≡ t → right_code numbers code ≡ go_code numbers code
+      go true e = let h = ltb-true code 32 e in right_low h ∙ sym (go-low h)
+      go false e = let h = ltb-false code 32 e in right-high h ∙ (rw (le-leb 1 (code - 32) (omega arith)) (sym (go-high h)))
 
 module _ {numbers : Book} {b : Lines} (c : Counted numbers b) (w : WithinLimits b) where
   low : (K code : ℕ) → code ≡ K → one_to numbers.terminals code ≡ one_to b.terminals K

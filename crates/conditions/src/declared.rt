@@ -10,20 +10,14 @@ ghost use Rattle.conditions.specs.DeclaredTests.{kernels_declared, goes_declared
 ghost use Rattle.conditions.specs.DeclaredTests.{names_declared, definitions_declared};
 
 use super::limits::one_to;
+use super::place::{Place, place_at};
 use book::Book;
 
 // Whether every owner is a nonterminal n1..nN.
 fn owners_declared(owners: &[u32], n: u32) -> bool
     ensures { result ≡ all (one_to n) owners.now }
 {
-    let mut i = 0;
-    while i < owners.len() {
-        if !one_to(n, owners[i]) {
-            return false;
-        }
-        i += 1;
-    }
-    true
+    owners.iter().all(|owner| one_to(n, *owner))
 }
 
 // Whether a right symbol is declared: t1..tT or n1..nN.
@@ -31,19 +25,17 @@ fn right_code(book: Book, code: u32) -> bool
     ensures { result ≡ right_code book code }
 {
     if code < 32 {
-        return one_to(book.terminals, code);
+        one_to(book.terminals, code)
+    } else {
+        one_to(book.nonterminals, code - 32)
     }
-    one_to(book.nonterminals, code - 32)
 }
 
 // Whether a go line's symbol is declared; n0 too.
 fn go_code(book: Book, code: u32) -> bool
     ensures { result ≡ go_code book code }
 {
-    if code < 32 {
-        return one_to(book.terminals, code);
-    }
-    code - 32 <= book.nonterminals
+    code == 32 || right_code(book, code)
 }
 
 // Whether every right symbol of rule p is declared.
@@ -52,14 +44,7 @@ fn right_declared(book: Book, rules: &[u32], p: usize) -> bool
     ensures { Answers (RuleOf book rules.now p) (right_declared p) result }
 {
     let n = rules[10 * p + 1] as usize;
-    let mut d = 0;
-    while d < n {
-        if !right_code(book, rules[10 * p + 2 + d]) {
-            return false;
-        }
-        d += 1;
-    }
-    true
+    (0..n).all(|d| right_code(book, rules[10 * p + 2 + d]))
 }
 
 // Whether the left side of rule p is a nonterminal n1..nN, but for rule 0, and its right symbols are declared.
@@ -67,10 +52,7 @@ fn rule_declared(book: Book, rules: &[u32], p: usize) -> bool
     requires { Some (RuleOf book rules.now p) }
     ensures { Answers (RuleOf book rules.now p) (rule_declared p) result }
 {
-    if 0 < p {
-        return one_to(book.nonterminals, rules[10 * p]) & right_declared(book, rules, p);
-    }
-    right_declared(book, rules, p)
+    (p == 0 || one_to(book.nonterminals, rules[10 * p])) & right_declared(book, rules, p)
 }
 
 fn rules_declared(book: Book, rules: &[u32]) -> bool
@@ -78,14 +60,7 @@ fn rules_declared(book: Book, rules: &[u32]) -> bool
     ensures { Answers (RulesOf book rules.now) rules_declared result }
 {
     let n = book.rules as usize;
-    let mut p = 0;
-    while p < n {
-        if !rule_declared(book, rules, p) {
-            return false;
-        }
-        p += 1;
-    }
-    true
+    (0..n).all(|p| rule_declared(book, rules, p))
 }
 
 // Whether rule 0 is n0 to one nonterminal; a symbol that is not declared may be taken for one.
@@ -96,20 +71,17 @@ fn start_declared(book: Book, rules: &[u32]) -> bool
     (rules[0] == 0) & (rules[1] == 1) & (32 <= rules[2])
 }
 
-// Whether a node of an expression in a rule with so many right symbols reads what is declared.
-pub fn place_declared(book: Book, size: u32, kind: u32, first: u32, second: u32) -> bool
-    ensures { result ≡ place_code book size kind first second }
+// Whether what a node reads in a rule with so many right symbols is declared.
+#[tactic(auto, unfolding(crate::specs::DeclaredTests::place_code))]
+pub fn place_declared(book: Book, size: u32, place: Option<Place>) -> bool
+    ensures { result ≡ place_code book size place }
 {
-    if kind == 1 {
-        return first < book.inherited;
+    match place {
+        None => true,
+        Some(Place::Own(k)) => k < book.inherited,
+        Some(Place::At(j, k)) => one_to(size, j) & (k < book.synthesized),
+        Some(Place::Val(j)) => one_to(size, j),
     }
-    if kind == 2 {
-        return one_to(size, first) & (second < book.synthesized);
-    }
-    if kind == 3 {
-        return one_to(size, first);
-    }
-    true
 }
 
 // Whether every leaf of the definition in line i, of a rule with so many right symbols, reads what is declared.
@@ -118,21 +90,7 @@ fn leaves_declared(book: Book, definitions: &[u32], i: usize, size: u32) -> bool
     ensures { Answers (LeavesOf book definitions.now i size) leaves_declared result }
 {
     let n = definitions[49 * i + 3] as usize;
-    let mut j = 0;
-    while j < n {
-        let k = 49 * i + 4 + 3 * j;
-        if !place_declared(
-            book,
-            size,
-            definitions[k],
-            definitions[k + 1],
-            definitions[k + 2],
-        ) {
-            return false;
-        }
-        j += 1;
-    }
-    true
+    (0..n).all(|j| place_declared(book, size, place_at(definitions, 49 * i + 4 + 3 * j)))
 }
 
 // Whether the definition in line i names a rule, one of so many attributes, and leaves that are declared.
@@ -147,11 +105,11 @@ fn definition_declared(
     ensures { Answers (EntryOf book rules.now definitions.now i) (definition_declared attributes) result }
 {
     let p = definitions[49 * i];
-    if p < book.rules {
-        let size = rules[10 * p as usize + 1];
-        return (definitions[49 * i + 2] < attributes) & leaves_declared(book, definitions, i, size);
+    if book.rules <= p {
+        return false;
     }
-    false
+    let size = rules[10 * p as usize + 1];
+    definitions[49 * i + 2] < attributes && leaves_declared(book, definitions, i, size)
 }
 
 // Whether line i, an inherited attribute's definition, is declared, its position too.
@@ -159,11 +117,9 @@ fn inherited_line_declared(book: Book, rules: &[u32], definitions: &[u32], i: us
     requires { Some (EntryOf book rules.now definitions.now i) }
     ensures { Answers (EntryOf book rules.now definitions.now i) inherited_line_declared result }
 {
-    if definition_declared(book, rules, definitions, i, book.inherited) {
-        let p = definitions[49 * i] as usize;
-        return one_to(rules[10 * p + 1], definitions[49 * i + 1]);
-    }
-    false
+    let p = definitions[49 * i] as usize;
+    definition_declared(book, rules, definitions, i, book.inherited)
+        && one_to(rules[10 * p + 1], definitions[49 * i + 1])
 }
 
 fn inherited_declared(book: Book, rules: &[u32], definitions: &[u32]) -> bool
@@ -171,14 +127,7 @@ fn inherited_declared(book: Book, rules: &[u32], definitions: &[u32]) -> bool
     ensures { Answers (DefinitionsOf book rules.now definitions.now) inherited_declared result }
 {
     let n = book.inherited_definitions as usize;
-    let mut i = 0;
-    while i < n {
-        if !inherited_line_declared(book, rules, definitions, i) {
-            return false;
-        }
-        i += 1;
-    }
-    true
+    (0..n).all(|i| inherited_line_declared(book, rules, definitions, i))
 }
 
 fn synthesized_declared(book: Book, rules: &[u32], definitions: &[u32]) -> bool
@@ -187,14 +136,7 @@ fn synthesized_declared(book: Book, rules: &[u32], definitions: &[u32]) -> bool
 {
     let first = book.inherited_definitions as usize;
     let n = book.synthesized_definitions as usize;
-    let mut i = 0;
-    while i < n {
-        if !definition_declared(book, rules, definitions, first + i, book.synthesized) {
-            return false;
-        }
-        i += 1;
-    }
-    true
+    (0..n).all(|i| definition_declared(book, rules, definitions, first + i, book.synthesized))
 }
 
 // Whether kernel line i names a state, a rule, a dot that is not past the end, and lookaheads t0..tT, of which the last is the largest.
@@ -203,13 +145,13 @@ fn kernel_declared(book: Book, rules: &[u32], kernels: &[u32], i: usize) -> bool
     ensures { Answers (KernelOf book rules.now kernels.now i) (kernel_declared i) result }
 {
     let p = kernels[5 * i + 1];
-    if p < book.rules {
-        let size = rules[10 * p as usize + 1];
-        return (kernels[5 * i] < book.states)
-            & (kernels[5 * i + 2] <= size)
-            & (kernels[5 * i + 3] <= book.terminals);
+    if book.rules <= p {
+        return false;
     }
-    false
+    let size = rules[10 * p as usize + 1];
+    (kernels[5 * i] < book.states)
+        & (kernels[5 * i + 2] <= size)
+        & (kernels[5 * i + 3] <= book.terminals)
 }
 
 fn kernels_declared(book: Book, rules: &[u32], kernels: &[u32]) -> bool
@@ -217,14 +159,7 @@ fn kernels_declared(book: Book, rules: &[u32], kernels: &[u32]) -> bool
     ensures { Answers (KernelsOf book rules.now kernels.now) kernels_declared result }
 {
     let n = book.kernels as usize;
-    let mut i = 0;
-    while i < n {
-        if !kernel_declared(book, rules, kernels, i) {
-            return false;
-        }
-        i += 1;
-    }
-    true
+    (0..n).all(|i| kernel_declared(book, rules, kernels, i))
 }
 
 fn goes_declared(book: Book, goes: &[u32]) -> bool
@@ -232,15 +167,10 @@ fn goes_declared(book: Book, goes: &[u32]) -> bool
     ensures { Answers (GoesOf book goes.now) goes_declared result }
 {
     let n = book.goes as usize;
-    let mut i = 0;
-    while i < n {
+    (0..n).all(|i| {
         let known = go_code(book, goes[3 * i + 1]);
-        if !((goes[3 * i] < book.states) & known & (goes[3 * i + 2] < book.states)) {
-            return false;
-        }
-        i += 1;
-    }
-    true
+        (goes[3 * i] < book.states) & known & (goes[3 * i + 2] < book.states)
+    })
 }
 
 // Whether owners and rules are declared.

@@ -15,11 +15,8 @@ fn count_owned(owners: &[u32], n: usize, counts: &mut [u8])
     requires { LowOwners owners.now n × (counts.old ≡ replicate 64 0) }
     ensures { Counts owners.now n counts.new }
 {
-    let mut k = 0;
-    while k < n {
-        let symbol = 32 + owners[k] as usize;
-        counts[symbol] = counts[symbol] + 1;
-        k += 1;
+    for k in 0..n {
+        counts[32 + owners[k] as usize] += 1;
     }
 }
 
@@ -30,10 +27,8 @@ fn right_due(rules: &[u32], counts: &[u8], p: usize) -> usize
 {
     let size = rules[10 * p + 1] as usize;
     let mut n = 0;
-    let mut d = 0;
-    while d < size {
+    for d in 0..size {
         n += counts[rules[10 * p + 2 + d] as usize] as usize;
-        d += 1;
     }
     n
 }
@@ -44,10 +39,8 @@ fn rights_due(rules: &[u32], counts: &[u8], count: usize) -> usize
     ensures { result ≡ sum count (right_due rules.now counts.now) }
 {
     let mut n = 0;
-    let mut p = 0;
-    while p < count {
+    for p in 0..count {
         n += right_due(rules, counts, p);
-        p += 1;
     }
     n
 }
@@ -58,10 +51,8 @@ fn lefts_due(rules: &[u32], counts: &[u8], count: usize) -> usize
     ensures { result ≡ sum count (left_due rules.now counts.now) }
 {
     let mut n = 0;
-    let mut p = 0;
-    while p < count {
+    for p in 0..count {
         n += counts[32 + rules[10 * p] as usize] as usize;
-        p += 1;
     }
     n
 }

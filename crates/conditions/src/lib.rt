@@ -4,4 +4,5 @@
 pub mod declared;
 pub mod defined;
 pub mod limits;
+pub mod place;
 pub mod sound;

@@ -1,11 +1,11 @@
 // Condition 3: the limits of a book. The numbers are asked first, so that every line has room in its array; then the lines.
-ghost use Rattle.std.specs.Prelude.{◌≡◌, ◌≤◌, ◌<◌, length, drop};
-ghost use Rattle.grammar.specs.Conditions.Decides.{one_to, count, few};
+ghost use Rattle.std.specs.Prelude.{◌≡◌, ◌+◌, ◌*◌, ◌≤◌, ◌<◌, leb, length, get_or};
+ghost use Rattle.grammar.specs.Conditions.Decides.{one_to, all_below, count, few};
 ghost use Rattle.grammar.specs.Conditions.Tests.{within_limits};
 ghost use Rattle.conditions.specs.Answers.{Some, Answers};
-ghost use Rattle.conditions.specs.Asked.{Counted, RuleLines, DefinitionLines, KernelLines, Kept, Stored};
+ghost use Rattle.conditions.specs.Asked.{Counted, KernelLines, Kept, Stored};
 ghost use Rattle.conditions.specs.Often.{Tallied, Taken};
-ghost use Rattle.conditions.specs.LimitTests.{numbers_within, rights_within, nodes_within, states_within, lines_within};
+ghost use Rattle.conditions.specs.LimitTests.{numbers_within, states_within, lines_within};
 
 use book::Book;
 
@@ -32,20 +32,11 @@ fn numbers_within(book: Book) -> bool
     first & owners & one_to(Book::MAX_RULES, book.rules) & lines
 }
 
-// How often a word stands in the list from a place on.
-fn repeats(words: &[u32], from: usize, word: u32) -> usize
-    requires { from ≤ length words.now }
-    ensures { result ≡ count word (drop from words.now) }
+// How often a word stands in a list.
+fn repeats(words: &[u32], word: u32) -> usize
+    ensures { result ≡ count word words.now }
 {
-    let mut n: usize = 0;
-    let mut i = from;
-    while i < words.len() {
-        if words[i] == word {
-            n += 1;
-        }
-        i += 1;
-    }
-    n
+    words.iter().filter(|w| **w == word).count()
 }
 
 // Takes the word at place i: whether it is found to stand in the list more than n times. One below 32 is counted, any other is asked for further on.
@@ -62,7 +53,7 @@ fn too_often(words: &[u32], i: usize, n: u8, counts: &mut [u8]) -> bool
         counts[word as usize] = met + 1;
         return false;
     }
-    n as usize <= repeats(words, i + 1, word)
+    n as usize <= repeats(&words[i + 1..], word)
 }
 
 // Whether no word stands in the list more than n times.
@@ -70,44 +61,20 @@ fn few(words: &[u32], n: u8) -> bool
     ensures { result ≡ few n words.now }
 {
     let mut counts = [0u8; 32];
-    let mut i = 0;
-    while i < words.len() {
+    for i in 0..words.len() {
         if too_often(words, i, n, &mut counts) {
             return false;
         }
-        i += 1;
     }
     true
 }
 
-// Whether no rule has too many right symbols.
-fn rights_within(rules: &[u32], n: usize) -> bool
-    requires { Some (RuleLines rules.now n) }
-    ensures { Answers (RuleLines rules.now n) rights_within result }
+// Whether the word at a place of each line is at most so large, in n lines of so many words.
+fn none_above(lines: &[u32], n: usize, size: usize, at: usize, most: u32) -> bool
+    requires { (size * n ≤ length lines.now) × (at < size) }
+    ensures { result ≡ all_below n (λ i. leb (get_or lines.now (size * i + at) 0) most) }
 {
-    let mut p = 0;
-    while p < n {
-        if rules[10 * p + 1] > Book::MAX_RIGHT {
-            return false;
-        }
-        p += 1;
-    }
-    true
-}
-
-// Whether no definition has too many nodes.
-fn nodes_within(definitions: &[u32], n: usize) -> bool
-    requires { Some (DefinitionLines definitions.now n) }
-    ensures { Answers (DefinitionLines definitions.now n) nodes_within result }
-{
-    let mut i = 0;
-    while i < n {
-        if definitions[49 * i + 3] > Book::MAX_NODES {
-            return false;
-        }
-        i += 1;
-    }
-    true
+    (0..n).all(|i| lines[size * i + at] <= most)
 }
 
 // Whether no state has too many kernel lines. Since the states ascend, one that has more stands in two lines that are as many places
@@ -117,14 +84,7 @@ fn states_within(kernels: &[u32], n: usize) -> bool
     ensures { Answers (KernelLines kernels.now n) states_within result }
 {
     let most = Book::MAX_STATE_KERNELS as usize;
-    let mut i = 0;
-    while i + most < n {
-        if kernels[5 * i] == kernels[5 * (i + most)] {
-            return false;
-        }
-        i += 1;
-    }
-    true
+    (0..n.saturating_sub(most)).all(|i| kernels[5 * i] != kernels[5 * (i + most)])
 }
 
 // Whether the lines are within the limits, where each has room.
@@ -147,8 +107,8 @@ fn lines_within(
         & few(&synthesized[..s], Book::MAX_OWNED as u8);
     let n = book.inherited_definitions as usize + book.synthesized_definitions as usize;
     owners
-        & rights_within(rules, book.rules as usize)
-        & nodes_within(definitions, n)
+        & none_above(rules, book.rules as usize, 10, 1, Book::MAX_RIGHT)
+        & none_above(definitions, n, 49, 3, Book::MAX_NODES)
         & states_within(kernels, book.kernels as usize)
 }
 
@@ -166,8 +126,5 @@ pub fn within_limits(
         (Kept book inherited.now synthesized.now rules.now definitions.now kernels.now)
         within_limits result }
 {
-    if numbers_within(book) {
-        return lines_within(book, inherited, synthesized, rules, definitions, kernels);
-    }
-    false
+    numbers_within(book) && lines_within(book, inherited, synthesized, rules, definitions, kernels)
 }

@@ -3,43 +3,40 @@
 // The book is within its limits, and its owners and right symbols are declared.
 ghost use Rattle.std.specs.Prelude.{◌≡◌, true, ◌&&◌};
 ghost use Rattle.conditions.specs.Answers.{Some, Answers};
-ghost use Rattle.conditions.specs.Asked.{NodeThere, LineThere, LeavesThere, InheritedThere, SynthesizedThere, NamedBook};
+ghost use Rattle.conditions.specs.Asked.{PlaceThere, LineThere, LeavesThere, InheritedThere, SynthesizedThere, NamedBook};
 ghost use Rattle.conditions.specs.DeclaredTests.{place_code};
 ghost use Rattle.conditions.specs.SoundTests.{owned_code, leaves_sound, inherited_line_sound, synthesized_line_sound, inherited_sound};
 ghost use Rattle.conditions.specs.SoundTests.{synthesized_sound, definitions_sound};
 
 use super::declared::place_declared;
 use super::limits::one_to;
+use super::place::{Place, place_at};
 use book::Book;
 
-// Whether a node of an expression of rule p reads what belongs to its symbol, and stands left of a position.
+// Whether what a node of rule p reads belongs to its symbol, and stands left of a position.
+#[tactic(auto, unfolding(crate::specs::SoundTests::owned_code))]
 fn place_owned(
     inherited: &[u32],
     synthesized: &[u32],
     rules: &[u32],
     p: usize,
     limit: u32,
-    kind: u32,
-    first: u32,
-    second: u32,
+    place: Option<Place>,
 ) -> bool
-    requires { NodeThere inherited.now synthesized.now rules.now p kind first second }
-    ensures { result ≡ owned_code inherited.now synthesized.now rules.now p limit kind first second }
+    requires { PlaceThere inherited.now synthesized.now rules.now p place }
+    ensures { result ≡ owned_code inherited.now synthesized.now rules.now p limit place }
 {
-    let j = first as usize;
-    if kind == 1 {
-        return inherited[j] == rules[10 * p];
+    match place {
+        None => true,
+        Some(Place::Own(k)) => inherited[k as usize] == rules[10 * p],
+        Some(Place::At(j, k)) => {
+            (rules[10 * p + 1 + j as usize] == 32 + synthesized[k as usize]) & (j < limit)
+        }
+        Some(Place::Val(j)) => (rules[10 * p + 1 + j as usize] < 32) & (j < limit),
     }
-    if kind == 2 {
-        return (rules[10 * p + 1 + j] == 32 + synthesized[second as usize]) & (first < limit);
-    }
-    if kind == 3 {
-        return (rules[10 * p + 1 + j] < 32) & (first < limit);
-    }
-    true
 }
 
-// Whether a node of an expression of rule p, which has so many right symbols, reads what is declared and belongs to its symbol, left of a position.
+// Whether what a node of rule p reads, which has so many right symbols, is declared and belongs to its symbol, left of a position.
 fn place_sound(
     book: Book,
     inherited: &[u32],
@@ -48,18 +45,12 @@ fn place_sound(
     p: usize,
     size: u32,
     limit: u32,
-    kind: u32,
-    first: u32,
-    second: u32,
+    place: Option<Place>,
 ) -> bool
-    requires { place_code book size kind first second ≡ true → NodeThere inherited.now synthesized.now rules.now p kind first second }
-    ensures { result ≡ place_code book size kind first second
-        && owned_code inherited.now synthesized.now rules.now p limit kind first second }
+    requires { place_code book size place ≡ true → PlaceThere inherited.now synthesized.now rules.now p place }
+    ensures { result ≡ place_code book size place && owned_code inherited.now synthesized.now rules.now p limit place }
 {
-    if place_declared(book, size, kind, first, second) {
-        return place_owned(inherited, synthesized, rules, p, limit, kind, first, second);
-    }
-    false
+    place_declared(book, size, place) && place_owned(inherited, synthesized, rules, p, limit, place)
 }
 
 // Whether every leaf of the definition in line i does. What is not declared is not looked up.
@@ -80,26 +71,10 @@ fn leaves_sound(
 {
     let p = definitions[49 * i] as usize;
     let n = definitions[49 * i + 3] as usize;
-    let mut j = 0;
-    while j < n {
-        let k = 49 * i + 4 + 3 * j;
-        if !place_sound(
-            book,
-            inherited,
-            synthesized,
-            rules,
-            p,
-            size,
-            limit,
-            definitions[k],
-            definitions[k + 1],
-            definitions[k + 2],
-        ) {
-            return false;
-        }
-        j += 1;
-    }
-    true
+    (0..n).all(|j| {
+        let place = place_at(definitions, 49 * i + 4 + 3 * j);
+        place_sound(book, inherited, synthesized, rules, p, size, limit, place)
+    })
 }
 
 // Whether line i, whose rule, position and attribute are declared, defines an inherited attribute of its right symbol from what stands left of it.
@@ -142,10 +117,8 @@ fn inherited_line_sound(
         return false;
     }
     let size = rules[10 * p as usize + 1];
-    if one_to(size, definitions[49 * i + 1]) & (definitions[49 * i + 2] < book.inherited) {
-        return inherited_target_sound(book, inherited, synthesized, rules, definitions, i, size);
-    }
-    false
+    let target = one_to(size, definitions[49 * i + 1]) & (definitions[49 * i + 2] < book.inherited);
+    target && inherited_target_sound(book, inherited, synthesized, rules, definitions, i, size)
 }
 
 // Whether line i, whose rule and attribute are declared, defines a synthesized attribute of its left side. No position is as large as 9.
@@ -187,10 +160,8 @@ fn synthesized_line_sound(
         return false;
     }
     let size = rules[10 * p as usize + 1];
-    if definitions[49 * i + 2] < book.synthesized {
-        return synthesized_target_sound(book, inherited, synthesized, rules, definitions, i, size);
-    }
-    false
+    let target = definitions[49 * i + 2] < book.synthesized;
+    target && synthesized_target_sound(book, inherited, synthesized, rules, definitions, i, size)
 }
 
 fn inherited_sound(
@@ -205,14 +176,7 @@ fn inherited_sound(
         inherited_sound result }
 {
     let n = book.inherited_definitions as usize;
-    let mut i = 0;
-    while i < n {
-        if !inherited_line_sound(book, inherited, synthesized, rules, definitions, i) {
-            return false;
-        }
-        i += 1;
-    }
-    true
+    (0..n).all(|i| inherited_line_sound(book, inherited, synthesized, rules, definitions, i))
 }
 
 fn synthesized_sound(
@@ -228,14 +192,14 @@ fn synthesized_sound(
 {
     let first = book.inherited_definitions as usize;
     let n = book.synthesized_definitions as usize;
-    let mut i = 0;
-    while i < n {
-        if !synthesized_line_sound(book, inherited, synthesized, rules, definitions, first + i) {
-            return false;
-        }
-        i += 1;
-    }
-    true
+    (0..n).all(|i| synthesized_line_sound(
+        book,
+        inherited,
+        synthesized,
+        rules,
+        definitions,
+        first + i,
+    ))
 }
 
 // Whether every definition mentions what is declared, and is of an attribute of its symbol, from attributes and values that its rule has.

@@ -3,6 +3,8 @@
 use Rattle.std.specs.Prelude.{ℕ, ◌+◌, ◌≤◌, ◌≡◌, List, length}
 use Rattle.std.proofs.Math.Option.{some}
 use Rattle.text.specs.Table.{table}
+use Rattle.book.specs.declared.refusal.Refusal.{Refusal}
+use Rattle.book.specs.Refusals.{number_of}
 use Rattle.grammar.specs.Limits.{MAX_TEXT}
 use Rattle.console.specs.declared.input.Progress.{Progress}
 use Rattle.console.specs.declared.input.Progress.TheVariants.{Book, Tokens, Refused}
@@ -42,7 +44,7 @@ pub record HoldsTokens (text buffer : List ℕ) (book at count : ℕ) (i : Input
 abbrev pub Holds : Progress → (text buffer : List ℕ) → Input → Type 0
 Holds (Book line at) text buffer i = HoldsBook text line at i
 Holds (Tokens book at count) text buffer i = HoldsTokens text buffer book at count i
-Holds (Refused n) text buffer i = Settled n i
+Holds (Refused refusal) text buffer i = Settled (number_of refusal) i
 
 -- where the variant is known
 
@@ -50,8 +52,5 @@ module _ (text buffer : List ℕ) (i : Input) {p : Progress} where
   pub held-book : {line at : ℕ} → p ≡ Book line at → Holds p text buffer i → HoldsBook text line at i
   held-book e h = rw e at h
 
-  pub held-tokens : {book at count : ℕ} → p ≡ Tokens book at count → Holds p text buffer i → HoldsTokens text buffer book at count i
-  held-tokens e h = rw e at h
-
-  pub held-refused : {n : ℕ} → p ≡ Refused n → Holds p text buffer i → Settled n i
+  pub held-refused : {refusal : Refusal} → p ≡ Refused refusal → Holds p text buffer i → Settled (number_of refusal) i
   held-refused e h = rw e at h

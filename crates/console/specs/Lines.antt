@@ -1,9 +1,9 @@
 -- The two kinds of line that the desk program tells apart: the end line and a token line, as the readers of the code find them.
 -- Assumes nothing.
-use Rattle.std.specs.Prelude.{ℕ, ◌≤◌, ◌<◌, ◌≡◌, refl, Bool, true, false, List, [], ◌∷◌, eqb, ltb, length}
-use Rattle.std.proofs.Common.{sym, ◌∙◌, ⊎_elim, arith, eq-or-lt_of_le, drop_of_length-le, eq-eqb, eqb-true, ltb-true, ltb-false}
+use Rattle.std.specs.Prelude.{ℕ, ◌≤◌, ◌<◌, ◌≡◌, refl, Bool, true, false, List, [], ◌∷◌, Option, None, Some, eqb, ltb, length}
+use Rattle.std.proofs.Common.{sym, ◌∙◌, ⊎_elim, arith, eq-or-lt_of_le, drop_of_length-le, eq-eqb, ne_eqb, eqb-true, ltb-true, ltb-false}
 use Rattle.std.proofs.Math.Path.{ap}
-use Rattle.std.proofs.Math.Option.{Option, none, some}
+use Rattle.std.proofs.Math.Option.{Option as Sought, none, some}
 use Rattle.std.proofs.lemmas.Bool.{eqb-false}
 use Rattle.text.specs.Class.{space, line-feed, class_of}
 use Rattle.text.proofs.ClassLaws.{byte_of, marked}
@@ -18,8 +18,9 @@ use Rattle.grammar.specs.Format.Ordered.{Fits}
 use Rattle.grammar.specs.Format.Reader.{Parsed, parsed, result, remaining, opening, closing}
 use Rattle.grammar.specs.Format.ReaderLaws.{open-got, keyword-got, closing-got, opening-got, number-got, space-got, reading, spelling}
 use Rattle.grammar.specs.Format.Parse.{end_line}
+use Rattle.console.specs.declared.input.Token.{Token}
 use Rattle.console.specs.Desk.{is_end, token_line, spelled_by, token_of}
-use Rattle.console.specs.Digits.{length-numeral, width-most}
+use Rattle.console.specs.Digits.{length-numeral}
 
 -- Where a line ends
 
@@ -81,34 +82,36 @@ end-steps line p e =
 -- A token line
 
 -- the numbers of a line that is spelled right
-unfoldable pub when_spelled : Bool → List ℕ → Option (List ℕ)
-when_spelled true numbers = some numbers
-when_spelled false numbers = none
+unfoldable pub numbers_in : Option Token → Sought (List ℕ)
+numbers_in None = none
+numbers_in (Some t) = some (t.kind ∷ t.value ∷ [])
 
-pub when_true : {s : Bool} (numbers : List ℕ) → s ≡ true → when_spelled s numbers ≡ some numbers
-unfolding when_spelled
-when_true numbers e = rw e
+spelled-ended : (numbers : List ℕ) (o : Rest) → spent o ≡ true → spelled_by (parsed numbers o) ≡ some numbers
+unfolding spelled_by
+spelled-ended numbers o e = spent-got o e λ q. rw q
 
-pub when_false : {s : Bool} (numbers : List ℕ) → s ≡ false → when_spelled s numbers ≡ none
-unfolding when_spelled
-when_false numbers e = rw e
-
-spelled-when : (numbers : List ℕ) (o : Rest) → spelled_by (parsed numbers o) ≡ when_spelled (spent o) numbers
-unfolding spelled_by spent when_spelled
-spelled-when numbers lost = refl
-spelled-when numbers (left []) = refl
-spelled-when numbers (left (b ∷ bs)) = refl
+spelled-unended : (numbers : List ℕ) (o : Rest) → spent o ≡ false → spelled_by (parsed numbers o) ≡ none
+unfolding spelled_by spent
+spelled-unended numbers lost e = refl
+spelled-unended numbers (left []) e = cc
+spelled-unended numbers (left (b ∷ bs)) e = refl
 
 -- the steps of the code
-module _ {line : List ℕ} {kind p₂ p₃ value p₄ : ℕ} (p₁ p₅ : ℕ) where
-  pub token-steps : rest line p₁ ≡ opening (word_of "tok") (rest line 0) → Reads decimal line p₁ kind p₂ → rest line p₃ ≡ mark space (rest line p₂)
-      → Reads decimal line p₃ value p₄ → rest line p₅ ≡ closing (rest line p₄)
-      → token_of line ≡ when_spelled (eqb p₅ (length line)) (kind ∷ value ∷ [])
+module _ {line : List ℕ} {kind p₂ p₃ value p₄ : ℕ} (p₁ p₅ : ℕ) (e₁ : rest line p₁ ≡ opening (word_of "tok") (rest line 0))
+    (k : Reads decimal line p₁ kind p₂) (e₂ : rest line p₃ ≡ mark space (rest line p₂)) (v : Reads decimal line p₃ value p₄)
+    (e₃ : rest line p₅ ≡ closing (rest line p₄)) where
+  token-steps : token_of line ≡ spelled_by (parsed (kind ∷ value ∷ []) (rest line p₅))
   unfolding token_of token_line result remaining
-  token-steps e₁ k e₂ v e₃ =
+  token-steps =
       let e₀ : rest line 0 ≡ left line = rest_in line 0 (omega arith) in
       let whole : token_line (left line) ≡ parsed (kind ∷ value ∷ []) (rest line p₅) = cc in
-      ap spelled_by whole ∙ (spelled-when (kind ∷ value ∷ []) (rest line p₅) ∙ ap (λ (t : Bool). when_spelled t (kind ∷ value ∷ [])) (spent-at line p₅))
+      ap spelled_by whole
+
+  pub token-ended : p₅ ≡ length line → token_of line ≡ some (kind ∷ value ∷ [])
+  token-ended e = token-steps ∙ spelled-ended _ _ (spent-at line p₅ ∙ eq-eqb p₅ (length line) e)
+
+  pub token-unended : (p₅ ≡ length line → ⊥) → token_of line ≡ none
+  token-unended e = token-steps ∙ spelled-unended _ _ (spent-at line p₅ ∙ ne_eqb p₅ (length line) e)
 
 -- a token line as it is printed
 unfoldable pub print_token : ℕ → ℕ → Printer
@@ -142,15 +145,13 @@ unfolding print_token bytes literal
 printed-length kind value f g =
     omega (
       arith,
-      length-numeral kind (32 ∷ numeral value (41 ∷ 10 ∷ [])),
-      length-numeral value (41 ∷ 10 ∷ []),
-      width-most kind (omega arith),
-      width-most value (omega arith),
+      length-numeral kind (omega arith) (32 ∷ numeral value (41 ∷ 10 ∷ [])),
+      length-numeral value (omega arith) (41 ∷ 10 ∷ []),
     )
 
 pub long-token : (line : List ℕ) → TOKEN_BYTES < length line → token_of line ≡ none
 long-token line h = go (token_of line) refl
   where
-    go : (o : Option (List ℕ)) → token_of line ≡ o → o ≡ none
+    go : (o : Sought (List ℕ)) → token_of line ≡ o → o ≡ none
     go none e = refl
     go (some ns) e = token-got line e λ kind value n w f g. absurd (omega (arith, ap length w, printed-length kind value f g))

@@ -1,7 +1,7 @@
 -- Bytes that are put into a buffer one after another: what stands before a place, in front of a rest, is what stood before, printed on.
 -- Assumes nothing.
-use Rattle.std.specs.Prelude.{ℕ, suc, ◌+◌, ◌*◌, ◌≤◌, ◌<◌, ◌≡◌, refl, List, ◌++◌, length, get_or, take, set}
-use Rattle.std.proofs.Common.{sym, ap, ◌∙◌, append-nil, append_assoc, arith, mul-add, mul-le-mul_left, add-one, length-set, take-suc, take-suc-set, take_all}
+use Rattle.std.specs.Prelude.{ℕ, ◌+◌, ◌-◌, ◌*◌, ◌≤◌, ◌<◌, ◌≡◌, List, ◌++◌, length, take, drop}
+use Rattle.std.proofs.Common.{sym, ap, ◌∙◌, append_assoc, arith, mul-add, length-append, length-take, take_at}
 use Rattle.grammar.specs.Format.Printer.{Printer, ◌·◌}
 
 -- from `at` on, no more than `most` bytes
@@ -22,37 +22,15 @@ pub puts_then : {p q : Printer} {m n : ℕ} {before : List ℕ} {at : ℕ} {afte
     → Puts p m before at after next → Puts q n after next last end → Puts (p · q) (m + n) before at last end
 puts_then {q = q} x y = record { text_is = λ r. y.text_is r ∙ x.text_is (q r); within = omega (arith, x.within, y.within) }
 
--- Copying bytes
-
-pub record Copying (bytes before : List ℕ) (at i : ℕ) (out : List ℕ) : Type 0 where
-  pub same_length : length out ≡ length before
-  pub within : i ≤ length bytes
-  pub text_is : take (at + i) out ≡ take at before ++ take i bytes
-
-module _ (bytes before : List ℕ) (at : ℕ) (room : at + length bytes ≤ length before) where
-  pub copying-start : Copying bytes before at 0 before
-  copying-start =
-      let e : at + 0 ≡ at = omega arith in
-      record { same_length = refl; within = omega arith; text_is = rw e (sym (append-nil (take at before))) }
-
-  module _ {i : ℕ} {out : List ℕ} (c : Copying bytes before at i out) where
-    pub copying-turn : i < length bytes → Copying bytes before at (i + 1) (set out (at + i) (get_or bytes i 0))
-    copying-turn h =
-        let e : at + (i + 1) ≡ suc (at + i) = omega arith in
-        let l : at + i < length out = omega (arith, c.same_length) in
-        record {
-          same_length = length-set out (at + i) (get_or bytes i 0) ∙ c.same_length;
-          within = omega arith;
-          text_is = rw (e, take-suc-set out (at + i) (get_or bytes i 0) l, c.text_is, add-one i, take-suc bytes i 0 h)
-              (append_assoc (take at before) (take i bytes) _);
-        }
-
-    pub copying-end : length bytes ≤ i → Puts (λ r. bytes ++ r) (length bytes) before at out (at + i)
-    copying-end h =
-        record {
-          text_is = λ r. rw (c.text_is, take_all i bytes h) (append_assoc (take at before) bytes r);
-          within = omega (arith, c.within);
-        }
+-- bytes put into the part of the buffer that is lent for them
+pub puts-bytes : (bytes before put : List ℕ) (at : ℕ) → at + length bytes ≤ length before → put ≡ bytes
+    → Puts (λ r. bytes ++ r) (length bytes) before at (take at before ++ (put ++ drop (at + length bytes - at) (drop at before))) (at + length bytes)
+puts-bytes bytes before put at room e =
+    let whole : List ℕ = drop (at + length bytes - at) (drop at before) in
+    let long : length (take at before ++ bytes) ≡ at + length bytes = simp (length-append, length-take) (omega arith) in
+    let front : take (at + length bytes) (take at before ++ (bytes ++ whole)) ≡ take at before ++ bytes =
+    ap (take (at + length bytes)) (sym (append_assoc (take at before) bytes whole)) ∙ take_at (take at before ++ bytes) whole (at + length bytes) long in
+    record { text_is = λ r. rw (e, front) (append_assoc (take at before) bytes r); within = omega arith }
 
 -- n elements one after another, at most `most` bytes each: `rest i` prints those from i on
 pub record Putting (rest : ℕ → Printer) (most n : ℕ) (before : List ℕ) (at i p : ℕ) (out : List ℕ) : Type 0 where
@@ -62,14 +40,7 @@ pub record Putting (rest : ℕ → Printer) (most n : ℕ) (before : List ℕ) (
   pub within : p ≤ at + most * i
 
 module _ (rest : ℕ → Printer) (most n : ℕ) (before : List ℕ) (at : ℕ) where
-  pub putting-start : Putting rest most n before at 0 at before
-  putting-start = record { same_length = refl; so_far = omega arith; text_is = λ r. refl; within = omega arith }
-
   module _ {i p : ℕ} {out : List ℕ} (s : Putting rest most n before at i p out) where
-    -- there is room for one element more
-    pub putting-room : at + most * n ≤ length before → i < n → p + most ≤ length out
-    putting-room h l = omega (arith, s.same_length, s.within, mul-add most i 1, mul-le-mul_left {m = i + 1} {n = n} most (omega arith))
-
     pub putting-turn : {print : Printer} {after : List ℕ} {next : ℕ} → i < n → Puts print most out p after next → length after ≡ length out
         → ((r : List ℕ) → rest i r ≡ print (rest (i + 1) r)) → Putting rest most n before at (i + 1) next after
     putting-turn h puts same step =

@@ -1,13 +1,15 @@
 -- Words and rows printed one after another, from a place on.
 -- Assumes nothing.
-use Rattle.std.specs.Prelude.{ℕ, zero, suc, ◌+◌, ◌*◌, ◌-◌, ◌≤◌, ◌<◌, ◌≡◌, refl, List, [], get_or, take, drop}
+use Rattle.std.specs.Prelude.{ℕ, zero, suc, ◌+◌, ◌*◌, ◌-◌, ◌≤◌, ◌<◌, ◌≡◌, List, [], get_or, take, drop, Result, Ok, Err, IfOk}
 use Rattle.std.proofs.Common.{sym, ◌∙◌, append-nil, drop_of_length-le, drop-drop}
 use native.Mathlib.Omega.{arith}
 use Rattle.std.proofs.Math.ListN.{length}
 use Rattle.text.proofs.RestLaws.{drop_more}
 use Rattle.grammar.specs.Format.Printer.{Printer, each}
+use Rattle.book.specs.declared.refusal.Refusal.{Refusal}
+use Rattle.book.specs.Refusals.{number_of}
 use Rattle.grammar.specs.Limits.{ROW_WORDS, MAX_ROWS, PAGE_WORDS}
-use Rattle.console.specs.Desk.{Answer, refused, accepted, answer_of, print_word, print_row, print_rows, print_answer}
+use Rattle.console.specs.Desk.{Answer, refused, accepted, print_word, print_row, print_rows, print_answer}
 use Rattle.console.specs.Output.{Puts}
 
 -- `(row`, ten words of a space and up to ten digits, `)` and the line feed
@@ -58,9 +60,14 @@ module _ (count : ℕ) (rows : List ℕ) where
   unfolding print_rows
   rows_end r = let e : count - count ≡ 0 = omega arith in rw e
 
+-- of a count of rows or a refusal, and the rows' words
+unfoldable pub answer_in : Result ℕ Refusal → List ℕ → Answer
+answer_in (Ok count) rows = accepted count rows
+answer_in (Err refusal) rows = refused (number_of refusal)
+
 -- a refusal, or a count of rows for which there is room
-pub record Printable (number count : ℕ) (rows out : List ℕ) : Type 0 where
-  pub few : number ≡ 0 → count ≤ MAX_ROWS
+pub record Printable (answer : Result ℕ Refusal) (rows out : List ℕ) : Type 0 where
+  pub few : IfOk answer (λ count. count ≤ MAX_ROWS)
   pub page : length rows ≡ PAGE_WORDS
   pub room : OUTPUT_BYTES ≤ length out
 
@@ -75,15 +82,3 @@ printed {after = after} {next} p h = record { text_is = sym (append-nil (take ne
 
 pub printed-same : {x y : Answer} {out : List ℕ} {next : ℕ} → x ≡ y → Printed x out next → Printed y out next
 printed-same e p = rw (← e) p
-
-pub refused-is : {number : ℕ} (count : ℕ) (rows : List ℕ) → (number ≡ 0 → ⊥) → refused number ≡ answer_of number count rows
-unfolding answer_of
-refused-is {number} count rows h = go number h
-  where
-    go : (n : ℕ) → (n ≡ 0 → ⊥) → refused n ≡ answer_of n count rows
-    go zero h = absurd (h refl)
-    go (suc n) h = refl
-
-pub accepted-is : {number : ℕ} (count : ℕ) (rows : List ℕ) → number ≡ 0 → accepted count rows ≡ answer_of number count rows
-unfolding answer_of
-accepted-is count rows h = rw h

@@ -2,17 +2,19 @@
 // line at hand and the tokens' numbers, so there may be any amount of it.
 ghost use Rattle.std.specs.Prelude.{◌≡◌, List, ◌∷◌, [], ◌++◌, ℕ, ◌≤◌, eqb, length};
 ghost use Rattle.text.specs.Table.{table};
-ghost use Rattle.text.specs.Reading.{Lent};
 ghost use Rattle.conditions.specs.Answers.{Some};
 ghost use Rattle.console.specs.Desk.{Input, is_end, token_of, one_byte, all_bytes};
-ghost use Rattle.console.specs.Lines.{when_spelled};
+ghost use Rattle.console.specs.Lines.{numbers_in};
 ghost use Rattle.console.specs.Kept.{KEPT_NUMBERS, Kept};
 ghost use Rattle.console.specs.Holds.{TEXT_ROOM, Buffers, HoldsBook, HoldsTokens, Holds};
 
 use book::Book;
+use book::refusal::Refusal;
 use book::spelling::{closing, end_line};
 use book::store::put_line;
+use lines::heads::Head;
 use lines::line_head;
+use text::source::Source;
 
 // The word of a token line, as a number in base 32: a is 1, z is 26.
 const TOK: u32 = (20 * 32 + 15) * 32 + 11;
@@ -37,39 +39,43 @@ pub enum Progress {
     // The text of the book ends before `book`, and the line at hand stands from there up to `at`; there are `count` tokens, or more if it is `KEPT_TOKENS`.
     Tokens { book: usize, at: usize, count: u32 },
     // A refusal that no further input changes.
-    Refused(u32),
+    Refused(Refusal),
 }
 
 // Whether a line is the end line.
-fn is_end(t: &[u8; 256], line: &[u8]) -> bool
-    requires { Lent t.now line.now }
-    ensures { result ≡ is_end line.now }
+fn is_end(line: &Source<'_>) -> bool
+    ensures { result ≡ is_end line.now.bytes.now }
 {
-    end_line(t, line, 0) == line.len()
+    end_line(line, 0) == line.bytes.len()
 }
 
-// What stands in a token line, if it is spelled right.
+// The numbers of a token line.
 #[derive(Clone, Copy)]
-struct TokenRead {
-    spelled: bool,
+struct Token {
     kind: u32,
     value: u32,
 }
 
-fn token_line(t: &[u8; 256], line: &[u8]) -> TokenRead
-    requires { Lent t.now line.now }
-    ensures { token_of line.now ≡ when_spelled result.spelled (result.kind ∷ result.value ∷ []) }
+// What stands in a token line, if it is spelled right.
+fn token_line(line: &Source<'_>) -> Option<Token>
+    ensures { token_of line.now.bytes.now ≡ numbers_in result }
 {
-    let a = line_head(t, line, 0, TOK, b"(tok ");
-    let kind = text::number(t, line, a);
-    let b = text::mark(t, line, kind.at, text::SPACE);
-    let value = text::number(t, line, b);
-    let end = closing(t, line, value.at);
-    TokenRead {
-        spelled: end == line.len(),
+    let head = Head {
+        word: TOK,
+        bytes: b"(tok ",
+    };
+    let a = line_head(line, 0, &head);
+    let kind = line.number(a);
+    let b = line.mark(kind.at, text::SPACE);
+    let value = line.number(b);
+    let end = closing(line, value.at);
+    if end != line.bytes.len() {
+        return None;
+    }
+    Some(Token {
         kind: kind.value,
         value: value.value,
-    }
+    })
 }
 
 // Whether a byte ends a line.
@@ -86,14 +92,18 @@ fn book_byte(t: &[u8; 256], line: usize, at: usize, b: u8, text: &mut [u8]) -> P
     ensures { (i : Input) → HoldsBook text.old line at i → (buffer : List ℕ) → Holds result text.new buffer (one_byte i b) }
 {
     if Book::MAX_TEXT <= at {
-        return Progress::Refused(1);
+        return Progress::Refused(Refusal::Lengths);
     }
     text[at] = b;
     let next = at + 1;
     if !is_feed(t, b) {
         return Progress::Book { line, at: next };
     }
-    if is_end(t, &text[line..next]) {
+    let last = Source {
+        classes: t,
+        bytes: &text[line..next],
+    };
+    if is_end(&last) {
         return Progress::Tokens {
             book: next,
             at: next,
@@ -107,11 +117,16 @@ fn book_byte(t: &[u8; 256], line: usize, at: usize, b: u8, text: &mut [u8]) -> P
 }
 
 // The numbers of one token more, if they are kept, and how many tokens are kept then.
-fn put_token(numbers: &mut [u32], count: u32, kind: u32, value: u32) -> u32
+fn put_token(numbers: &mut [u32], count: u32, token: Token) -> u32
     requires { KEPT_NUMBERS ≤ length numbers.old }
-    ensures { (ns : List ℕ) → Kept numbers.old count ns → Kept numbers.new result (ns ++ (kind ∷ value ∷ [])) }
+    ensures { (ns : List ℕ) → Kept numbers.old count ns → Kept numbers.new result (ns ++ (token.kind ∷ token.value ∷ [])) }
 {
-    put_line(numbers, KEPT_TOKENS as usize, count, &[kind, value]);
+    put_line(
+        numbers,
+        KEPT_TOKENS as usize,
+        count,
+        &[token.kind, token.value],
+    );
     if count < KEPT_TOKENS {
         return count + 1;
     }
@@ -133,7 +148,7 @@ fn token_byte(
         → Holds result text.new numbers.new (one_byte i b) }
 {
     if book + TOKEN_BYTES <= at {
-        return Progress::Refused(2);
+        return Progress::Refused(Refusal::Spelling);
     }
     text[at] = b;
     let next = at + 1;
@@ -144,11 +159,14 @@ fn token_byte(
             count,
         };
     }
-    let token = token_line(t, &text[book..next]);
-    if !token.spelled {
-        return Progress::Refused(2);
-    }
-    let kept = put_token(numbers, count, token.kind, token.value);
+    let line = Source {
+        classes: t,
+        bytes: &text[book..next],
+    };
+    let Some(token) = token_line(&line) else {
+        return Progress::Refused(Refusal::Spelling);
+    };
+    let kept = put_token(numbers, count, token);
     Progress::Tokens {
         book,
         at: book,
@@ -171,7 +189,7 @@ fn one_byte(
     match progress {
         Progress::Book { line, at } => book_byte(t, line, at, b, text),
         Progress::Tokens { book, at, count } => token_byte(t, book, at, count, b, text, numbers),
-        Progress::Refused(n) => Progress::Refused(n),
+        Progress::Refused(_) => progress,
     }
 }
 
@@ -188,10 +206,8 @@ pub fn all_bytes(
         → Holds result text.new numbers.new (all_bytes i bytes.now) }
 {
     let mut p = progress;
-    let mut k = 0;
-    while k < bytes.len() {
-        p = one_byte(t, p, bytes[k], text, numbers);
-        k += 1;
+    for &b in bytes {
+        p = one_byte(t, p, b, text, numbers);
     }
     p
 }

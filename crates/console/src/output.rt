@@ -1,13 +1,15 @@
 // The bytes of the answer, put into a buffer one after another; each function answers the place after what it put.
-ghost use Rattle.std.specs.Prelude.{◌≡◌, ◌++◌, ◌+◌, ◌*◌, ◌≤◌, ◌<◌, length};
+ghost use Rattle.std.specs.Prelude.{◌≡◌, ◌++◌, ◌+◌, ◌*◌, ◌≤◌, length};
 ghost use Rattle.grammar.specs.Limits.{ROW_WORDS};
 ghost use Rattle.grammar.specs.Format.Printer.{literal, numeral, each};
-ghost use Rattle.console.specs.Desk.{refused, answer_of, print_word, print_row, print_rows};
-ghost use Rattle.console.specs.Digits.{Wide};
+ghost use Rattle.book.specs.Refusals.{number_of};
+ghost use Rattle.console.specs.Desk.{refused, print_word, print_row, print_rows};
 ghost use Rattle.console.specs.Output.{Puts};
-ghost use Rattle.console.specs.Printing.{ROW_BYTES, OUTPUT_BYTES, Printable, Printed};
+ghost use Rattle.console.specs.Printing.{ROW_BYTES, OUTPUT_BYTES, Printable, answer_in, Printed};
 
 use book::Book;
+use book::refusal::Refusal;
+use itoa::Buffer;
 
 // The bytes of the longest row: `(row`, `)` and the line feed, and words of a space and ten digits.
 const ROW_BYTES: usize = 6 + 11 * Book::ROW_WORDS;
@@ -19,50 +21,17 @@ fn put_bytes(out: &mut [u8], at: usize, bytes: &[u8]) -> usize
     requires { at + length bytes.now ≤ length out.old }
     ensures { Puts (λ s. bytes.now ++ s) (length bytes.now) out.old at out.new result }
 {
-    let mut i = 0;
-    while i < bytes.len() {
-        out[at + i] = bytes[i];
-        i += 1;
-    }
-    at + i
+    let next = at + bytes.len();
+    out[at..next].copy_from_slice(bytes);
+    next
 }
 
-// How many digits a number has.
-fn width(n: u32) -> usize
-    ensures { Wide n result }
-{
-    let mut v = n;
-    let mut w: usize = 1;
-    while 10 <= v {
-        v = v / 10;
-        w += 1;
-    }
-    w
-}
-
-// The byte of a digit.
-fn digit(d: u32) -> u8
-    requires { d < 10 }
-    ensures { result ≡ 48 + d }
-{
-    48 + d as u8
-}
-
-// A number in decimal digits, the last one first.
+// A number in decimal digits.
 fn put_number(out: &mut [u8], at: usize, n: u32) -> usize
     requires { at + 10 ≤ length out.old }
     ensures { Puts (numeral n) 10 out.old at out.new result }
 {
-    let next = at + width(n);
-    let mut i = next - 1;
-    let mut v = n;
-    while 10 <= v {
-        out[i] = digit(v % 10);
-        v = v / 10;
-        i -= 1;
-    }
-    out[i] = digit(v);
-    next
+    put_bytes(out, at, Buffer::new().format(n).as_bytes())
 }
 
 // A space and a word.
@@ -79,10 +48,8 @@ fn put_words(out: &mut [u8], at: usize, words: &[u32]) -> usize
     ensures { Puts (each print_word words.now) (11 * length words.now) out.old at out.new result }
 {
     let mut p = at;
-    let mut i = 0;
-    while i < words.len() {
-        p = put_word(out, p, words[i]);
-        i += 1;
+    for &word in words {
+        p = put_word(out, p, word);
     }
     p
 }
@@ -102,12 +69,9 @@ fn put_rows(out: &mut [u8], at: usize, rows: &[u32], count: usize) -> usize
     ensures { Puts (print_rows count rows.now) (ROW_BYTES * count) out.old at out.new result }
 {
     let mut p = at;
-    let mut k = 0;
-    while k < count {
+    for k in 0..count {
         let first = Book::ROW_WORDS * k;
-        let last = first + Book::ROW_WORDS;
-        p = put_row(out, p, &rows[first..last]);
-        k += 1;
+        p = put_row(out, p, &rows[first..first + Book::ROW_WORDS]);
     }
     p
 }
@@ -124,21 +88,23 @@ fn put_last(out: &mut [u8], at: usize, word: &[u8], n: u32) -> usize
 }
 
 // The refusal alone.
-pub fn put_refused(out: &mut [u8], number: u32) -> usize
+pub fn put_refused(out: &mut [u8], refusal: Refusal) -> usize
     requires { OUTPUT_BYTES ≤ length out.old }
-    ensures { Printed (refused number) out.new result }
+    ensures { Printed (refused (number_of refusal)) out.new result }
 {
-    put_last(out, 0, b"(refused ", number)
+    put_last(out, 0, b"(refused ", refusal.number())
 }
 
 // The whole answer: a refusal, or the rows and their count.
-pub fn put_answer(out: &mut [u8], number: u32, count: u32, rows: &[u32]) -> usize
-    requires { Printable number count rows.now out.old }
-    ensures { Printed (answer_of number count rows.now) out.new result }
+pub fn put_answer(out: &mut [u8], answer: Result<u32, Refusal>, rows: &[u32]) -> usize
+    requires { Printable answer rows.now out.old }
+    ensures { Printed (answer_in answer rows.now) out.new result }
 {
-    if number != 0 {
-        return put_refused(out, number);
+    match answer {
+        Ok(count) => {
+            let a = put_rows(out, 0, rows, count as usize);
+            put_last(out, a, b"(accepted ", count)
+        }
+        Err(refusal) => put_refused(out, refusal),
     }
-    let a = put_rows(out, 0, rows, count as usize);
-    put_last(out, a, b"(accepted ", count)
 }

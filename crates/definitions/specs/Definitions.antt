@@ -1,6 +1,6 @@
 -- The lines of definitions with the steps of their expressions kept, as code reads them: `(inhdef P J iK e)` and `(syndef P sK e)` alike, with
 -- position 0 for a synthesized attribute. Assumes nothing.
-use Rattle.std.specs.Prelude.{ℕ, Bool, true, false, List, [], ◌∷◌}
+use Rattle.std.specs.Prelude.{ℕ, List, [], ◌∷◌}
 use Rattle.text.specs.Class.{space}
 use Rattle.text.specs.Rest.{must, mark}
 use Rattle.text.specs.Numeral.{word_of}
@@ -9,6 +9,8 @@ use Rattle.grammar.specs.Data.Postfix.{Step, term_of}
 use Rattle.grammar.specs.Format.Reader.{Reader, pure, ◌>>=◌, ◌>>◌, decimal_number, opening, closing, naming, section}
 use Rattle.grammar.specs.Format.Expression.{expression_steps}
 use Rattle.grammar.specs.Format.Parse.{is_before}
+use Rattle.book.specs.declared.kind.Kind.{Kind}
+use Rattle.book.specs.declared.kind.Kind.TheVariants.{Inherited, Synthesized}
 use Rattle.book.specs.Layout.{definition_words}
 
 -- what a line defines
@@ -58,28 +60,28 @@ synthesized_defined = do
   K ← decimal_number
   pure (record { rule = P; position = 0; attribute = K })
 
-unfoldable pub defined_by : Bool → Reader Defined
-defined_by true = inherited_defined
-defined_by false = synthesized_defined
+unfoldable pub defined_by : Kind → Reader Defined
+defined_by Inherited = inherited_defined
+defined_by Synthesized = synthesized_defined
 
 -- a line after its head, of inherited or of synthesized attributes; `last` is the key of the line before
-unfoldable pub definition : Bool → List ℕ → Reader Definition
-definition inherited last = do
-  d ← defined_by inherited
+unfoldable pub definition : Kind → List ℕ → Reader Definition
+definition kind last = do
+  d ← defined_by kind
   mark space
   steps ← expression_steps
   closing
   must (is_before last (ascending d))
   pure (record { defined = d; steps = steps })
 
-unfoldable pub word_for : Bool → ℕ
-word_for true = word_of "inhdef"
-word_for false = word_of "syndef"
+abbrev pub word_for : Kind → ℕ
+word_for Inherited = word_of "inhdef"
+word_for Synthesized = word_of "syndef"
 
-unfoldable pub definitions : Bool → Reader (List Definition)
-definitions inherited = section (opening (word_for inherited)) (definition inherited) next_key []
+unfoldable pub definitions : Kind → Reader (List Definition)
+definitions kind = section (opening (word_for kind)) (definition kind) next_key []
 
 -- opens every definition of this module
 unfoldable pub opens : Unit {0}
-unfolding inherited_of synthesized_of words_of ascending inherited_defined synthesized_defined defined_by definition word_for definitions
+unfolding inherited_of synthesized_of words_of ascending inherited_defined synthesized_defined defined_by definition definitions
 opens = tt

@@ -16,6 +16,8 @@ use Rattle.grammar.specs.Format.ReaderLaws.{closing-got, opening-less, reading}
 use Rattle.grammar.specs.Format.Expression.{expression_steps, expression}
 use Rattle.grammar.specs.Format.ExpressionReads.{expression-steps}
 use Rattle.grammar.specs.Format.ExpressionWas.{expression-was}
+use Rattle.book.specs.declared.kind.Kind.{Kind}
+use Rattle.book.specs.declared.kind.Kind.TheVariants.{Inherited, Synthesized}
 use Rattle.book.specs.Layout.{put_line, store_lines}
 use Rattle.book.specs.Held.{inherited_words, synthesized_words}
 use Rattle.definitions.specs.Definitions.{
@@ -43,31 +45,31 @@ unfolding reading
 close-ends r = refl
 
 -- the steps of a line that was read
-line-steps : {r : List ℕ} (inherited : Bool) (last : List ℕ) (o : Rest) → remaining (definition inherited last o) ≡ left r
-    → postfix (term_of (result (definition inherited last o)).steps) ≡ (result (definition inherited last o)).steps
+line-steps : {r : List ℕ} (kind : Kind) (last : List ℕ) (o : Rest) → remaining (definition kind last o) ≡ left r
+    → postfix (term_of (result (definition kind last o)).steps) ≡ (result (definition kind last o)).steps
 unfolding definition result remaining
-line-steps {r} inherited last o e = must-got _ _ e λ t e₁. closing-got _ e₁ λ e₂. steps_are _ e₂ (close-ends r)
+line-steps {r} kind last o e = must-got _ _ e λ t e₁. closing-got _ e₁ λ e₂. steps_are _ e₂ (close-ends r)
 
 -- a book's definitions, in the words of which the lines are kept
-record Kept {B : Type 0} (inherited : Bool) (of : Definition → B) (words : B → List ℕ) : Type 0 where
-  same_words : (last : List ℕ) (o : Rest) → postfix (term_of (result (definition inherited last o)).steps) ≡ (result (definition inherited last o)).steps
-      → words_of (result (definition inherited last o)) ≡ words (of (result (definition inherited last o)))
+record Kept {B : Type 0} (kind : Kind) (of : Definition → B) (words : B → List ℕ) : Type 0 where
+  same_words : (last : List ℕ) (o : Rest) → postfix (term_of (result (definition kind last o)).steps) ≡ (result (definition kind last o)).steps
+      → words_of (result (definition kind last o)) ≡ words (of (result (definition kind last o)))
 
-inherited-kept : Kept true inherited_of inherited_words
+inherited-kept : Kept Inherited inherited_of inherited_words
 unfolding words_of inherited_of
 inherited-kept = record { same_words = λ last o e. rw e }
 
-synthesized-kept : Kept false synthesized_of synthesized_words
+synthesized-kept : Kept Synthesized synthesized_of synthesized_words
 unfolding words_of synthesized_of definition defined_by synthesized_defined result
 synthesized-kept = record { same_words = λ last o e. rw e }
 
-module _ {B : Type 0} (inherited : Bool) (of : Definition → B) (words : B → List ℕ) (K : Kept inherited of words) where
+module _ {B : Type 0} (kind : Kind) (of : Definition → B) (words : B → List ℕ) (K : Kept kind of words) where
   lines : ℕ → List ℕ → Reader (List Definition)
-  lines = many (opening (word_for inherited)) (definition inherited) next_key
+  lines = many (opening (word_for kind)) (definition kind) next_key
 
-  none_found : (t : Bool) → found (opening (word_for inherited) lost) ≡ t → t ≡ false
+  none_found : (t : Bool) → found (opening (word_for kind) lost) ≡ t → t ≡ false
   none_found false e = refl
-  none_found true e = absurd (unfold size in let z : ⊥ = omega (arith, opening-less (word_for inherited) lost e) in z)
+  none_found true e = absurd (unfold size in let z : ⊥ = omega (arith, opening-less (word_for kind) lost e) in z)
 
   lost-lines : (fuel : ℕ) (last : List ℕ) → remaining (lines fuel last lost) ≡ lost
   unfolding lines many remaining
@@ -75,8 +77,8 @@ module _ {B : Type 0} (inherited : Bool) (of : Definition → B) (words : B → 
   lost-lines (suc fuel) last = rw (none_found _ refl, many)
 
   -- a line whose head was found, and those after it
-  more-lines : (fuel : ℕ) (last : List ℕ) (o : Rest) (p : Parsed Definition) → found (opening (word_for inherited) o) ≡ true
-      → definition inherited last (opening (word_for inherited) o) ≡ p
+  more-lines : (fuel : ℕ) (last : List ℕ) (o : Rest) (p : Parsed Definition) → found (opening (word_for kind) o) ≡ true
+      → definition kind last (opening (word_for kind) o) ≡ p
       → lines (suc fuel) last o
       ≡ parsed (result p ∷ result (lines fuel (next_key last (result p)) (remaining p))) (remaining (lines fuel (next_key last (result p)) (remaining p)))
   unfolding lines many result remaining
@@ -93,9 +95,9 @@ module _ {B : Type 0} (inherited : Bool) (of : Definition → B) (words : B → 
   unfolding store_lines result remaining
   lines-kept zero last o room k out e = unfold lines many in refl
   lines-kept {r} (suc fuel) last o room k out e =
-      go (found (opening (word_for inherited) o)) (definition inherited last (opening (word_for inherited) o)) refl refl (lines-kept fuel)
+      go (found (opening (word_for kind) o)) (definition kind last (opening (word_for kind) o)) refl refl (lines-kept fuel)
     where
-      go : (t : Bool) (p : Parsed Definition) → found (opening (word_for inherited) o) ≡ t → definition inherited last (opening (word_for inherited) o) ≡ p
+      go : (t : Bool) (p : Parsed Definition) → found (opening (word_for kind) o) ≡ t → definition kind last (opening (word_for kind) o) ≡ p
           → ((last : List ℕ) (o : Rest) (room k : ℕ) (out : List ℕ) → remaining (lines fuel last o) ≡ left r
           → store_lines words_of room k (result (lines fuel last o)) out ≡ store_lines words room k (map of (result (lines fuel last o))) out)
           → store_lines words_of room k (result (lines (suc fuel) last o)) out ≡ store_lines words room k (map of (result (lines (suc fuel) last o))) out
@@ -106,23 +108,23 @@ module _ {B : Type 0} (inherited : Bool) (of : Definition → B) (words : B → 
       go true (parsed d (left r₁)) h q ih =
           let m = more-lines fuel last o (parsed d (left r₁)) h q in
           let here : words_of d ≡ words (of d) =
-          rw q at (K.same_words last (opening (word_for inherited) o) (line-steps inherited last (opening (word_for inherited) o) (ap remaining q))) in
+          rw q at (K.same_words last (opening (word_for kind) o) (line-steps kind last (opening (word_for kind) o) (ap remaining q))) in
           let more = ih (next_key last d) (left r₁) room (suc k) (put_line room k (words (of d)) out) (sym (ap remaining m) ∙ e) in
           ap (λ p. store_lines words_of room k (result p) out) m
           ∙ (one_kept d (result (lines fuel (next_key last d) (left r₁))) room k out here more
           ∙ sym (ap (λ p. store_lines words room k (map of (result p)) out) m))
 
-  section-kept : {r : List ℕ} (o : Rest) (room k : ℕ) (out : List ℕ) → remaining (definitions inherited o) ≡ left r
-      → store_lines words_of room k (result (definitions inherited o)) out ≡ store_lines words room k (map of (result (definitions inherited o))) out
+  section-kept : {r : List ℕ} (o : Rest) (room k : ℕ) (out : List ℕ) → remaining (definitions kind o) ≡ left r
+      → store_lines words_of room k (result (definitions kind o)) out ≡ store_lines words room k (map of (result (definitions kind o))) out
   unfolding definitions section lines
   section-kept o room k out e = lines-kept (size o) [] o room k out e
 
 -- the lines of a section that was read, in the words of the book's definitions
 module _ {r : List ℕ} (o : Rest) (room k : ℕ) (out : List ℕ) where
-  pub inherited-stored : remaining (definitions true o) ≡ left r
-      → store_lines words_of room k (result (definitions true o)) out ≡ store_lines inherited_words room k (map inherited_of (result (definitions true o))) out
-  inherited-stored e = section-kept true inherited_of inherited_words inherited-kept o room k out e
+  pub inherited-stored : remaining (definitions Inherited o) ≡ left r
+      → store_lines words_of room k (result (definitions Inherited o)) out ≡ store_lines inherited_words room k (map inherited_of (result (definitions Inherited o))) out
+  inherited-stored e = section-kept Inherited inherited_of inherited_words inherited-kept o room k out e
 
-  pub synthesized-stored : remaining (definitions false o) ≡ left r
-      → store_lines words_of room k (result (definitions false o)) out ≡ store_lines synthesized_words room k (map synthesized_of (result (definitions false o))) out
-  synthesized-stored e = section-kept false synthesized_of synthesized_words synthesized-kept o room k out e
+  pub synthesized-stored : remaining (definitions Synthesized o) ≡ left r
+      → store_lines words_of room k (result (definitions Synthesized o)) out ≡ store_lines synthesized_words room k (map synthesized_of (result (definitions Synthesized o))) out
+  synthesized-stored e = section-kept Synthesized synthesized_of synthesized_words synthesized-kept o room k out e

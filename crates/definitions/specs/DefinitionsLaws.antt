@@ -9,6 +9,7 @@ use Rattle.grammar.specs.Format.Ordered.{inherited_key, synthesized_key}
 use Rattle.grammar.specs.Format.Reader.{parsed, result, remaining, Reader, opening, many, section}
 use Rattle.grammar.specs.Format.Expression.{expression}
 use Rattle.grammar.specs.Format.Parse.{is_before, inherited_definition_line, synthesized_definition_line, inherited_definition_lines, synthesized_definition_lines}
+use Rattle.book.specs.declared.kind.Kind.TheVariants.{Inherited, Synthesized}
 use Rattle.definitions.specs.Definitions.{inherited_of, synthesized_of, ascending, next_key, inherited_defined, synthesized_defined, defined_by}
 use Rattle.definitions.specs.Definitions.{definition, word_for, definitions}
 
@@ -55,7 +56,7 @@ unfolding is_before
 before_same last other P K no_key = refl
 before_same last other P K same_key = refl
 
-inherited-same : Same inherited_of (λ (s t : List ℕ). s ≡ t) (definition true) next_key inherited_definition_line (λ last. inherited_key)
+inherited-same : Same inherited_of (λ (s t : List ℕ). s ≡ t) (definition Inherited) next_key inherited_definition_line (λ last. inherited_key)
 unfolding definition defined_by inherited_defined inherited_definition_line inherited_of ascending inherited_key expression result remaining
 inherited-same =
     record {
@@ -64,7 +65,7 @@ inherited-same =
       same_next = λ s t r o. refl;
     }
 
-synthesized-same : Same synthesized_of SameKey (definition false) next_key synthesized_definition_line (λ last. synthesized_key)
+synthesized-same : Same synthesized_of SameKey (definition Synthesized) next_key synthesized_definition_line (λ last. synthesized_key)
 unfolding definition defined_by synthesized_defined synthesized_definition_line synthesized_of ascending synthesized_key expression result remaining
 synthesized-same =
     record {
@@ -73,13 +74,13 @@ synthesized-same =
       same_next = λ s t r o. same_key;
     }
 
-pub inherited-lines : (o : Rest) → inherited_definition_lines o ≡ parsed (map inherited_of (result (definitions true o))) (remaining (definitions true o))
-unfolding inherited_definition_lines definitions word_for
+pub inherited-lines : (o : Rest) → inherited_definition_lines o ≡ parsed (map inherited_of (result (definitions Inherited o))) (remaining (definitions Inherited o))
+unfolding inherited_definition_lines definitions
 inherited-lines o =
-    section-map (opening (word_for true)) inherited_of _ (definition true) next_key inherited_definition_line (λ last. inherited_key) inherited-same [] [] refl o
+    section-map (opening (word_for Inherited)) inherited_of _ (definition Inherited) next_key inherited_definition_line (λ last. inherited_key) inherited-same [] [] refl o
 
-pub synthesized-lines : (o : Rest) → synthesized_definition_lines o ≡ parsed (map synthesized_of (result (definitions false o))) (remaining (definitions false o))
-unfolding synthesized_definition_lines definitions word_for
+pub synthesized-lines : (o : Rest) → synthesized_definition_lines o ≡ parsed (map synthesized_of (result (definitions Synthesized o))) (remaining (definitions Synthesized o))
+unfolding synthesized_definition_lines definitions
 synthesized-lines o =
-    section-map (opening (word_for false)) synthesized_of _ (definition false) next_key synthesized_definition_line (λ last. synthesized_key) synthesized-same [] []
+    section-map (opening (word_for Synthesized)) synthesized_of _ (definition Synthesized) next_key synthesized_definition_line (λ last. synthesized_key) synthesized-same [] []
     no_key o

@@ -1,27 +1,15 @@
 -- The words of a definition's line, as code makes them: nodes written into a line of zeros, and four numbers before them, in the line's part of an array.
 -- Assumes nothing.
 use Rattle.std.specs.Prelude.{ℕ, zero, suc, ◌+◌, ◌-◌, ◌*◌, ◌<◌, ◌≤◌, ◌≡◌, refl, List, [], ◌∷◌, ◌++◌, length, set, replicate, take, drop}
-use Rattle.std.proofs.Common.{sym, ap, ◌∙◌, append_assoc, arith, length-append, length-drop, take-append-drop, length-take-le, lt-ltb}
-use Rattle.std.proofs.lemmas.List.{set_at}
-use Rattle.std.proofs.Math.Seq.{append_snoc}
+use Rattle.std.proofs.Common.{sym, ap, ◌∙◌, append_assoc, arith, length-append, lt-ltb}
 use Rattle.grammar.specs.Limits.{MAX_NODES}
 use Rattle.grammar.specs.Data.Term.{add, sub, min, max}
 use Rattle.grammar.specs.Data.Book.{Place, own, at, val}
 use Rattle.grammar.specs.Data.Postfix.{Step, push, load, operate, select}
-use Rattle.book.specs.Layout.{write_at, put_line, node_words, nodes_words, definition_words}
-use Rattle.book.specs.LayoutLaws.{put_in, room_for}
+use Rattle.book.specs.Layout.{put_line, node_words, nodes_words, definition_words}
+use Rattle.book.specs.LayoutLaws.{write-over, part-written, put_in, room_for}
 use Rattle.definitions.specs.Expressions.{DEFINITION_WORDS, put_node, store_nodes}
 use Rattle.definitions.specs.ExpressionsLaws.{node-out, three-words}
-
--- words written over as many others
-write-over : (n : ℕ) (front ws olds rest : List ℕ) → length front ≡ n → length ws ≡ length olds → write_at n ws (front ++ (olds ++ rest)) ≡ front ++ (ws ++ rest)
-unfolding write_at
-write-over n front [] [] rest e h = refl
-write-over n front [] (x ∷ olds) rest e h = absurd (let z : ⊥ = omega arith in z)
-write-over n front (w ∷ ws) [] rest e h = absurd (let z : ⊥ = omega arith in z)
-write-over n front (w ∷ ws) (x ∷ olds) rest e h =
-    rw (set_at front x (olds ++ rest) w n e, ← append_snoc front w (olds ++ rest), ← append_snoc front w (ws ++ rest))
-    (write-over (suc n) (front ++ (w ∷ [])) ws olds rest (simp length-append (omega arith)) (omega arith))
 
 node-front : (s : Step Place) (rest : List ℕ) → node_words s [] ++ rest ≡ node_words s rest
 unfolding node_words
@@ -72,13 +60,6 @@ line_back k line out =
 pub line-in-place : (room k : ℕ) (line out : List ℕ) → k < room → room * DEFINITION_WORDS ≤ length out → length line ≡ DEFINITION_WORDS
     → line_back k line out ≡ put_line room k line out
 line-in-place room k line out h fits long =
-    let place : ℕ = k * DEFINITION_WORDS in
-    let width : place + DEFINITION_WORDS - place ≡ DEFINITION_WORDS = omega arith in
-    let within = room_for DEFINITION_WORDS h fits in
-    let front : length (take place out) ≡ place = length-take-le place out (omega (arith, within)) in
-    let olds : length (take DEFINITION_WORDS (drop place out)) ≡ DEFINITION_WORDS =
-    length-take-le DEFINITION_WORDS (drop place out) (simp length-drop (omega (arith, within))) in
-    let over = write-over place (take place out) line (take DEFINITION_WORDS (drop place out)) (drop DEFINITION_WORDS (drop place out))
-    front (long ∙ sym olds) in
+    let width : k * DEFINITION_WORDS + DEFINITION_WORDS - k * DEFINITION_WORDS ≡ DEFINITION_WORDS = omega arith in
     rw (put_in room k line out h, long, width)
-    (sym over ∙ rw (take-append-drop DEFINITION_WORDS (drop place out), take-append-drop place out))
+    (part-written (k * DEFINITION_WORDS) DEFINITION_WORDS line out (sym long) (room_for DEFINITION_WORDS h fits))

@@ -1,7 +1,7 @@
 -- Lines of definitions in code: the words of one line, and what the loop over them keeps true. The lines stand in the array from place `first` on.
 -- Assumes nothing.
-use Rattle.std.specs.Prelude.{ℕ, suc, ◌+◌, ◌*◌, ◌≤◌, ◌<◌, ◌≡◌, refl, Bool, true, false, set, replicate}
-use Rattle.std.proofs.Common.{sym, ◌∙◌, arith, add-one}
+use Rattle.std.specs.Prelude.{ℕ, suc, ◌+◌, ◌*◌, ◌≤◌, ◌<◌, ◌≡◌, refl, Bool, set, replicate}
+use Rattle.std.proofs.Common.{sym, ◌∙◌, arith}
 use Rattle.std.proofs.Math.Path.{ap}
 use mathlib.Core.List.{List, [], ◌∷◌}
 use Rattle.std.proofs.Math.ListN.{length}
@@ -14,11 +14,12 @@ use Rattle.grammar.specs.Format.ReaderLaws.{shrinking, opening-less}
 use Rattle.grammar.specs.Format.Expression.{expression_steps}
 use Rattle.grammar.specs.Format.ExpressionReads.{steps-size}
 use Rattle.grammar.specs.Format.Parse.{is_before}
+use Rattle.book.specs.declared.kind.Kind.{Kind}
+use Rattle.book.specs.declared.kind.Kind.TheVariants.{Inherited, Synthesized}
 use Rattle.book.specs.declared.order.Key.{Key}
 use Rattle.book.specs.Layout.{definition_words, put_line, store_lines}
 use Rattle.book.specs.LayoutLaws.{length-put, put-out}
 use Rattle.book.specs.Sections.{Gives, Puts, Shrinks, size-section, Reading, keep_from, reading-start, reading-less, reading-turn, reading-done}
-use Rattle.book.specs.Order.{last_key}
 use Rattle.definitions.specs.Expressions.{DEFINITION_WORDS}
 use Rattle.definitions.specs.ExpressionsLoop.{Expresses}
 use Rattle.definitions.specs.Definitions.{Defined, Definition, words_of, ascending, next_key, inherited_defined, synthesized_defined, defined_by}
@@ -34,12 +35,12 @@ defined_of k = record { rule = k.first; position = k.second; attribute = k.third
 module _ {text : List ℕ} {at P K p₁ p₂ : ℕ} where
   pub inherited-names : {J p₃ : ℕ} (a b : ℕ) → Reads decimal text at P p₁ → rest text a ≡ mark space (rest text p₁) → Reads decimal text a J p₂
       → rest text b ≡ naming (word_of "i") (rest text p₂) → Reads decimal text b K p₃
-      → Gives (defined_by true (rest text at)) text (record { rule = P; position = J; attribute = K }) p₃
+      → Gives (defined_by Inherited (rest text at)) text (record { rule = P; position = J; attribute = K }) p₃
   unfolding defined_by inherited_defined result remaining
   inherited-names a b r₁ e r₂ f r₃ = record { result_is = cc; remaining_is = cc }
 
   pub synthesized-names : (a : ℕ) → Reads decimal text at P p₁ → rest text a ≡ naming (word_of "s") (rest text p₁) → Reads decimal text a K p₂
-      → Gives (defined_by false (rest text at)) text (record { rule = P; position = 0; attribute = K }) p₂
+      → Gives (defined_by Synthesized (rest text at)) text (record { rule = P; position = 0; attribute = K }) p₂
   unfolding defined_by synthesized_defined result remaining
   synthesized-names a r₁ e r₂ = record { result_is = cc; remaining_is = cc }
 
@@ -78,12 +79,12 @@ pub record Keeps (p : Parsed Definition) (room place : ℕ) (text out₀ : List 
   pub defined_is : d ≡ (result p).defined
   pub puts : Puts words_of room place p text out₀ next out
 
-pub line_kept : {text out₀ out : List ℕ} {d : Defined} {p₁ p₂ p₃ room place : ℕ} (inherited fine : Bool) (last : List ℕ) (at : ℕ)
-    → Gives (defined_by inherited (rest text at)) text d p₁
+pub line_kept : {text out₀ out : List ℕ} {d : Defined} {p₁ p₂ p₃ room place : ℕ} (kind : Kind) (fine : Bool) (last : List ℕ) (at : ℕ)
+    → Gives (defined_by kind (rest text at)) text d p₁
     → Stores d (rest text p₁) room place text out₀ p₂ out → fine ≡ is_before last (ascending d)
-    → rest text p₃ ≡ must fine (rest text p₂) → Keeps (definition inherited last (rest text at)) room place text out₀ d p₃ out
+    → rest text p₃ ≡ must fine (rest text p₂) → Keeps (definition kind last (rest text at)) room place text out₀ d p₃ out
 unfolding definition words_of result remaining
-line_kept inherited fine last at g s b r =
+line_kept kind fine last at g s b r =
     record {
       defined_is = g.result_is;
       puts = record { remaining_is = cc; array_is = cc };
@@ -94,19 +95,19 @@ line_kept inherited fine last at g s b r =
 most-steps : (m : ℕ) (o : Rest) → size o ≤ m → size (remaining (expression_steps o)) ≤ m
 most-steps m o h = omega (arith, steps-size o)
 
-most-defined : (m : ℕ) (o : Rest) → size o ≤ m → (inherited : Bool) → size (remaining (defined_by inherited o)) ≤ m
+most-defined : (m : ℕ) (o : Rest) → size o ≤ m → (kind : Kind) → size (remaining (defined_by kind o)) ≤ m
 unfolding defined_by inherited_defined synthesized_defined remaining
-most-defined m o h true = search shrinking depth 20
-most-defined m o h false = search shrinking depth 20
+most-defined m o h Inherited = search shrinking depth 20
+most-defined m o h Synthesized = search shrinking depth 20
 
-definition-shrinks : (inherited : Bool) → Shrinks (opening (word_for inherited)) (definition inherited)
+definition-shrinks : (kind : Kind) → Shrinks (opening (word_for kind)) (definition kind)
 unfolding definition remaining
-definition-shrinks inherited =
-    record { head_less = opening-less (word_for inherited); one_less = λ last o. search (shrinking, most-steps, most-defined) depth 20 }
+definition-shrinks kind =
+    record { head_less = opening-less (word_for kind); one_less = λ last o. search (shrinking, most-steps, most-defined) depth 20 }
 
-pub definitions-size : (inherited : Bool) (o : Rest) → size (remaining (definitions inherited o)) ≤ size o
+pub definitions-size : (kind : Kind) (o : Rest) → size (remaining (definitions kind o)) ≤ size o
 unfolding definitions
-definitions-size inherited o = size-section (opening (word_for inherited)) (definition inherited) next_key (definition-shrinks inherited) [] o
+definitions-size kind o = size-section (opening (word_for kind)) (definition kind) next_key (definition-shrinks kind) [] o
 
 -- line k at its place
 unfoldable pub keep_first : ℕ → ℕ → ℕ → Definition → List ℕ → List ℕ
@@ -128,26 +129,26 @@ pub record Defines (p : Parsed (List Definition)) (room first : ℕ) (text out�
   pub array_is : out ≡ store_lines words_of room first (result p) out₀
 
 -- amid a section: the line before has the key `last`
-pub record Defining (inherited : Bool) (room first : ℕ) (text : List ℕ) (start : Parsed (List Definition)) (out₀ last : List ℕ) (k at : ℕ) (out : List ℕ)
+pub record Defining (kind : Kind) (room first : ℕ) (text : List ℕ) (start : Parsed (List Definition)) (out₀ last : List ℕ) (k at : ℕ) (out : List ℕ)
     : Type 0 where
   pub same_length : length out ≡ length out₀
-  pub reading : Reading (opening (word_for inherited)) (definition inherited) next_key (keep_first room first)
-      text start out₀ (last_key k last) k at out
+  pub reading : Reading (opening (word_for kind)) (definition kind) next_key (keep_first room first)
+      text start out₀ last k at out
 
-module _ (inherited : Bool) (room first : ℕ) (text : List ℕ) where
-  pub defining-start : (last : List ℕ) (at : ℕ) (out : List ℕ) → Defining inherited room first text (definitions inherited (rest text at)) out last 0 at out
-  unfolding definitions last_key
-  defining-start last at out =
+module _ (kind : Kind) (room first : ℕ) (text : List ℕ) where
+  pub defining-start : (at : ℕ) (out : List ℕ) → Defining kind room first text (definitions kind (rest text at)) out [] 0 at out
+  unfolding definitions
+  defining-start at out =
       record {
         same_length = refl;
-        reading = reading-start (opening (word_for inherited)) (definition inherited) next_key (keep_first room first) (definition-shrinks inherited) text [] at out;
+        reading = reading-start (opening (word_for kind)) (definition kind) next_key (keep_first room first) (definition-shrinks kind) text [] at out;
       }
 
-  module _ {start : Parsed (List Definition)} {out₀ out last : List ℕ} {k at a : ℕ} (r : Defining inherited room first text start out₀ last k at out)
-      (e : rest text a ≡ opening (word_for inherited) (rest text at)) where
+  module _ {start : Parsed (List Definition)} {out₀ out last : List ℕ} {k at a : ℕ} (r : Defining kind room first text start out₀ last k at out)
+      (e : rest text a ≡ opening (word_for kind) (rest text at)) where
     pub defining-done : length text < a → Defines start room first text out₀ k at out
     defining-done h =
-        let g = reading-done (opening (word_for inherited)) (definition inherited) next_key (keep_first room first) (definition-shrinks inherited) text
+        let g = reading-done (opening (word_for kind)) (definition kind) next_key (keep_first room first) (definition-shrinks kind) text
         r.reading e h in
         let z : first + 0 ≡ first = omega arith in
         record {
@@ -158,22 +159,22 @@ module _ (inherited : Bool) (room first : ℕ) (text : List ℕ) where
         }
 
     module _ {d : Defined} {at' : ℕ} {out' : List ℕ} (h : a ≤ length text)
-        (l : Keeps (definition inherited (last_key k last) (rest text a)) room (first + k) text out d at' out') where
+        (l : Keeps (definition kind last (rest text a)) room (first + k) text out d at' out') where
       pub defining-less : size (rest text at') < size (rest text at)
       defining-less =
-          reading-less (opening (word_for inherited)) (definition inherited) next_key (keep_first room first) (definition-shrinks inherited) text
+          reading-less (opening (word_for kind)) (definition kind) next_key (keep_first room first) (definition-shrinks kind) text
           r.reading e h l.puts.remaining_is
 
-      pub defining-turn : Defining inherited room first text start out₀ (ascending d) (k + 1) at' out'
-      unfolding keep_first last_key
+      pub defining-turn : Defining kind room first text start out₀ (ascending d) (k + 1) at' out'
+      unfolding keep_first
       defining-turn =
           record {
             same_length =
                 ap length l.puts.array_is
-                ∙ (length-put room (first + k) (words_of (result (definition inherited (last_key k last) (rest text a)))) out ∙ r.same_length);
+                ∙ (length-put room (first + k) (words_of (result (definition kind last (rest text a)))) out ∙ r.same_length);
             reading =
-                reading-turn (opening (word_for inherited)) (definition inherited) next_key (keep_first room first) (definition-shrinks inherited) text
-                r.reading e h l.puts.remaining_is (rw (add-one k) (ap ascending l.defined_is)) l.puts.array_is;
+                reading-turn (opening (word_for kind)) (definition kind) next_key (keep_first room first) (definition-shrinks kind) text
+                r.reading e h l.puts.remaining_is (ap ascending l.defined_is) l.puts.array_is;
           }
 
 -- opens every definition of this module

@@ -1,12 +1,13 @@
 -- What a line of a definition defines, where its numbers are short: by the bytes.
 -- Assumes nothing.
-use Rattle.std.specs.Prelude.{ℕ, ◌+◌, ◌-◌, ◌≤◌, ◌≡◌, true, false, List, ◌∷◌, length, get_or, drop}
+use Rattle.std.specs.Prelude.{ℕ, ◌+◌, ◌-◌, ◌≤◌, ◌≡◌, List, ◌∷◌, length, get_or, drop}
 use Rattle.std.proofs.Common.{arith, sym, ap, ◌∙◌}
 use Rattle.text.specs.Rest.{rest, left}
 use Rattle.text.proofs.RestLaws.{rest_in, drop_more}
 use Rattle.text.specs.Numeral.{decimal, write, word_of}
 use Rattle.grammar.specs.Format.Reader.{naming}
 use Rattle.grammar.specs.Format.ReaderLaws.{reading, word-ends}
+use Rattle.book.specs.declared.kind.Kind.TheVariants.{Inherited, Synthesized}
 use Rattle.book.specs.Sections.{Gives}
 use Rattle.definitions.specs.Ended.{Stands, stands-stop, stands-reads, stands-space}
 use Rattle.definitions.specs.Definitions.{defined_by}
@@ -35,14 +36,14 @@ module _ {text : List ℕ} {at P a K b : ℕ} (letter word : ℕ)
 
 module _ {text : List ℕ} {at P a : ℕ} (l : at + 10 ≤ length text) (p : Stands text at P 32 a) where
   pub inherited-short : {J b K c : ℕ} → Stands text a J 32 b → get_or text b 0 ≡ 105 → Stands text (b + 1) K 32 c
-      → Gives (defined_by true (rest text at)) text (record { rule = P; position = J; attribute = K }) (c - 1)
+      → Gives (defined_by Inherited (rest text at)) text (record { rule = P; position = J; attribute = K }) (c - 1)
   inherited-short {b = b} j e k =
       inherited-names a (b + 1) (stands-reads p (omega (arith, p.near))) (stands-space p (omega (arith, p.near)))
       (stands-reads j (omega (arith, p.near, j.near))) (named 105 (word_of "i") names-inherited j e k (omega (arith, p.near, j.near, k.near)))
       (stands-reads k (omega (arith, p.near, j.near, k.near)))
 
   pub synthesized-short : {K b : ℕ} → get_or text a 0 ≡ 115 → Stands text (a + 1) K 32 b
-      → Gives (defined_by false (rest text at)) text (record { rule = P; position = 0; attribute = K }) (b - 1)
+      → Gives (defined_by Synthesized (rest text at)) text (record { rule = P; position = 0; attribute = K }) (b - 1)
   synthesized-short e k =
       synthesized-names (a + 1) (stands-reads p (omega (arith, p.near)))
       (named 115 (word_of "s") names-synthesized p e k (omega (arith, p.near, k.near))) (stands-reads k (omega (arith, p.near, k.near)))

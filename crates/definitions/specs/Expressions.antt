@@ -1,13 +1,10 @@
--- An expression in code: its nodes as words of a definition's line, the operators that wait as numbers in an array, and how it begins in numbers.
+-- An expression in code: its nodes as words of a definition's line, and the operators that wait as numbers in an array.
 -- Assumes nothing.
-use Rattle.std.specs.Prelude.{ℕ, zero, suc, ◌+◌, ◌*◌, ◌≤◌, ◌≡◌, Bool, true, false, List, [], ◌∷◌, ltb, eqb, length, get_or}
-use Rattle.text.specs.Rest.{Rest, rest}
-use Rattle.text.specs.Numeral.{word_of}
+use Rattle.std.specs.Prelude.{ℕ, zero, suc, ◌+◌, ◌*◌, ◌≤◌, ◌≡◌, true, false, List, [], ◌∷◌, ltb, length, get_or}
 use Rattle.grammar.specs.Limits.{MAX_NODES}
-use Rattle.grammar.specs.Data.Term.{add, sub, min, max}
 use Rattle.grammar.specs.Data.Book.{Place}
-use Rattle.grammar.specs.Data.Postfix.{Step, operate, select}
-use Rattle.grammar.specs.Format.Expression.{Waiting, waiting, Begun, opened, whole, either}
+use Rattle.grammar.specs.Data.Postfix.{Step}
+use Rattle.grammar.specs.Format.Expression.{Waiting, waiting}
 use Rattle.book.specs.Layout.{write_at, node_words}
 
 -- the words of a definition
@@ -44,28 +41,7 @@ pub data Waits (codes : List ℕ) : ℕ → List Waiting → Type 0 where
   one_waits : {depth n : ℕ} {s : Step Place} {waits : List Waiting} → Operates s → get_or codes depth 0 ≡ waiting_code (waiting s n)
       → Waits codes depth waits → Waits codes (suc depth) (waiting s n ∷ waits)
 
--- the number of the operator that a word names, 0 where it names none
-unfoldable pub operator_code : ℕ → ℕ
-operator_code word =
-    either (eqb word (word_of "add")) (waiting_code (waiting (operate add) 1))
-    (either (eqb word (word_of "sub")) (waiting_code (waiting (operate sub) 1))
-    (either (eqb word (word_of "min")) (waiting_code (waiting (operate min) 1))
-    (either (eqb word (word_of "max")) (waiting_code (waiting (operate max) 1))
-    (either (eqb word (word_of "pick")) (waiting_code (waiting select 2)) 0))))
-
--- how an expression begins, in numbers: whether a bracket is left open, its operator's number or the node's three words, and what is left
-pub data Shown : Type 0 where
-  shown : Bool → ℕ → ℕ → ℕ → Rest → Shown
-
-unfoldable pub shown_of : Begun → Shown
-shown_of (opened w o) = shown true (waiting_code w) 0 0 o
-shown_of (whole s o) = shown false (kind_of s) (get_or (node_words s []) 1 0) (get_or (node_words s []) 2 0) o
-
--- what is answered of a beginning
-pub record Shows (b : Begun) (text : List ℕ) (opens : Bool) (code x y next : ℕ) : Type 0 where
-  pub shown_is : shown opens code x y (rest text next) ≡ shown_of b
-
 -- opens every definition of this module
 unfoldable pub opens : Unit {0}
-unfolding put_node store_nodes operator_code waiting_code shown_of
+unfolding put_node store_nodes waiting_code
 opens = tt

@@ -1,7 +1,8 @@
 -- Laws of an expression in code: its nodes in a line, its operators in an array, and that an operator takes at least five bytes of text.
 -- Assumes nothing.
-use Prim.Native.Nat.{ℕ, suc, ◌+◌, ◌*◌, ◌≤◌, ◌<◌}
-use Rattle.std.specs.Prelude.{◌≡◌, Bool, List, [], ◌∷◌, ◌++◌, eqb, length, set, get_or}
+use Prim.Native.Nat.{ℕ, suc, ◌+◌, ◌-◌, ◌*◌, ◌≤◌, ◌<◌}
+use Rattle.std.specs.Prelude.{◌≡◌, Bool, List, [], ◌∷◌, ◌++◌, eqb, length, set, get_or, take, drop, Option, Some, None}
+use Rattle.std.proofs.lemmas.Option.{none-some, same_Some}
 use Rattle.std.proofs.Math.Path.{refl, ap}
 use Rattle.std.proofs.Common.{sym, ◌∙◌, get_or-set_same, get_or-set_other}
 use Rattle.std.proofs.Math.Bool.{true, false}
@@ -20,20 +21,25 @@ use Rattle.grammar.specs.Data.Book.{Place, own, at, val}
 use Rattle.grammar.specs.Data.Postfix.{Step, push, load, operate, select}
 use Rattle.grammar.specs.Format.Expression.{Waiting, waiting, Begun, opened, whole, either, whole_of, bracket, begun}
 use Rattle.grammar.specs.Format.ExpressionReads.{either-cases, begun-bracket, begun-number}
-use Rattle.book.specs.Layout.{write_at, node_words}
-use Rattle.definitions.specs.Expressions.{put_node, store_nodes, kind_of, Operates, waiting_code, Waits, none_waits, one_waits, operator_code, shown}
-use Rattle.definitions.specs.Expressions.{shown_of, Shows}
+use Rattle.book.specs.Layout.{node_words}
+use Rattle.book.specs.LayoutLaws.{part-written}
+use Rattle.definitions.specs.declared.nodes.Operator.{Operator}
+use Rattle.definitions.specs.declared.nodes.Operator.TheVariants.{Pick}
+use Rattle.definitions.specs.declared.nodes.Node.TheVariants.{Number, Operator as OfOperator}
+use Rattle.definitions.specs.declared.nodes.Beginning.TheVariants.{Opens, Whole}
+use Rattle.definitions.specs.declared.nodes.BeginningRead.{BeginningRead}
+use Rattle.definitions.specs.Expressions.{DEFINITION_WORDS, put_node, store_nodes, kind_of, Operates, waiting_code, Waits, none_waits, one_waits}
+use Rattle.definitions.specs.Nodes.{operands_left, operator_named, begun_of, Shows}
 
 -- Nodes
 
--- a node in code: three stores, where there is room for it
-pub node_in : (k a b c : ℕ) (line : List ℕ) → k < MAX_NODES
-    → set (set (set line (4 + 3 * k) a) (4 + 3 * k + 1) b) (4 + 3 * k + 2) c ≡ put_node k (a ∷ b ∷ c ∷ []) line
-unfolding put_node write_at
-node_in k a b c line h =
-    let e : 4 + 3 * k + 1 ≡ suc (4 + 3 * k) = omega arith in
-    let f : 4 + 3 * k + 2 ≡ suc (suc (4 + 3 * k)) = omega arith in
-    rw (lt-ltb k MAX_NODES h, put_node) (rw (e, f))
+-- a node where there is room for it
+pub node_in : (k : ℕ) (node line : List ℕ) → k < MAX_NODES → length node ≡ 3 → length line ≡ DEFINITION_WORDS
+    → take (4 + 3 * k) line ++ (node ++ drop (4 + 3 * k + 3 - (4 + 3 * k)) (drop (4 + 3 * k) line)) ≡ put_node k node line
+unfolding put_node
+node_in k node line h three long =
+    let same : 4 + 3 * k + 3 - (4 + 3 * k) ≡ 3 = omega arith in
+    rw (lt-ltb k MAX_NODES h, put_node) (rw same (part-written (4 + 3 * k) 3 node line (sym three) (omega arith)))
 
 pub node-out : (k : ℕ) (node line : List ℕ) → MAX_NODES ≤ k → line ≡ put_node k node line
 unfolding put_node
@@ -102,27 +108,27 @@ module _ {C : Type 0} (word k : ℕ) (takes : (r : List ℕ) → length r + k �
 
 -- what is known of a beginning of so many bytes
 pub data Costs (bytes : ℕ) : Begun → Type 0 where
-  costs_opened : {s : Step Place} {n : ℕ} {o : Rest} → Operates s → size o + 5 ≤ bytes → Costs bytes (opened (waiting s n) o)
+  costs_opened : {w : Waiting} {o : Rest} → size o + 5 ≤ bytes → Costs bytes (opened w o)
   costs_whole : {s : Step Place} {o : Rest} → Costs bytes (whole s o)
 
-operator-costs : (o : Rest) (word : ℕ) (s : Step Place) (n : ℕ) → ((r : List ℕ) → length r + 3 ≤ length (write letters word r)) → 0 < word → Operates s
+operator-costs : (o : Rest) (word : ℕ) (w : Waiting) → ((r : List ℕ) → length r + 3 ≤ length (write letters word r)) → 0 < word
     → found (mark open-bracket o) ≡ true → eqb (value letters (mark open-bracket o)) word ≡ true
-    → Costs (size o) (opened (waiting s n) (mark space (past letters (mark open-bracket o))))
-operator-costs o word s n takes h operates begins e =
+    → Costs (size o) (opened w (mark space (past letters (mark open-bracket o))))
+operator-costs o word w takes h begins e =
     let p : Rest = mark open-bracket o in
     word-less word 3 takes p (eqb-true (value letters p) word e) h λ alive less.
-    costs_opened operates (omega (arith, found-mark open-bracket o begins, less-mark space (past letters p) alive))
+    costs_opened (omega (arith, found-mark open-bracket o begins, less-mark space (past letters p) alive))
 
 bracket-costs : (o : Rest) → found (mark open-bracket o) ≡ true
     → Costs (size o) (bracket (value letters (mark open-bracket o)) (mark space (past letters (mark open-bracket o))))
 unfolding bracket whole_of node_words spelled write written
 bracket-costs o h =
     let word : ℕ = value letters (mark open-bracket o) in
-    either-cases (Costs (size o)) (eqb word (word_of "add")) (operator-costs o (word_of "add") (operate add) 1 (λ r. omega arith) (omega arith) refl h) (λ _.
-    either-cases (Costs (size o)) (eqb word (word_of "sub")) (operator-costs o (word_of "sub") (operate sub) 1 (λ r. omega arith) (omega arith) refl h) (λ _.
-    either-cases (Costs (size o)) (eqb word (word_of "min")) (operator-costs o (word_of "min") (operate min) 1 (λ r. omega arith) (omega arith) refl h) (λ _.
-    either-cases (Costs (size o)) (eqb word (word_of "max")) (operator-costs o (word_of "max") (operate max) 1 (λ r. omega arith) (omega arith) refl h) (λ _.
-    either-cases (Costs (size o)) (eqb word (word_of "pick")) (operator-costs o (word_of "pick") select 2 (λ r. omega arith) (omega arith) refl h) (λ _.
+    either-cases (Costs (size o)) (eqb word (word_of "add")) (operator-costs o (word_of "add") (waiting (operate add) 1) (λ r. omega arith) (omega arith) h) (λ _.
+    either-cases (Costs (size o)) (eqb word (word_of "sub")) (operator-costs o (word_of "sub") (waiting (operate sub) 1) (λ r. omega arith) (omega arith) h) (λ _.
+    either-cases (Costs (size o)) (eqb word (word_of "min")) (operator-costs o (word_of "min") (waiting (operate min) 1) (λ r. omega arith) (omega arith) h) (λ _.
+    either-cases (Costs (size o)) (eqb word (word_of "max")) (operator-costs o (word_of "max") (waiting (operate max) 1) (λ r. omega arith) (omega arith) h) (λ _.
+    either-cases (Costs (size o)) (eqb word (word_of "pick")) (operator-costs o (word_of "pick") (waiting select 2) (λ r. omega arith) (omega arith) h) (λ _.
     either-cases (Costs (size o)) (eqb word (word_of "own")) (λ _. costs_whole) (λ _.
     either-cases (Costs (size o)) (eqb word (word_of "at")) (λ _. costs_whole) (λ _.
     either-cases (Costs (size o)) (eqb word (word_of "val")) (λ _. costs_whole) (λ _. costs_whole))))))))
@@ -142,45 +148,45 @@ either-both P true p q = p
 either-both P false p q = q
 
 module _ (word : ℕ) (text : List ℕ) (at : ℕ) where
-  pub bracket-opens : {c : ℕ} → c ≡ operator_code word → (c ≡ 0 → ⊥) → Shows (bracket word (rest text at)) text true c 0 0 at
-  unfolding bracket operator_code shown_of waiting_code node_words
-  bracket-opens e h =
-      let P : ℕ → Begun → Type 0 = λ c b. (c ≡ 0 → ⊥) → shown true c 0 0 (rest text at) ≡ shown_of b in
-      let z : P (operator_code word) (bracket word (rest text at)) =
-      either-both P (eqb word (word_of "add")) (λ _. refl)
-      (either-both P (eqb word (word_of "sub")) (λ _. refl)
-      (either-both P (eqb word (word_of "min")) (λ _. refl)
-      (either-both P (eqb word (word_of "max")) (λ _. refl)
-      (either-both P (eqb word (word_of "pick")) (λ _. refl) (λ k. absurd (k refl)))))) in
-      record { shown_is = rw e (z (λ q. h (e ∙ q))) }
+  opened-as : {o x : Operator} {r : Rest} → Some o ≡ Some x → begun_of (Opens o) r ≡ begun_of (Opens x) r
+  opened-as {o} {x} {r} e = ap (λ (y : Operator). begun_of (Opens y) r) (same_Some o x e)
 
-  pub bracket-lost : {c n : ℕ} → c ≡ operator_code word → c ≡ 0 → (word ≡ word_of "own" → ⊥) → (word ≡ word_of "at" → ⊥) → (word ≡ word_of "val" → ⊥)
-      → length text < n → Shows (bracket word (rest text at)) text false 8 0 0 n
-  unfolding bracket operator_code waiting_code shown_of node_words
-  bracket-lost {n = n} e h i j k l =
-      let P : ℕ → Begun → Type 0 = λ c b. c ≡ 0 → shown false 8 0 0 lost ≡ shown_of b in
-      let z : P (operator_code word) (bracket word (rest text at)) =
-      either-both P (eqb word (word_of "add")) (λ q. absurd (let z : ⊥ = omega arith in z))
-      (either-both P (eqb word (word_of "sub")) (λ q. absurd (let z : ⊥ = omega arith in z))
-      (either-both P (eqb word (word_of "min")) (λ q. absurd (let z : ⊥ = omega arith in z))
-      (either-both P (eqb word (word_of "max")) (λ q. absurd (let z : ⊥ = omega arith in z))
-      (either-both P (eqb word (word_of "pick")) (λ q. absurd (let z : ⊥ = omega arith in z))
+  pub bracket-opens : {o : Operator} → Some o ≡ operator_named word → Shows (bracket word (rest text at)) text (record { beginning = Opens o; at = at })
+  unfolding bracket operator_named operands_left
+  bracket-opens {o} e =
+      let P : Option Operator → Begun → Type 0 = λ named b. Some o ≡ named → begun_of (Opens o) (rest text at) ≡ b in
+      let z : P (operator_named word) (bracket word (rest text at)) =
+      either-both P (eqb word (word_of "add")) (λ q. opened-as q)
+      (either-both P (eqb word (word_of "sub")) (λ q. opened-as q)
+      (either-both P (eqb word (word_of "min")) (λ q. opened-as q)
+      (either-both P (eqb word (word_of "max")) (λ q. opened-as q)
+      (either-both P (eqb word (word_of "pick")) (λ q. opened-as q) (λ q. absurd (none-some o (sym q))))))) in
+      record { shown_is = z e }
+
+  pub bracket-lost : {n : ℕ} → None ≡ operator_named word → (word ≡ word_of "own" → ⊥) → (word ≡ word_of "at" → ⊥) → (word ≡ word_of "val" → ⊥)
+      → length text < n → Shows (bracket word (rest text at)) text (record { beginning = Whole (OfOperator Pick); at = n })
+  unfolding bracket operator_named
+  bracket-lost {n} e i j k l =
+      let P : Option Operator → Begun → Type 0 = λ named b. None ≡ named → whole select lost ≡ b in
+      let z : P (operator_named word) (bracket word (rest text at)) =
+      either-both P (eqb word (word_of "add")) (λ q. absurd (none-some _ q))
+      (either-both P (eqb word (word_of "sub")) (λ q. absurd (none-some _ q))
+      (either-both P (eqb word (word_of "min")) (λ q. absurd (none-some _ q))
+      (either-both P (eqb word (word_of "max")) (λ q. absurd (none-some _ q))
+      (either-both P (eqb word (word_of "pick")) (λ q. absurd (none-some _ q))
       (λ q. rw (ne_eqb word (word_of "own") i, ne_eqb word (word_of "at") j, ne_eqb word (word_of "val") k)))))) in
-      record { shown_is = rw (rest_out text n l) (z (sym e ∙ h)) }
+      record { shown_is = rw (rest_out text n l) (z e) }
 
 -- A beginning by its first byte
 
 module _ {text : List ℕ} (at : ℕ) {a : ℕ} (e : rest text a ≡ mark open-bracket (rest text at)) where
-  pub shows-bracket : (b : ℕ) {word next code x y done : ℕ} {opens : Bool} → a ≤ length text → Reads letters text a word next
-      → rest text b ≡ mark space (rest text next) → Shows (bracket word (rest text b)) text opens code x y done
-      → Shows (begun (rest text at)) text opens code x y done
+  pub shows-bracket : (b : ℕ) {word next : ℕ} {read : BeginningRead} → a ≤ length text → Reads letters text a word next
+      → rest text b ≡ mark space (rest text next) → Shows (bracket word (rest text b)) text read → Shows (begun (rest text at)) text read
   shows-bracket b h r f s =
       record {
-        shown_is =
-            s.shown_is
-            ∙ ap shown_of (rw (begun-bracket (rest text at) (ap found (sym e) ∙ found_in text a h)) (rw (r.value_is, f, r.rest_is, e)));
+        shown_is = s.shown_is ∙ rw (begun-bracket (rest text at) (ap found (sym e) ∙ found_in text a h)) (rw (r.value_is, f, r.rest_is, e));
       }
 
-  pub shows-number : {v next : ℕ} → length text < a → Reads decimal text at v next → Shows (begun (rest text at)) text false 0 v 0 next
-  unfolding shown_of node_words
+  pub shows-number : {v next : ℕ} → length text < a → Reads decimal text at v next
+      → Shows (begun (rest text at)) text (record { beginning = Whole (Number v); at = next })
   shows-number h r = record { shown_is = rw (begun-number (rest text at) (ap found (sym e) ∙ found-out text a h)) (rw (r.value_is, r.rest_is)) }

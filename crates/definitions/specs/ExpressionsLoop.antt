@@ -12,11 +12,18 @@ use Rattle.text.proofs.RestLaws.{rest_in, found_in, found-out, size-rest, less-m
 use Rattle.grammar.specs.Data.Book.{Place}
 use Rattle.grammar.specs.Data.Postfix.{Step}
 use Rattle.grammar.specs.Format.Reader.{Parsed, result, remaining}
-use Rattle.grammar.specs.Format.Expression.{Waiting, waiting, Begun, opened, whole, begun, Scan, scan, scan_more, scan_all, outcome}
+use Rattle.grammar.specs.Format.Expression.{Waiting, waiting, opened, begun, Scan, scan, scan_more, scan_all, outcome}
 use Rattle.grammar.specs.Format.ExpressionReads.{size_begun, begun-less, scan-stop, turn-opened, turn-whole, turn-space, turn-close}
 use Rattle.book.specs.Layout.{node_words}
-use Rattle.definitions.specs.Expressions.{WaitsRoom, put_node, store_nodes, kind_of, waiting_code, Waits, none_waits, one_waits, Shown, shown, shown_of, Shows}
-use Rattle.definitions.specs.ExpressionsLaws.{store-more, three-words, kind-small, waits-push, Costs, costs_opened, costs_whole, begun-costs}
+use Rattle.definitions.specs.declared.nodes.Operator.{Operator}
+use Rattle.definitions.specs.declared.nodes.Operator.TheVariants.{Add, Sub, Min, Max, Pick}
+use Rattle.definitions.specs.declared.nodes.Node.{Node}
+use Rattle.definitions.specs.declared.nodes.Beginning.{Beginning}
+use Rattle.definitions.specs.declared.nodes.Beginning.TheVariants.{Opens, Whole}
+use Rattle.definitions.specs.declared.nodes.BeginningRead.{BeginningRead}
+use Rattle.definitions.specs.Expressions.{WaitsRoom, put_node, store_nodes, kind_of, Operates, waiting_code, Waits, none_waits, one_waits}
+use Rattle.definitions.specs.Nodes.{operation_of, step_of, waiting_of, begun_of, Shows}
+use Rattle.definitions.specs.ExpressionsLaws.{store-more, kind-small, waits-push, Costs, costs_opened, begun-costs}
 
 -- what is answered of an expression: the number of its nodes, the position after it, and the line with its nodes
 pub record Expresses (p : Parsed (List (Step Place))) (text line₀ : List ℕ) (count next : ℕ) (line : List ℕ) : Type 0 where
@@ -34,26 +41,25 @@ pub record Working (text line₀ : List ℕ) (start : Scan) (codes : List ℕ) (
   pub deep : 5 * depth + size (rest text at) ≤ length text + 1
   pub now_at : Going text line₀ start codes depth due at count line
 
--- how what is left shows in an answer
-size_shown : Shown → ℕ
-size_shown (shown b c x y o) = size o
+-- how much is left after a beginning
+size-begun : (b : Beginning) (r : Rest) → size_begun (begun_of b r) ≡ size r
+unfolding size_begun
+size-begun (Opens o) r = refl
+size-begun (Whole n) r = refl
 
-size-shown : (b : Begun) → size_shown (shown_of b) ≡ size_begun b
-unfolding shown_of size_begun size_shown
-size-shown (opened w o) = refl
-size-shown (whole s o) = refl
+begins-less : (o : Rest) (b : Beginning) (r : Rest) → found o ≡ true → begun_of b r ≡ begun o → size r < size o
+begins-less o b r h e = omega (arith, size-begun b r, ap size_begun e, begun-less o h)
 
-begins-less : (o r : Rest) {opens : Bool} {c x y : ℕ} → found o ≡ true → shown opens c x y r ≡ shown_of (begun o) → size r < size o
-unfolding size_shown
-begins-less o r h e = omega (arith, ap size_shown e, size-shown (begun o), begun-less o h)
+opened-less : {m : ℕ} {w : Waiting} {r : Rest} → Costs m (opened w r) → size r + 5 ≤ m
+opened-less (costs_opened l) = l
 
-apart : {c x y d u v : ℕ} {o r : Rest} → shown true c x y o ≡ shown false d u v r → ⊥
-apart e = let z : ◌≡◌ {A = ℕ} 0 1 = cc in omega arith
-
-opened-less : (b : Begun) (m : ℕ) (r : Rest) {c x y : ℕ} → Costs m b → shown true c x y r ≡ shown_of b → size r + 5 ≤ m
-unfolding shown_of size_shown
-opened-less (opened w o) m r (costs_opened operates l) e = omega (arith, ap size_shown e)
-opened-less (whole s o) m r costs_whole e = absurd (apart e)
+operates : (o : Operator) → Operates (operation_of o)
+unfolding node_words
+operates Add = refl
+operates Sub = refl
+operates Min = refl
+operates Max = refl
+operates Pick = refl
 
 one_more : {count : ℕ} {line line' node : List ℕ} (line₀ : List ℕ) (steps : List (Step Place)) (s : Step Place) → count ≡ length steps
     → line ≡ store_nodes 0 steps line₀ → node ≡ node_words s [] → line' ≡ put_node count node line → line' ≡ store_nodes 0 (steps ++ (s ∷ [])) line₀
@@ -75,26 +81,20 @@ none-stops o steps h (one_waits operates code w) = absurd (let z : ⊥ = omega a
 
 module _ (text line₀ : List ℕ) (start : Scan) {codes : List ℕ} {due : Bool} {at count : ℕ} {line : List ℕ} where
   -- an expression is due: an operator's bracket opens
-  go-open : {bs : List ℕ} {depth c x y next bytes : ℕ} (b : Begun) → begun (left bs) ≡ b → Costs bytes b → rest text at ≡ left bs → due ≡ true
-      → depth < length codes → shown true c x y (rest text next) ≡ shown_of b → Going text line₀ start codes depth due at count line
+  go-open : {bs : List ℕ} {depth c next : ℕ} (o : Operator) → begun (left bs) ≡ begun_of (Opens o) (rest text next) → rest text at ≡ left bs → due ≡ true
+      → depth < length codes → c ≡ waiting_code (waiting_of o) → Going text line₀ start codes depth due at count line
       → Going text line₀ start (set codes depth c) (depth + 1) due next count line
-  unfolding shown_of
-  go-open {bs} {depth} {c} {next = next} (opened (waiting s n) r) q (costs_opened operates l) o d fits e (going waits steps w k i same) =
-      let a : rest text next ≡ r = cc in
-      going (waiting s n ∷ waits) steps (rw (add-one depth) (waits-push codes c fits operates (cc) w)) k i
-      (rw (d, a) (sym (turn-opened waits steps bs r (waiting s n) q) ∙ (rw (d, o) at same)))
-  go-open (whole s r) q l o d fits e g = absurd (apart e)
+  go-open {bs} {depth} {c} {next} o q e d fits code (going waits steps w k i same) =
+      going (waiting_of o ∷ waits) steps (rw (add-one depth) (waits-push codes c fits (operates o) code w)) k i
+      (rw d (sym (turn-opened waits steps bs (rest text next) (waiting_of o) q) ∙ (rw (d, e) at same)))
 
   -- it is one step
-  go-whole : {bs : List ℕ} {depth c x y next : ℕ} {line' : List ℕ} (b : Begun) → begun (left bs) ≡ b → rest text at ≡ left bs → due ≡ true
-      → shown false c x y (rest text next) ≡ shown_of b → line' ≡ put_node count (c ∷ x ∷ y ∷ []) line → Going text line₀ start codes depth due at count line
+  go-whole : {bs : List ℕ} {depth next : ℕ} {line' : List ℕ} (n : Node) → begun (left bs) ≡ begun_of (Whole n) (rest text next) → rest text at ≡ left bs → due ≡ true
+      → line' ≡ put_node count (node_words (step_of n) []) line → Going text line₀ start codes depth due at count line
       → Going text line₀ start codes depth false next (count + 1) line'
-  unfolding shown_of
-  go-whole {bs} {next = next} (whole s r) q o d e f (going waits steps w k i same) =
-      let a : rest text next ≡ r = cc in
-      going waits (steps ++ (s ∷ [])) w (rw k (sym (length-append steps (s ∷ [])))) (one_more line₀ steps s k i (cc (three-words s)) f)
-      (rw a (sym (turn-whole waits steps bs r s q) ∙ (rw (d, o) at same)))
-  go-whole (opened w r) q o d e f g = absurd (apart (sym e))
+  go-whole {bs} {next = next} n q e d f (going waits steps w k i same) =
+      going waits (steps ++ (step_of n ∷ [])) w (rw k (sym (length-append steps (step_of n ∷ [])))) (one_more line₀ steps (step_of n) k i refl f)
+      (sym (turn-whole waits steps bs (rest text next) (step_of n) q) ∙ (rw (d, e) at same))
 
   -- an operand was read: the operator on top waits for another
   go-space : {bs : List ℕ} {depth c next : ℕ} → rest text at ≡ left bs → due ≡ false → 0 < depth → depth ≤ length codes → c ≡ get_or codes (depth - 1) 0 → 16 ≤ c
@@ -155,40 +155,40 @@ working-start text line codes at =
 
 module _ {text line₀ codes line : List ℕ} {start : Scan} {depth at count : ℕ} {due : Bool} (w : Working text line₀ start codes depth due at count line) where
   module _ (h : at ≤ length text) where
-    module _ {opens : Bool} {c x y next : ℕ} (b : Shows (begun (rest text at)) text opens c x y next) where
-      pub begun-shorter : size (rest text next) < size (rest text at)
-      begun-shorter = begins-less (rest text at) (rest text next) (found_in text at h) b.shown_is
+    module _ {read : BeginningRead} (b : Shows (begun (rest text at)) text read) where
+      pub begun-shorter : size (rest text read.at) < size (rest text at)
+      begun-shorter = begins-less (rest text at) read.beginning (rest text read.at) (found_in text at h) b.shown_is
 
-      module _ (e : opens ≡ true) where
-        open-less : size (rest text next) + 5 ≤ size (rest text at)
-        open-less = opened-less (begun (rest text at)) (size (rest text at)) (rest text next) (begun-costs (rest text at)) (rw e at b.shown_is)
+      begun-as : (x : Beginning) → read.beginning ≡ x → begun (rest text at) ≡ begun_of x (rest text read.at)
+      begun-as x e = sym b.shown_is ∙ ap (λ (y : Beginning). begun_of y (rest text read.at)) e
 
-        pub open-low : depth < length text
-        open-low = omega (arith, open-less, w.deep)
+      module _ {o : Operator} (e : read.beginning ≡ Opens o) where
+        open-less : size (rest text read.at) + 5 ≤ size (rest text at)
+        open-less = opened-less {w = waiting_of o} (rw (← begun-as (Opens o) e) (begun-costs (rest text at)))
 
         pub open-fits : WaitsRoom text codes → depth < length codes
         open-fits l = omega (arith, open-less, w.deep)
 
-        pub working-open : WaitsRoom text codes → due ≡ true
-            → Working text line₀ start (set codes depth c) (depth + 1) due next count line
-        working-open l d =
+        pub working-open : {c : ℕ} → WaitsRoom text codes → due ≡ true → c ≡ waiting_code (waiting_of o)
+            → Working text line₀ start (set codes depth c) (depth + 1) due read.at count line
+        working-open l d code =
             record {
               counted = omega (arith, open-less, w.counted);
               deep = omega (arith, open-less, w.deep);
               now_at =
-                  go-open text line₀ start (begun (rest text at)) (sym (ap begun (rest_in text at h))) (begun-costs (rest text at)) (rest_in text at h) d
-                  (omega (arith, open-fits l)) (rw e at b.shown_is) w.now_at;
+                  go-open text line₀ start o (sym (ap begun (rest_in text at h)) ∙ begun-as (Opens o) e) (rest_in text at h) d
+                  (omega (arith, open-fits l)) code w.now_at;
             }
 
-      pub working-whole : {line' : List ℕ} → opens ≡ false → due ≡ true → line' ≡ put_node count (c ∷ x ∷ y ∷ []) line
-          → Working text line₀ start codes depth false next (count + 1) line'
-      working-whole e d f =
+      pub working-whole : {n : Node} {line' : List ℕ} → read.beginning ≡ Whole n → due ≡ true
+          → line' ≡ put_node count (node_words (step_of n) []) line
+          → Working text line₀ start codes depth false read.at (count + 1) line'
+      working-whole {n} e d f =
           record {
             counted = omega (arith, begun-shorter, w.counted);
             deep = omega (arith, begun-shorter, w.deep);
             now_at =
-                go-whole text line₀ start (begun (rest text at)) (sym (ap begun (rest_in text at h))) (rest_in text at h) d
-                (rw e at b.shown_is) f w.now_at;
+                go-whole text line₀ start n (sym (ap begun (rest_in text at h)) ∙ begun-as (Whole n) e) (rest_in text at h) d f w.now_at;
           }
 
     pub mark-shorter : (class next : ℕ) → rest text next ≡ mark class (rest text at) → size (rest text next) < size (rest text at)
@@ -237,10 +237,11 @@ pub record Closed (text line₀ : List ℕ) (start : Scan) (codes : List ℕ) (d
   pub shorter : size (rest text at) ≤ size (rest text from)
 
 -- the expression that is due is one step
-pub asked-whole : {text line₀ codes line line' : List ℕ} {start : Scan} {depth at count : ℕ} {opens : Bool} {c x y next : ℕ}
-    → Asking text line₀ start codes depth at count line → at ≤ length text → Shows (begun (rest text at)) text opens c x y next → opens ≡ false
-    → line' ≡ put_node count (c ∷ x ∷ y ∷ []) line → Working text line₀ start codes depth false next (count + 1) line'
-asked-whole a h b e f = working-whole a.working h b e (a.asks h) f
+pub asked-whole : {text line₀ codes words line line' : List ℕ} {start : Scan} {depth at count : ℕ} {read : BeginningRead} {n : Node}
+    → Asking text line₀ start codes depth at count line → at ≤ length text → Shows (begun (rest text at)) text read → read.beginning ≡ Whole n
+    → words ≡ node_words (step_of n) [] → line' ≡ put_node count words line
+    → Working text line₀ start codes depth false read.at (count + 1) line'
+asked-whole a h b e f g = working-whole a.working h b e (a.asks h) (rw (← f) g)
 
 -- where something waits after it, the next operand is due
 pub closed-asks : {text line₀ codes line : List ℕ} {start : Scan} {depth from at count : ℕ} → Closed text line₀ start codes depth from at count line

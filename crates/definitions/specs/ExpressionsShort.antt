@@ -2,44 +2,31 @@
 -- Assumes nothing.
 use Prim.Native.Nat.{ℕ, ◌+◌, ◌*◌, ◌<◌, ◌≤◌}
 use Rattle.std.proofs.Common.{arith, ◌∙◌, eqb-true}
-use Rattle.std.specs.Prelude.{◌≡◌, refl, Bool, ◌&&◌, List, [], ◌∷◌, ◌++◌, eqb, length, get_or}
+use Rattle.std.specs.Prelude.{◌≡◌, refl, ◌&&◌, List, [], ◌∷◌, ◌++◌, eqb, length, get_or}
 use Rattle.std.proofs.Math.Path.{sym, ap}
-use Rattle.std.proofs.Math.Bool.{true, false}
+use Rattle.std.proofs.Math.Bool.{true}
 use Rattle.std.proofs.Math.ListN.{drop}
 use Rattle.text.specs.Class.{open-bracket}
 use Rattle.text.specs.Rest.{Rest, lost, left, rest, found, mark}
 use Rattle.text.proofs.RestLaws.{rest_in, drop_more}
 use Rattle.text.specs.Numeral.{decimal, write}
 use Rattle.text.proofs.NumeralLaws.{mark-number}
-use Rattle.text.specs.Reading.{Reads}
-use Rattle.grammar.specs.Data.Term.{add, sub, min, max}
-use Rattle.grammar.specs.Data.Book.{Place, own, at, val}
-use Rattle.grammar.specs.Data.Postfix.{Step, load, operate, select}
+use Rattle.grammar.specs.Data.Book.{own, at, val}
+use Rattle.grammar.specs.Data.Postfix.{load}
 use Rattle.grammar.specs.Format.Ordered.{Fits}
 use Rattle.grammar.specs.Format.ReaderLaws.{reading, word-ends, number-reads}
-use Rattle.grammar.specs.Format.Expression.{waiting, opened, whole, either, own_place, at_place, val_place, whole_of, bracket, begun}
-use Rattle.grammar.specs.Format.ExpressionReads.{either-cases, begun-number}
+use Rattle.grammar.specs.Format.Expression.{whole, own_place, at_place, val_place, whole_of, bracket, begun}
+use Rattle.grammar.specs.Format.ExpressionReads.{begun-number}
 use Rattle.grammar.specs.Automaton.TestLaws.{both_true}
 use Rattle.lines.specs.Heads.{Four, Same, four_same}
-use Rattle.book.specs.Layout.{node_words}
 use Rattle.book.specs.Short.{Brief}
-use Rattle.definitions.specs.Expressions.{kind_of, waiting_code, shown, shown_of, Shows}
+use Rattle.definitions.specs.declared.nodes.Operator.{Operator}
+use Rattle.definitions.specs.declared.nodes.Operator.TheVariants.{Add, Sub, Min, Max, Pick}
+use Rattle.definitions.specs.declared.nodes.Node.TheVariants.{Number, Own, At, Val}
+use Rattle.definitions.specs.declared.nodes.Beginning.{Beginning}
+use Rattle.definitions.specs.declared.nodes.Beginning.TheVariants.{Opens, Whole}
+use Rattle.definitions.specs.Nodes.{operands_left, begun_of, Shows}
 use Rattle.definitions.specs.Ended.{Stands, byte-is}
-
--- the code of a beginning that the short ways leave to the reading by parts
-abbrev pub OTHER : ℕ
-OTHER = 255
-
--- what a short way answers
-pub record Short (text : List ℕ) (from : ℕ) (opens : Bool) (code x y next : ℕ) : Type 0 where
-  pub shows_it : (code ≡ OTHER → ⊥) → Shows (begun (rest text from)) text opens code x y next
-
-pub none-short : {text : List ℕ} {from code x y next : ℕ} {opens : Bool} → code ≡ OTHER → Short text from opens code x y next
-none-short e = record { shows_it = λ h. absurd (h e) }
-
-pub some-short : {text : List ℕ} {from code x y next : ℕ} {opens : Bool} → Shows (begun (rest text from)) text opens code x y next
-    → Short text from opens code x y next
-some-short s = record { shows_it = λ h. s }
 
 -- the bytes at a position, and enough after it for every short way
 pub record Begins (text : List ℕ) (from : ℕ) (bytes : List ℕ) : Type 0 where
@@ -103,134 +90,107 @@ val-begun J r h =
     let f : Fits J = omega arith in
     rw (number-reads J (41 ∷ r) f refl)
 
-add-begun : (r : List ℕ) → begun (left (40 ∷ 97 ∷ 100 ∷ 100 ∷ 32 ∷ r)) ≡ opened (waiting (operate add) 1) (left r)
-unfolding reading begun bracket
-add-begun r = refl
-
-sub-begun : (r : List ℕ) → begun (left (40 ∷ 115 ∷ 117 ∷ 98 ∷ 32 ∷ r)) ≡ opened (waiting (operate sub) 1) (left r)
-unfolding reading begun bracket
-sub-begun r = refl
-
-min-begun : (r : List ℕ) → begun (left (40 ∷ 109 ∷ 105 ∷ 110 ∷ 32 ∷ r)) ≡ opened (waiting (operate min) 1) (left r)
-unfolding reading begun bracket
-min-begun r = refl
-
-max-begun : (r : List ℕ) → begun (left (40 ∷ 109 ∷ 97 ∷ 120 ∷ 32 ∷ r)) ≡ opened (waiting (operate max) 1) (left r)
-unfolding reading begun bracket
-max-begun r = refl
-
-pick-begun : (r : List ℕ) → begun (left (40 ∷ 112 ∷ 105 ∷ 99 ∷ 107 ∷ 32 ∷ r)) ≡ opened (waiting select 2) (left r)
-unfolding reading begun bracket
-pick-begun r = refl
-
 -- What is shown of them
 
 module _ {text : List ℕ} {from next : ℕ} (bs : List ℕ) (h : from ≤ length text) (k : next ≤ length text) (e : drop from text ≡ bs) where
-  shows-whole : (s : Step Place) → begun (left bs) ≡ whole s (left (drop next text))
-      → Shows (begun (rest text from)) text false (kind_of s) (get_or (node_words s []) 1 0) (get_or (node_words s []) 2 0) next
-  unfolding shown_of
-  shows-whole s b =
+  shows-begun : (b : Beginning) → begun (left bs) ≡ begun_of b (left (drop next text))
+      → Shows (begun (rest text from)) text (record { beginning = b; at = next })
+  shows-begun b q =
       record {
-        shown_is =
-            ap (λ (o : Rest). shown false (kind_of s) (get_or (node_words s []) 1 0) (get_or (node_words s []) 2 0) o) (rest_in text next k)
-            ∙ sym (ap shown_of (ap begun (rest_in text from h ∙ ap left e) ∙ b));
-      }
-
-  shows-opened : (s : Step Place) (n : ℕ) → begun (left bs) ≡ opened (waiting s n) (left (drop next text))
-      → Shows (begun (rest text from)) text true (waiting_code (waiting s n)) 0 0 next
-  unfolding shown_of
-  shows-opened s n b =
-      record {
-        shown_is =
-            ap (λ (o : Rest). shown true (waiting_code (waiting s n)) 0 0 o) (rest_in text next k)
-            ∙ sym (ap shown_of (ap begun (rest_in text from h ∙ ap left e) ∙ b));
+        shown_is = ap (λ (o : Rest). begun_of b o) (rest_in text next k) ∙ sym (ap begun (rest_in text from h ∙ ap left e) ∙ q);
       }
 
 module _ {text : List ℕ} {from next : ℕ} where
   pub own-short : {K : ℕ} → Begins text from (40 ∷ 111 ∷ 119 ∷ 110 ∷ 32 ∷ []) → get_or text (from + 5) 0 ≡ 105 → Stands text (from + 6) K 41 next
-      → Short text from false 1 K 0 next
-  unfolding node_words
+      → Shows (begun (rest text from)) text (record { beginning = Whole (Own K); at = next })
   own-short {K} p e k =
-      some-short (shows-whole (40 ∷ 111 ∷ 119 ∷ 110 ∷ 32 ∷ 105 ∷ write decimal K (41 ∷ drop next text)) (omega (arith, p.long))
+      shows-begun (40 ∷ 111 ∷ 119 ∷ 110 ∷ 32 ∷ 105 ∷ write decimal K (41 ∷ drop next text)) (omega (arith, p.long))
       (omega (arith, p.long, k.near))
       (p.bytes_are ∙ ap (λ r. 40 ∷ 111 ∷ 119 ∷ 110 ∷ 32 ∷ r) (byte-is text from 5 (omega (arith, p.long))
       ∙ (ap (λ (x : ℕ). x ∷ drop (from + 6) text) e ∙ ap (λ r. 105 ∷ r) k.bytes_are)))
-      (load (own K)) (own-begun K (drop next text) k.small))
+      (Whole (Own K)) (own-begun K (drop next text) k.small)
 
   pub at-short : {J K a : ℕ} → Begins text from (40 ∷ 97 ∷ 116 ∷ 32 ∷ []) → Stands text (from + 4) J 32 a → get_or text a 0 ≡ 115
-      → Stands text (a + 1) K 41 next → Short text from false 2 J K next
-  unfolding node_words
+      → Stands text (a + 1) K 41 next → Shows (begun (rest text from)) text (record { beginning = Whole (At J K); at = next })
   at-short {J} {K} {a} p j e k =
-      some-short (shows-whole (40 ∷ 97 ∷ 116 ∷ 32 ∷ write decimal J (32 ∷ 115 ∷ write decimal K (41 ∷ drop next text))) (omega (arith, p.long))
+      shows-begun (40 ∷ 97 ∷ 116 ∷ 32 ∷ write decimal J (32 ∷ 115 ∷ write decimal K (41 ∷ drop next text))) (omega (arith, p.long))
       (omega (arith, p.long, j.near, k.near))
       (p.bytes_are ∙ ap (λ r. 40 ∷ 97 ∷ 116 ∷ 32 ∷ r) (j.bytes_are ∙ ap (λ r. write decimal J (32 ∷ r)) (drop_more text a (omega (arith, p.long, j.near))
       ∙ (ap (λ (x : ℕ). x ∷ drop (a + 1) text) e ∙ ap (λ r. 115 ∷ r) k.bytes_are))))
-      (load (at J K)) (at-begun J K (drop next text) j.small k.small))
+      (Whole (At J K)) (at-begun J K (drop next text) j.small k.small)
 
-  pub val-short : {J : ℕ} → Begins text from (40 ∷ 118 ∷ 97 ∷ 108 ∷ 32 ∷ []) → Stands text (from + 5) J 41 next → Short text from false 3 J 0 next
-  unfolding node_words
+  pub val-short : {J : ℕ} → Begins text from (40 ∷ 118 ∷ 97 ∷ 108 ∷ 32 ∷ []) → Stands text (from + 5) J 41 next
+      → Shows (begun (rest text from)) text (record { beginning = Whole (Val J); at = next })
   val-short {J} p j =
-      some-short (shows-whole (40 ∷ 118 ∷ 97 ∷ 108 ∷ 32 ∷ write decimal J (41 ∷ drop next text)) (omega (arith, p.long)) (omega (arith, p.long, j.near))
-      (p.bytes_are ∙ ap (λ r. 40 ∷ 118 ∷ 97 ∷ 108 ∷ 32 ∷ r) j.bytes_are) (load (val J)) (val-begun J (drop next text) j.small))
+      shows-begun (40 ∷ 118 ∷ 97 ∷ 108 ∷ 32 ∷ write decimal J (41 ∷ drop next text)) (omega (arith, p.long)) (omega (arith, p.long, j.near))
+      (p.bytes_are ∙ ap (λ r. 40 ∷ 118 ∷ 97 ∷ 108 ∷ 32 ∷ r) j.bytes_are) (Whole (Val J)) (val-begun J (drop next text) j.small)
 
 -- a number by its bytes, the first of which is no bracket
-pub number_short : {text : List ℕ} {from v next : ℕ} → from ≤ length text → Brief text from v next → (next ≡ 0 → ⊥) → Short text from false 0 v 0 next
-unfolding shown_of node_words found
-number_short {text} {from} {v} {next} h n k =
-    let some : 0 < next = omega arith in
-    let read : Reads decimal text from v next = n.reads some in
+pub number_short : {text : List ℕ} {from v next : ℕ} → from ≤ length text → Brief text from v next
+    → Shows (begun (rest text from)) text (record { beginning = Whole (Number v); at = next })
+unfolding found
+number_short {text} {from} {v} {next} h n =
     let none : mark open-bracket (rest text from) ≡ lost =
-    ap (mark open-bracket) (rest_in text from h ∙ ap left (n.written some)) ∙ mark-number open-bracket v (drop next text) (λ e. omega arith) in
-    some-short (record { shown_is = rw (begun-number (rest text from) (ap found none)) (rw (read.value_is, read.rest_is)) })
+    ap (mark open-bracket) (rest_in text from h ∙ ap left n.written) ∙ mark-number open-bracket v (drop next text) (λ e. omega arith) in
+    record { shown_is = rw (begun-number (rest text from) (ap found none)) (rw (n.reads.value_is, n.reads.rest_is)) }
 
--- the number of the operator whose bracket begins with four bytes and a space
-unfoldable pub head_code : ℕ → ℕ
-head_code head =
-    either (eqb head 1684300072) 20
-    (either (eqb head 1651864360) 21
-    (either (eqb head 1852402984) 22
-    (either (eqb head 2019650856) 23 OTHER)))
+-- the bracket of an operator, as it is written
+abbrev pub bracket_of : Operator → List ℕ
+bracket_of Add = 40 ∷ 97 ∷ 100 ∷ 100 ∷ 32 ∷ []
+bracket_of Sub = 40 ∷ 115 ∷ 117 ∷ 98 ∷ 32 ∷ []
+bracket_of Min = 40 ∷ 109 ∷ 105 ∷ 110 ∷ 32 ∷ []
+bracket_of Max = 40 ∷ 109 ∷ 97 ∷ 120 ∷ 32 ∷ []
+bracket_of Pick = 40 ∷ 112 ∷ 105 ∷ 99 ∷ 107 ∷ 32 ∷ []
+
+bracket-begun : (o : Operator) (r : List ℕ) → begun (left (bracket_of o ++ r)) ≡ begun_of (Opens o) (left r)
+unfolding reading begun bracket operands_left
+bracket-begun Add r = refl
+bracket-begun Sub r = refl
+bracket-begun Min r = refl
+bracket-begun Max r = refl
+bracket-begun Pick r = refl
+
+bracket-short : {text : List ℕ} {from next : ℕ} (o : Operator) → Begins text from (bracket_of o) → next ≡ from + length (bracket_of o) → next ≤ length text
+    → Shows (begun (rest text from)) text (record { beginning = Opens o; at = next })
+bracket-short {text} {from} {next} o p e k =
+    shows-begun (bracket_of o ++ drop next text) (omega (arith, p.long)) k (rw e p.bytes_are) (Opens o) (bracket-begun o (drop next text))
+
+-- the first four bytes of a bracket, as one number
+abbrev pub head_of : Operator → ℕ
+head_of o =
+    get_or (bracket_of o) 0 0 + 256 * (get_or (bracket_of o) 1 0 + 256 * (get_or (bracket_of o) 2 0 + 256 * get_or (bracket_of o) 3 0))
+
+-- an operator whose bracket begins with these four bytes and a space
+pub record Heads (head : ℕ) (o : Operator) : Type 0 where
+  pub head_is : head ≡ head_of o
+  pub spaced : length (bracket_of o) ≡ 5
 
 module _ {text : List ℕ} {from head : ℕ} (h : from + 11 ≤ length text) (p : Headed text from head) where
-  operator-shows : (s : Step Place) (a b c d : ℕ) → Begins text from (a ∷ b ∷ c ∷ d ∷ []) → get_or text (from + 4) 0 ≡ 32
-      → ((r : List ℕ) → begun (left (a ∷ b ∷ c ∷ d ∷ 32 ∷ r)) ≡ opened (waiting s 1) (left r))
-      → Shows (begun (rest text from)) text true (waiting_code (waiting s 1)) 0 0 (from + 5)
-  operator-shows s a b c d q e opens =
-      shows-opened (a ∷ b ∷ c ∷ d ∷ 32 ∷ drop (from + 5) text) (omega arith) (omega arith) (begins-space q e).bytes_are s 1 (opens (drop (from + 5) text))
+  begins : (a b c d : ℕ) → a < 256 → b < 256 → c < 256 → head ≡ a + 256 * (b + 256 * (c + 256 * d)) → Begins text from (a ∷ b ∷ c ∷ d ∷ [])
+  begins a b c d la lb lc e = begins-with a b c d la lb lc h p e
 
-  code-short : get_or text (from + 4) 0 ≡ 32 → Short text from true (head_code head) 0 0 (from + 5)
-  unfolding head_code waiting_code node_words
-  code-short e =
-      let P : ℕ → Type 0 = λ c. (c ≡ OTHER → ⊥) → Shows (begun (rest text from)) text true c 0 0 (from + 5) in
-      record {
-        shows_it =
-            either-cases P (eqb head 1684300072) (λ t _. operator-shows (operate add) 40 97 100 100
-            (begins-with 40 97 100 100 (omega arith) (omega arith) (omega arith) h p (eqb-true head 1684300072 t)) e add-begun) (λ _.
-            either-cases P (eqb head 1651864360) (λ t _. operator-shows (operate sub) 40 115 117 98
-            (begins-with 40 115 117 98 (omega arith) (omega arith) (omega arith) h p (eqb-true head 1651864360 t)) e sub-begun) (λ _.
-            either-cases P (eqb head 1852402984) (λ t _. operator-shows (operate min) 40 109 105 110
-            (begins-with 40 109 105 110 (omega arith) (omega arith) (omega arith) h p (eqb-true head 1852402984 t)) e min-begun) (λ _.
-            either-cases P (eqb head 2019650856) (λ t _. operator-shows (operate max) 40 109 97 120
-            (begins-with 40 109 97 120 (omega arith) (omega arith) (omega arith) h p (eqb-true head 2019650856 t)) e max-begun) (λ _. λ k. absurd (k refl)))));
-      }
+  heads-begins : (o : Operator) → Heads head o → get_or text (from + 4) 0 ≡ 32 → Begins text from (bracket_of o)
+  heads-begins Add q e = begins-space (begins 40 97 100 100 (omega arith) (omega arith) (omega arith) q.head_is) e
+  heads-begins Sub q e = begins-space (begins 40 115 117 98 (omega arith) (omega arith) (omega arith) q.head_is) e
+  heads-begins Min q e = begins-space (begins 40 109 105 110 (omega arith) (omega arith) (omega arith) q.head_is) e
+  heads-begins Max q e = begins-space (begins 40 109 97 120 (omega arith) (omega arith) (omega arith) q.head_is) e
+  heads-begins Pick q e = absurd (let z : 6 ≡ 5 = q.spaced in omega arith)
 
-  pub operator-short : {code : ℕ} → code ≡ head_code head → get_or text (from + 4) 0 ≡ 32 → Short text from true code 0 0 (from + 5)
-  operator-short q e = rw q (code-short e)
+  pub operator-short : (o : Operator) → Heads head o → get_or text (from + 4) 0 ≡ 32
+      → Shows (begun (rest text from)) text (record { beginning = Opens o; at = from + 5 })
+  operator-short o q e = bracket-short o (heads-begins o q e) (rw q.spaced) (omega arith)
 
-  pub pick-short : (eqb head 1667854376 && eqb (get_or text (from + 4) 0) 107) && eqb (get_or text (from + 5) 0) 32 ≡ true → Short text from true 40 0 0 (from + 6)
-  unfolding waiting_code node_words
+  pub pick-short : (eqb head 1667854376 && eqb (get_or text (from + 4) 0) 107) && eqb (get_or text (from + 5) 0) 32 ≡ true
+      → Shows (begun (rest text from)) text (record { beginning = Opens Pick; at = from + 6 })
   pick-short e =
       let (four, space) = both_true _ _ e in
       let (is, letter) = both_true _ _ four in
       let q : Begins text from (40 ∷ 112 ∷ 105 ∷ 99 ∷ []) =
       begins-with 40 112 105 99 (omega arith) (omega arith) (omega arith) h p (eqb-true head 1667854376 is) in
-      some-short (shows-opened (40 ∷ 112 ∷ 105 ∷ 99 ∷ 107 ∷ 32 ∷ drop (from + 6) text) (omega arith) (omega arith)
-      (q.bytes_are ∙ ap (λ r. 40 ∷ 112 ∷ 105 ∷ 99 ∷ r) (byte-is text from 4 (omega arith)
-      ∙ (ap (λ (x : ℕ). x ∷ drop (from + 5) text) (eqb-true _ _ letter)
-      ∙ ap (λ r. 107 ∷ r) (byte-is text from 5 (omega arith) ∙ ap (λ (x : ℕ). x ∷ drop (from + 6) text) (eqb-true _ _ space)))))
-      select 2 (pick-begun (drop (from + 6) text)))
-
--- opens every definition of this module
-unfoldable pub opens : Unit {0}
-unfolding head_code
-opens = tt
+      bracket-short Pick (record {
+        long = h;
+        bytes_are =
+            q.bytes_are ∙ ap (λ r. 40 ∷ 112 ∷ 105 ∷ 99 ∷ r) (byte-is text from 4 (omega arith)
+            ∙ (ap (λ (x : ℕ). x ∷ drop (from + 5) text) (eqb-true _ _ letter)
+            ∙ ap (λ r. 107 ∷ r) (byte-is text from 5 (omega arith) ∙ ap (λ (x : ℕ). x ∷ drop (from + 6) text) (eqb-true _ _ space))));
+      }) refl (omega arith)

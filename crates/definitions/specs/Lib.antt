@@ -10,3 +10,4 @@ pub mod Expressions
 pub mod ExpressionsLaws
 pub mod ExpressionsLoop
 pub mod ExpressionsShort
+pub mod Nodes

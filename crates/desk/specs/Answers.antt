@@ -1,7 +1,7 @@
 -- The answer in code: what is lent to the two calls, and what is asked of their figures.
 -- Assumes nothing.
 use Prim.Native.Nat.{ℕ, zero, suc, ◌*◌, ◌≤◌, ◌<◌}
-use Rattle.std.specs.Prelude.{◌≡◌, take}
+use Rattle.std.specs.Prelude.{◌≡◌, take, Result, Ok, Err, IfOk}
 use Rattle.std.proofs.Math.Path.{refl, sym}
 use Rattle.std.proofs.Common.{ap, ◌∙◌, arith, length-take}
 use Rattle.std.proofs.Math.Option.{some}
@@ -10,12 +10,15 @@ use Rattle.std.proofs.Math.ListN.{length}
 use Rattle.grammar.specs.Limits.{MAX_TEXT, BOOK_WORDS, MAX_ROWS, PAGE_WORDS}
 use Rattle.grammar.specs.Engine.{Reading, read_book, Evaluation, turned_back, evaluate_words}
 use Rattle.grammar.specs.Cases.Cases.{after_reading, calls}
-use Rattle.attempts.specs.Readings.{Reads}
-use Rattle.attempts.specs.Evaluations.{Evaluates}
-use Rattle.console.specs.Desk.{Input, refused, answer_of, evaluated, answer, answer_to}
+use Rattle.attempts.specs.Readings.{Reads, refused-some}
+use Rattle.attempts.specs.Evaluations.{Evaluates, count_of}
+use Rattle.book.specs.declared.refusal.Refusal.{Refusal}
+use Rattle.book.specs.Refusals.{number_of, answer_of as number}
+use Rattle.console.specs.Desk.{Input, refused, accepted, answer_of, evaluated, answer, answer_to}
 use Rattle.console.specs.Figures.{few-rows, calls-kept, answer-evaluated}
 use Rattle.console.specs.Holds.{HoldsBook, HoldsTokens}
 use Rattle.console.specs.Kept.{KEPT_NUMBERS}
+use Rattle.console.specs.Printing.{answer_in}
 use Rattle.console.proofs.Settled.{unended}
 use Rattle.console.proofs.Stands.{stands-front, stands-alone}
 
@@ -24,48 +27,67 @@ pub record Lengths (words rows : List ℕ) : Type 0 where
   pub words_long : length words ≡ BOOK_WORDS
   pub rows_long : length rows ≡ PAGE_WORDS
 
--- the answer that a refusal or 0, a row count and the rows give is the evaluation's
-pub record Figured (e : Evaluation) (number count : ℕ) (rows : List ℕ) : Type 0 where
-  pub answer_is : answer_of number count rows ≡ evaluated e
+-- the answer and the rows are the evaluation's
+pub record Figured (e : Evaluation) (answer : Result ℕ Refusal) (rows : List ℕ) : Type 0 where
+  pub answer_is : answer_in answer rows ≡ evaluated e
+
+-- a refusal's number is not 0
+refused_is : (n count : ℕ) (rows : List ℕ) → (n ≡ 0 → ⊥) → refused n ≡ answer_of n count rows
+unfolding answer_of
+refused_is zero count rows h = absurd (h refl)
+refused_is (suc n) count rows h = refl
+
+-- by its number and its count
+in-numbers : (answer : Result ℕ Refusal) (rows : List ℕ) → answer_in answer rows ≡ answer_of (number answer) (count_of answer) rows
+unfolding answer_in answer_of number count_of
+in-numbers (Ok count) rows = refl
+in-numbers (Err refusal) rows = refused_is (number_of refusal) 0 rows (refused-some (Err refusal) refl)
 
 module _ (text tokens : List ℕ) where
-  after-refused : (r : Reading) (n : ℕ) (rows : List ℕ) → n ≡ r.number → (n ≡ 0 → ⊥) → answer_of n 0 rows ≡ evaluated (after_reading r tokens)
+  after-refused : (r : Reading) (n : ℕ) → n ≡ r.number → (n ≡ 0 → ⊥) → refused n ≡ evaluated (after_reading r tokens)
   unfolding after_reading turned_back answer_of
-  after-refused r zero rows e h = absurd (h refl)
-  after-refused r (suc n) rows e h = rw (← e, after_reading)
+  after-refused r zero e h = absurd (h refl)
+  after-refused r (suc n) e h = rw (← e, after_reading)
+
+  -- reading refuses the text
+  pub figured-refused : (refusal : Refusal) (rows : List ℕ) {lent : ℕ} {words : List ℕ} → lent ≡ BOOK_WORDS
+      → Reads (read_book text lent) (number_of refusal) words → Figured (calls text tokens) (Err refusal) rows
+  unfolding calls answer_in number
+  figured-refused refusal rows l r =
+      record { answer_is = after-refused (read_book text BOOK_WORDS) (number_of refusal) (rw l at r.number_is) (refused-some (Err refusal) refl) }
 
   after-taken : (r : Reading) → 0 ≡ r.number → after_reading r tokens ≡ evaluate_words r.words tokens PAGE_WORDS
   unfolding after_reading
   after-taken r e = rw (← e, after_reading)
 
-  -- reading refuses the text
-  pub figured-refused : {n lent : ℕ} {words : List ℕ} (rows : List ℕ) → lent ≡ BOOK_WORDS → Reads (read_book text lent) n words → (n ≡ 0 → ⊥)
-      → Figured (calls text tokens) n 0 rows
-  unfolding calls
-  figured-refused {n} rows l r h = record { answer_is = after-refused (read_book text BOOK_WORDS) n rows (rw l at r.number_is) h }
-
   -- reading takes the text, and evaluating answers
-  pub figured-evaluated : {n lent page number count : ℕ} {words rows : List ℕ} → lent ≡ BOOK_WORDS → page ≡ PAGE_WORDS → Reads (read_book text lent) n words
-      → n ≡ 0 → Evaluates (evaluate_words words tokens page) number rows count → Figured (calls text tokens) number count rows
+  pub figured-evaluated : (answer : Result ℕ Refusal) {lent page : ℕ} {words rows : List ℕ} → lent ≡ BOOK_WORDS → page ≡ PAGE_WORDS
+      → Reads (read_book text lent) 0 words → Evaluates (evaluate_words words tokens page) (number answer) rows (count_of answer)
+      → Figured (calls text tokens) answer rows
   unfolding calls
-  figured-evaluated {page = page} {number} {count} {words} {rows} l p r z e =
+  figured-evaluated answer {page = page} {words} {rows} l p r e =
       let reading : Reading = read_book text BOOK_WORDS in
       let w : words ≡ reading.words = rw l at r.words_are in
-      let taken : 0 ≡ reading.number = sym z ∙ rw l at r.number_is in
-      let said : calls text tokens ≡ evaluate_words words tokens page = after-taken reading taken ∙ rw (w, p) in
-      record { answer_is = rw (said, ← e.number_is, ← e.count_is, ← e.rows_are) }
+      let said : calls text tokens ≡ evaluate_words words tokens page = after-taken reading (rw l at r.number_is) ∙ rw (w, p) in
+      record { answer_is = in-numbers answer rows ∙ rw (said, ← e.number_is, ← e.count_is, ← e.rows_are) }
 
-same_count : (m c n : ℕ) (rows : List ℕ) (k : ℕ) (page : List ℕ) → answer_of m c rows ≡ answer_of n k page → m ≡ 0 → (n ≡ 0) × (c ≡ k)
+same_count : (c : ℕ) (rows : List ℕ) (n k : ℕ) (page : List ℕ) → accepted c rows ≡ answer_of n k page → (n ≡ 0) × (c ≡ k)
 unfolding answer_of
-same_count zero c zero rows k page e z = (refl, cc)
-same_count zero c (suc n) rows k page e z = absurd (let y : ◌≡◌ {A = ℕ} 0 1 = cc in omega arith)
-same_count (suc m) c n rows k page e z = absurd (omega arith)
+same_count c rows zero k page e = (refl, cc)
+same_count c rows (suc n) k page e = cc
 
-pub figured-few : {number count : ℕ} {rows : List ℕ} (text tokens : List ℕ) → Figured (calls text tokens) number count rows → number ≡ 0 → count ≤ MAX_ROWS
-figured-few text tokens f z =
-    let e : Evaluation = calls text tokens in
-    let s = same_count _ _ e.number _ e.count e.rows f.answer_is z in
-    omega (arith, few-rows text tokens s.0, s.1)
+-- no more rows than there is room for
+pub figured-few : {answer : Result ℕ Refusal} {rows : List ℕ} (text tokens : List ℕ) → Figured (calls text tokens) answer rows
+    → IfOk answer (λ count. count ≤ MAX_ROWS)
+unfolding answer_in
+figured-few {answer} {rows} text tokens f = go answer f.answer_is
+  where
+    e : Evaluation
+    e = calls text tokens
+
+    go : (a : Result ℕ Refusal) → answer_in a rows ≡ evaluated e → IfOk a (λ count. count ≤ MAX_ROWS)
+    go (Ok count) q = let s = same_count count rows e.number e.count e.rows q in omega (arith, few-rows text tokens s.0, s.1)
+    go (Err refusal) q = tt
 
 -- Where the input ends
 

@@ -11,17 +11,11 @@ use Rattle.console.specs.Printing.{OUTPUT_BYTES, Printed}
 use Rattle.console.proofs.Stands.{stands-nothing}
 use Rattle.console.proofs.Steps.{all_append}
 
--- the input could not be read, or the output is the one that belongs to it
-pub data Outcome (out : List ℕ) (n : ℕ) : Type 0 where
-  unread : n ≡ 0 → Outcome out n
-  answered : (bytes : List ℕ) → take n out ≡ desk_output bytes → Outcome out n
-
+-- the first n bytes of the output are those that belong to some input
 pub record Ran (out : List ℕ) (n : ℕ) : Type 0 where
   pub within : n ≤ OUTPUT_BYTES
-  pub outcome : Outcome out n
-
-pub ran-unread : {n : ℕ} (out : List ℕ) → n ≡ 0 → Ran out n
-ran-unread out e = record { within = omega arith; outcome = unread e }
+  pub bytes : List ℕ
+  pub output_is : take n out ≡ desk_output bytes
 
 -- what is held after some bytes
 pub record Reached (text buffer : List ℕ) (p : Progress) : Type 0 where
@@ -49,7 +43,7 @@ module _ {text buffer : List ℕ} {p : Progress} (r : Reached text buffer p) whe
   unfolding desk_output
   reached-end end =
       let printed = end (all_bytes nothing_read r.bytes) r.holds in
-      record { within = printed.within; outcome = answered r.bytes printed.text_is }
+      record { within = printed.within; bytes = r.bytes; output_is = printed.text_is }
 
 -- from part to part of the input, in the same buffers
 pub record Running (chunk₀ text₀ buffer₀ chunk text buffer : List ℕ) (p : Progress) : Type 0 where

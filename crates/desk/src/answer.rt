@@ -9,33 +9,24 @@ ghost use Rattle.console.specs.Holds.{HoldsTokens, Holds};
 ghost use Rattle.console.specs.Printing.{OUTPUT_BYTES, Printed};
 ghost use Rattle.desk.specs.Answers.{Lengths, Figured};
 
+use book::refusal::Refusal;
 use console::input::Progress;
 use console::output::{put_answer, put_refused};
 use engine::evaluating::evaluate;
 use engine::reading::read;
 
-// A refusal or 0, and the number of rows.
-#[derive(Clone, Copy)]
-struct Evaluated {
-    number: u32,
-    count: u32,
-}
-
-// What reading and evaluating say of a book's text and the tokens' numbers.
-fn figures(text: &[u8], numbers: &[u32], words: &mut [u32], rows: &mut [u32]) -> Evaluated
+// What reading and evaluating say of a book's text and the tokens' numbers: the number of rows, or the refusal.
+fn figures(
+    text: &[u8],
+    numbers: &[u32],
+    words: &mut [u32],
+    rows: &mut [u32],
+) -> Result<u32, Refusal>
     requires { Lengths words.old rows.old }
-    ensures { Figured (calls text.now numbers.now) result.number result.count rows.new }
+    ensures { Figured (calls text.now numbers.now) result rows.new }
 {
-    let refusal = read(text, words);
-    if refusal != 0 {
-        return Evaluated {
-            number: refusal,
-            count: 0,
-        };
-    }
-    let mut count: u32 = 0;
-    let number = evaluate(words, numbers, rows, &mut count);
-    Evaluated { number, count }
+    read(text, words)?;
+    evaluate(words, numbers, rows)
 }
 
 // The answer to a book's text that is not too long and tokens that are spelled right.
@@ -49,8 +40,8 @@ fn respond(
     requires { (length text.now ≤ MAX_TEXT) × Lengths words.old rows.old × (OUTPUT_BYTES ≤ length out.old) }
     ensures { Printed (answer text.now (some numbers.now)) out.new result }
 {
-    let f = figures(text, numbers, words, rows);
-    put_answer(out, f.number, f.count, rows)
+    let answer = figures(text, numbers, words, rows);
+    put_answer(out, answer, rows)
 }
 
 // The answer where the input ends in the token lines: a line that is not ended is misspelt.
@@ -68,7 +59,7 @@ fn tokens_answer(
     ensures { (i : Input) → HoldsTokens text.now numbers.now book at count i → Printed (answer_to i) out.new result }
 {
     if book < at {
-        return put_refused(out, 2);
+        return put_refused(out, Refusal::Spelling);
     }
     let n = 2 * (count as usize);
     respond(&text[..book], &numbers[..n], words, rows, out)
@@ -91,6 +82,6 @@ pub fn answer(
         Progress::Tokens { book, at, count } => {
             tokens_answer(book, at, count, text, numbers, words, rows, out)
         }
-        Progress::Refused(n) => put_refused(out, n),
+        Progress::Refused(refusal) => put_refused(out, refusal),
     }
 }

@@ -3,7 +3,7 @@
 
 mod answer;
 
-ghost use Rattle.std.specs.Prelude.{◌≤◌, length};
+ghost use Rattle.std.specs.Prelude.{◌≤◌, length, IfSome};
 ghost use Rattle.console.specs.Holds.{Buffers};
 ghost use Rattle.console.specs.Printing.{OUTPUT_BYTES};
 ghost use Rattle.desk.specs.Answers.{Lengths};
@@ -15,51 +15,30 @@ use console::input::{KEPT_NUMBERS, Progress, TEXT_ROOM, all_bytes};
 use console::output::OUTPUT_BYTES;
 use std::io::{Read, Write};
 
-// What was read, and whether that is all of the input.
-#[derive(Clone, Copy)]
-struct Taken {
-    whole: bool,
-    progress: Progress,
-}
-
-// Takes an input to its end. A proved loop has to end, and nothing says that the input does: the loop has a number of turns that no run uses up.
+// Takes an input to its end, if it can be read. A proved loop has to end, and nothing says that the input does: the loop has a number of turns that no run
+// uses up.
 fn take_input<R: Read>(
     input: &mut R,
     t: &[u8; 256],
     chunk: &mut [u8],
     text: &mut [u8],
     numbers: &mut [u32],
-) -> Taken
+) -> Option<Progress>
     requires { Buffers t.now text.old numbers.old }
-    ensures { Reached text.new numbers.new result.progress }
+    ensures { IfSome result (λ progress. Reached text.new numbers.new progress) }
 {
     let mut p = Progress::Book { line: 0, at: 0 };
     for _turn in 0..u64::MAX {
-        match input.read(chunk) {
-            Ok(n) => {
-                if n == 0 {
-                    return Taken {
-                        whole: true,
-                        progress: p,
-                    };
-                }
-                p = all_bytes(t, p, &chunk[..n], text, numbers);
-            }
-            Err(_) => {
-                return Taken {
-                    whole: false,
-                    progress: p,
-                };
-            }
+        let n = input.read(chunk).ok()?;
+        if n == 0 {
+            return Some(p);
         }
+        p = all_bytes(t, p, &chunk[..n], text, numbers);
     }
-    Taken {
-        whole: false,
-        progress: p,
-    }
+    None
 }
 
-// Takes the input, puts the answer into `out`, and says how long it is; 0 where the input cannot be read.
+// Takes the input, if it can be read, puts the answer into `out`, and says how long it is.
 fn run<R: Read>(
     input: &mut R,
     t: &[u8; 256],
@@ -69,24 +48,12 @@ fn run<R: Read>(
     words: &mut [u32],
     rows: &mut [u32],
     out: &mut [u8],
-) -> usize
+) -> Option<usize>
     requires { Buffers t.now text.old numbers.old × Lengths words.old rows.old × (OUTPUT_BYTES ≤ length out.old) }
-    ensures { Ran out.new result }
+    ensures { IfSome result (λ n. Ran out.new n) }
 {
-    let taken = take_input(input, t, chunk, text, numbers);
-    if !taken.whole {
-        return 0;
-    }
-    let p = taken.progress;
-    answer(p, text, numbers, words, rows, out)
-}
-
-// Whether all of the bytes were written.
-fn written<W: Write>(output: &mut W, bytes: &[u8]) -> bool {
-    match output.write_all(bytes) {
-        Ok(()) => true,
-        Err(_) => false,
-    }
+    let progress = take_input(input, t, chunk, text, numbers)?;
+    Some(answer(progress, text, numbers, words, rows, out))
 }
 
 fn main(rt: HostRuntime) {
@@ -98,7 +65,7 @@ fn main(rt: HostRuntime) {
     let mut rows = [0u32; Book::PAGE_WORDS];
     let mut out = [0u8; OUTPUT_BYTES];
     let mut input = rt.stdin();
-    let n = run(
+    let answered = run(
         &mut input,
         &t,
         &mut chunk,
@@ -109,12 +76,11 @@ fn main(rt: HostRuntime) {
         &mut out,
     );
     let mut errors = rt.stderr();
-    if n == 0 {
-        written(&mut errors, b"standard input cannot be read\n");
+    let Some(n) = answered else {
+        let _ = errors.write_all(b"standard input cannot be read\n");
         return;
-    }
-    let mut output = rt.stdout();
-    if !written(&mut output, &out[..n]) {
-        written(&mut errors, b"standard output cannot be written\n");
+    };
+    if rt.stdout().write_all(&out[..n]).is_err() {
+        let _ = errors.write_all(b"standard output cannot be written\n");
     }
 }

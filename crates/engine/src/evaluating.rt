@@ -1,21 +1,19 @@
 // Evaluating: a stored book and the tokens of a message to rows.
 ghost use Rattle.std.specs.Prelude.{length};
 ghost use Rattle.grammar.specs.Engine.{evaluate_words};
-ghost use Rattle.attempts.specs.Evaluations.{Evaluates};
+ghost use Rattle.book.specs.Refusals.{answer_of};
+ghost use Rattle.attempts.specs.Evaluations.{Evaluates, count_of};
 
-use arrays::evaluating::number;
-use packing::packing::clear;
+use book::refusal::Refusal;
 
-// 0 where the message is accepted, and its rows and their count; else the refusal, and zeros.
-pub fn evaluate(words: &[u32], tokens: &[u32], rows: &mut [u32], count: &mut u32) -> u32
-    ensures { Evaluates (evaluate_words words.now tokens.now (length rows.old)) result rows.new
-        count.new }
+// The number of the message's rows, which are in place; else the refusal, and zeros.
+pub fn evaluate(words: &[u32], tokens: &[u32], rows: &mut [u32]) -> Result<u32, Refusal>
+    ensures { Evaluates (evaluate_words words.now tokens.now (length rows.old)) (answer_of result) rows.new
+        (count_of result) }
 {
-    let n = number(words, tokens, rows, count);
-    if n == 0 {
-        return n;
+    let answer = arrays::evaluating::evaluate(words, tokens, rows);
+    if answer.is_err() {
+        rows.fill(0);
     }
-    clear(rows);
-    *count = 0;
-    n
+    answer
 }

@@ -13,7 +13,10 @@ ghost use Rattle.attempts.specs.Readings.{Reads};
 pub fn message_book_read(text: &[u8], words: &mut [u32]) -> u32
     ensures { Reads (read_book text.now (length words.old)) result words.new }
 {
-    reading::read(text, words)
+    match reading::read(text, words) {
+        Ok(()) => 0,
+        Err(refusal) => refusal.number(),
+    }
 }
 
 // Evaluating. Crate engine_c exports it for callers in C.
@@ -26,5 +29,14 @@ pub fn message_book_evaluate(
     ensures { Evaluates (evaluate_words words.now tokens.now (length rows.old)) result rows.new
         count.new }
 {
-    evaluating::evaluate(words, tokens, rows, count)
+    match evaluating::evaluate(words, tokens, rows) {
+        Ok(n) => {
+            *count = n;
+            0
+        }
+        Err(refusal) => {
+            *count = 0;
+            refusal.number()
+        }
+    }
 }

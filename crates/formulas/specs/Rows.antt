@@ -1,15 +1,21 @@
 -- Laws of rows in a table: a row that is stored stands there, and the others are as they were. Assumes nothing.
-use Rattle.std.specs.Prelude.{ℕ, ◌+◌, ◌*◌, ◌<◌, ◌≤◌, ◌≡◌, refl, true, false, List, [], ◌∷◌, get_or}
+use Rattle.std.specs.Prelude.{ℕ, suc, ◌+◌, ◌*◌, ◌<◌, ◌≤◌, ◌≡◌, refl, List, [], ◌∷◌, get_or}
 use Rattle.std.proofs.Common.{◌∙◌, arith}
 use Rattle.std.proofs.Math.ListN.{length, set, length-set}
 use Rattle.std.proofs.Math.Seq.{get_or-set_same, get_or-set_other}
-use Rattle.formulas.specs.Table.{row_at, stored, Grown, Same}
+use Rattle.std.proofs.lemmas.List.Edits.{sets-eq}
+use Rattle.std.proofs.Math.Seq.{paste}
+use Rattle.formulas.specs.Table.{row_at, stored, Grown}
 
-pub is_same : {table : List ℕ} {i : ℕ} {row : List ℕ} → row_at table i ≡ row → Same table i row true
-is_same e = record { holds = λ _. e; fails = λ f. absurd (let z : ◌≡◌ {A = ℕ} 0 1 = cc in omega arith) }
-
-pub not_same : {table : List ℕ} {i : ℕ} {row : List ℕ} → (row_at table i ≡ row → ⊥) → Same table i row false
-not_same n = record { holds = λ f. absurd (let z : ◌≡◌ {A = ℕ} 0 1 = cc in omega arith); fails = λ _. n }
+-- a row's words that are copied to their places
+pub stored-copied : (table : List ℕ) (i a b c d : ℕ) → 4 * i + 4 ≤ length table
+    → stored table i (a ∷ b ∷ c ∷ d ∷ []) ≡ paste table (4 * i) (a ∷ b ∷ c ∷ d ∷ []) 4
+unfolding stored
+stored-copied table i a b c d h =
+    let one : 4 * i + 1 ≡ suc (4 * i) = omega arith in
+    let two : 4 * i + 2 ≡ suc (suc (4 * i)) = omega arith in
+    let three : 4 * i + 3 ≡ suc (suc (suc (4 * i))) = omega arith in
+    rw (one, two, three) (sets-eq (a ∷ b ∷ c ∷ d ∷ []) table (4 * i) h)
 
 module _ (table : List ℕ) (i : ℕ) (row : List ℕ) where
   pub length-stored : length (stored table i row) ≡ length table

@@ -1,7 +1,6 @@
 -- The steps of a definition, read from its line (book's Layout and Held). Assumes nothing.
 use Rattle.std.specs.Prelude.{ℕ, ◌+◌, ◌*◌, ◌<◌, ◌≤◌, ◌≡◌, refl, List, [], ◌∷◌, length, get_or}
 use Rattle.std.proofs.Common.{arith}
-use Rattle.std.proofs.Math.ListN.{get_or-eq_default}
 use Rattle.grammar.specs.Limits.{MAX_NODES}
 use Rattle.grammar.specs.Data.Term.{nodes, add, sub, min, max}
 use Rattle.grammar.specs.Data.Postfix as postfix
@@ -27,10 +26,6 @@ kinds x y = push x ∷ load (own x) ∷ load (at x y) ∷ load (val x) ∷ opera
 
 unfoldable pub step_with : ℕ → ℕ → ℕ → postfix.Step Place
 step_with kind x y = get_or (kinds x y) kind select
-
-pub step-select : (kind x y : ℕ) → 8 ≤ kind → step_with kind x y ≡ select
-unfolding step_with
-step-select kind x y h = get_or-eq_default (kinds x y) select h
 
 -- the step whose words stand at a place
 abbrev pub step_in : List ℕ → ℕ → postfix.Step Place

@@ -1,7 +1,7 @@
 -- A table of nodes without duplicates: rows of four words, found through buckets by a hash. `heads` has for each hash the number of the last row
 -- with that hash, and `nexts` for each row the number of the row before it with the same hash, each plus one and 0 where there is none.
 -- Assumes nothing.
-use Rattle.std.specs.Prelude.{ℕ, zero, suc, ◌+◌, ◌*◌, ◌%◌, ◌^◌, ◌<◌, ◌≤◌, ◌≡◌, Bool, true, false, List, [], ◌∷◌, eqb, length, get_or, set}
+use Rattle.std.specs.Prelude.{ℕ, zero, suc, ◌+◌, ◌*◌, ◌%◌, ◌^◌, ◌<◌, ◌≤◌, ◌≡◌, true, false, Option, Some, None, List, [], ◌∷◌, eqb, length, get_or, set}
 use Rattle.formulas.specs.declared.nodes.Node.{Node}
 use Rattle.formulas.specs.Nodes.{row_of}
 
@@ -51,16 +51,10 @@ pub record Added (node : Node) (old : List ℕ) (used : ℕ) (new heads nexts : 
   pub there : number < count
   pub is : row_at new number ≡ row_of node
 
--- whether row i is a given one
-pub record Same (table : List ℕ) (i : ℕ) (row : List ℕ) (r : Bool) : Type 0 where
-  pub holds : r ≡ true → row_at table i ≡ row
-  pub fails : r ≡ false → row_at table i ≡ row → ⊥
-
--- what a search finds: the row's number, or `used`
-pub record Found (table : List ℕ) (used : ℕ) (row : List ℕ) (number : ℕ) : Type 0 where
-  pub within : number ≤ used
-  pub hit : number < used → row_at table number ≡ row
-  pub miss : number ≡ used → (j : ℕ) → j < used → row_at table j ≡ row → ⊥
+-- what a search finds: the row's number, or that the row is not there
+abbrev pub Found : List ℕ → ℕ → List ℕ → Option ℕ → Type 0
+Found table used row (Some number) = (number < used) × (row_at table number ≡ row)
+Found table used row None = (j : ℕ) → j < used → row_at table j ≡ row → ⊥
 
 -- opens every definition of this module
 unfoldable pub opens : Unit {0}

@@ -27,12 +27,10 @@ fn own_operand(attribute: u32, dot: u32, slots: &[u32]) -> Operand
     if dot != 0 {
         return Operand::New(Node::Leaf(Leaf::Attribute(Stack::Inherited, dot, attribute)));
     }
-    let k = attribute as usize;
-    let word = slots[k];
-    if word == 0 {
-        return Operand::New(Node::Number(0));
+    match slots[attribute as usize].checked_sub(1) {
+        Some(number) => Operand::Known(number),
+        None => Operand::New(Node::Number(0)),
     }
-    Operand::Known(word - 1)
 }
 
 // What a step puts on a stack of `top` numbers. Right symbol j stands `dot - j` symbols below the top.
@@ -87,8 +85,7 @@ pub fn formula_of(
     let nodes = definitions[first + 3] as usize;
     let mut stack = [0u32; Book::MAX_NODES as usize + 1];
     let mut top: usize = 0;
-    let mut i = 0;
-    while i < nodes {
+    for i in 0..nodes {
         let step = step_at(definitions, first + 4 + 3 * i);
         let operand = operand_of(step, dot, slots, &stack, top);
         let r = number_of(operand, table, heads, nexts, used);
@@ -96,7 +93,6 @@ pub fn formula_of(
         top -= operands(step);
         stack[top] = r.number;
         top += 1;
-        i += 1;
     }
     Interned {
         number: stack[0],

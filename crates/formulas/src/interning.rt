@@ -1,7 +1,8 @@
-// A table of nodes without duplicates, so that equal formulas have equal numbers. A row is found through the bucket of its hash.
-ghost use Rattle.std.specs.Prelude.{◌≡◌, ◌+◌, ◌*◌, ◌^◌, ◌<◌, ◌≤◌, length, get_or, set, replicate};
+// A table of nodes without duplicates, so that equal formulas have equal numbers. A row is found through the bucket of its hash: a word of `heads`, one for
+// each hash, and of `nexts`, one for each row, is one more than the number of the next row with that hash, or 0.
+ghost use Rattle.std.specs.Prelude.{◌≡◌, ◌+◌, ◌*◌, ◌^◌, ◌<◌, ◌≤◌, length, get_or, set};
 ghost use Rattle.formulas.specs.Nodes.{shown};
-ghost use Rattle.formulas.specs.Table.{HEADS, hash_of, stored, Table, Added, Same, Found};
+ghost use Rattle.formulas.specs.Table.{HEADS, row_at, hash_of, stored, Table, Added, Found};
 
 use super::nodes::{Node, Row, row_of};
 
@@ -12,18 +13,7 @@ pub struct Interned {
     pub used: u32,
 }
 
-// A table of no nodes; the rows need not be cleared.
-pub fn clear(heads: &mut [u32])
-    requires { length heads.old ≡ HEADS }
-    ensures { heads.new ≡ replicate HEADS 0 }
-{
-    let mut i = 0;
-    while i < 64 {
-        heads[i] = 0;
-        i += 1;
-    }
-}
-
+#[tactic(auto, unfolding(crate::specs::Table::hash_of))]
 fn hash(row: Row) -> usize
     ensures { result ≡ hash_of (shown row) }
 {
@@ -31,42 +21,40 @@ fn hash(row: Row) -> usize
         % 64
 }
 
-// Whether row i is this one.
-fn same_at(table: &[u32], i: usize, row: Row) -> bool
+fn row_at(table: &[u32], i: usize) -> Row
     requires { 4 * i + 4 ≤ length table.now }
-    ensures { Same table.now i (shown row) result }
+    ensures { shown result ≡ row_at table.now i }
 {
     let at = 4 * i;
-    if table[at] != row.kind {
-        return false;
+    Row {
+        kind: table[at],
+        first: table[at + 1],
+        second: table[at + 2],
+        third: table[at + 3],
     }
-    if table[at + 1] != row.first {
-        return false;
-    }
-    if table[at + 2] != row.second {
-        return false;
-    }
-    if table[at + 3] != row.third {
-        return false;
-    }
-    true
 }
 
-// The number of the row, or `used` where it is not in the table.
-fn find(table: &[u32], heads: &[u32], nexts: &[u32], used: u32, bucket: usize, row: Row) -> u32
+// The number of the row, if it is in the table.
+fn find(
+    table: &[u32],
+    heads: &[u32],
+    nexts: &[u32],
+    used: u32,
+    bucket: usize,
+    row: Row,
+) -> Option<u32>
     requires { Table table.now heads.now nexts.now used × (bucket ≡ hash_of (shown row)) }
     ensures { Found table.now used (shown row) result }
 {
     let mut next = heads[bucket];
-    while next != 0 {
-        let number = next - 1;
+    while let Some(number) = next.checked_sub(1) {
         let i = number as usize;
-        if same_at(table, i, row) {
-            return number;
+        if row_at(table, i) == row {
+            return Some(number);
         }
         next = nexts[i];
     }
-    used
+    None
 }
 
 fn put_row(table: &mut [u32], i: usize, row: Row)
@@ -74,10 +62,7 @@ fn put_row(table: &mut [u32], i: usize, row: Row)
     ensures { table.new ≡ stored table.old i (shown row) }
 {
     let at = 4 * i;
-    table[at] = row.kind;
-    table[at + 1] = row.first;
-    table[at + 2] = row.second;
-    table[at + 3] = row.third;
+    table[at..at + 4].copy_from_slice(&[row.kind, row.first, row.second, row.third]);
 }
 
 // Row `number` becomes the head of its bucket.
@@ -104,8 +89,7 @@ pub fn intern(
 {
     let row = row_of(node);
     let bucket = hash(row);
-    let number = find(table, heads, nexts, used, bucket, row);
-    if number < used {
+    if let Some(number) = find(table, heads, nexts, used, bucket, row) {
         return Interned { number, used };
     }
     put_row(table, used as usize, row);

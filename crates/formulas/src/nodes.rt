@@ -33,7 +33,7 @@ pub enum Node {
     Pick(u32, u32, u32),
 }
 
-#[derive(Clone, Copy)]
+#[derive(Clone, Copy, PartialEq, Eq)]
 pub struct Row {
     pub kind: u32,
     pub first: u32,
@@ -45,33 +45,29 @@ fn leaf_row(leaf: Leaf) -> Row
     ensures { shown result ≡ leaf_row leaf }
 {
     match leaf {
-        Leaf::Attribute(stack, offset, attribute) => match stack {
-            Stack::Inherited => Row {
-                kind: 1,
-                first: offset,
-                second: attribute,
-                third: 0,
-            },
-            Stack::Synthesized => Row {
-                kind: 2,
-                first: offset,
-                second: attribute,
-                third: 0,
-            },
+        Leaf::Attribute(Stack::Inherited, offset, attribute) => Row {
+            kind: 1,
+            first: offset,
+            second: attribute,
+            third: 0,
         },
-        Leaf::TokenValue(stack, offset) => match stack {
-            Stack::Inherited => Row {
-                kind: 3,
-                first: offset,
-                second: 0,
-                third: 0,
-            },
-            Stack::Synthesized => Row {
-                kind: 4,
-                first: offset,
-                second: 0,
-                third: 0,
-            },
+        Leaf::Attribute(Stack::Synthesized, offset, attribute) => Row {
+            kind: 2,
+            first: offset,
+            second: attribute,
+            third: 0,
+        },
+        Leaf::TokenValue(Stack::Inherited, offset) => Row {
+            kind: 3,
+            first: offset,
+            second: 0,
+            third: 0,
+        },
+        Leaf::TokenValue(Stack::Synthesized, offset) => Row {
+            kind: 4,
+            first: offset,
+            second: 0,
+            third: 0,
         },
     }
 }

@@ -16,6 +16,7 @@ pub enum Step {
 }
 
 // The step of a kind, with the numbers x and y.
+#[tactic(auto, unfolding(crate::specs::Steps::step_with))]
 fn step_with(kind: u32, x: u32, y: u32) -> Step
     ensures { step_of result ≡ step_with kind x y }
 {
@@ -49,10 +50,7 @@ pub fn operands(step: Step) -> usize
     ensures { result ≡ takes (step_of step) }
 {
     match step {
-        Step::Push(_) => 0,
-        Step::Own(_) => 0,
-        Step::At(_, _) => 0,
-        Step::Val(_) => 0,
+        Step::Push(_) | Step::Own(_) | Step::At(_, _) | Step::Val(_) => 0,
         Step::Operate(_) => 2,
         Step::Select => 3,
     }

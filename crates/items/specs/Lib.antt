@@ -1,7 +1,6 @@
 pub mod Arrays
 pub mod ClosurePasses
 pub mod Closures
-pub mod Copying
 pub mod Derives
 pub mod Filling
 pub mod FirstLoops

@@ -1,9 +1,10 @@
 -- Loops that find a least family of sets (`least`) in place: a visit of one constraint, a pass over all of them, passes until one changes nothing.
 -- Each tells whether it changed the sets. One law for a turn, one for the end and one for the measure of each loop. Assumes nothing.
-use Rattle.std.specs.Prelude.{ℕ, ◌+◌, ◌-◌, ◌^◌, ◌<◌, ◌≤◌, ◌≡◌, Bool, true, false, length}
+use Rattle.std.specs.Prelude.{ℕ, ◌+◌, ◌-◌, ◌^◌, ◌<◌, ◌≤◌, ◌≡◌, Bool, true, false, ◌||◌, length}
 use Rattle.std.proofs.Math.Path.{refl, sym, ap}
 use Rattle.std.proofs.Common.{◌∙◌, subst, ⊎_elim, arith, add-one, get_or-set_same}
 use mathlib.Core.List.{List}
+use Rattle.std.proofs.Math.Bool.{or-true, or-false}
 use Rattle.std.proofs.Math.ListN.{set}
 use Rattle.std.proofs.Math.Seq.{set-get_or}
 use Rattle.sets.specs.Sets.{union}
@@ -80,7 +81,7 @@ module _ {constraint : ℕ → Constraint} {count : ℕ} {first : List ℕ} (F :
     there : Family (length first) next
     there = rw T.now_is (visit-family (constraint p) P.family (F.target_low p h))
 
-    pub turn_more : r ≡ true → Passing constraint count first next true (p + 1)
+    turn_more : r ≡ true → Passing constraint count first next true (p + 1)
     turn_more e = record {
       within = omega arith;
       family = there;
@@ -101,6 +102,13 @@ module _ {constraint : ℕ → Constraint} {count : ℕ} {first : List ℕ} (F :
         more_is = λ q. omega (arith, ap total (T.same_is e), P.told.more_is q);
       };
     }
+
+    pub turn : Passing constraint count first next (changed || r) (p + 1)
+    turn = go r refl
+      where
+        go : (t : Bool) → r ≡ t → Passing constraint count first next (changed || t) (p + 1)
+        go true e = rw (or-true changed) (turn_more e)
+        go false e = rw (or-false changed) (turn-same e)
 
 -- ---- passes until one changes nothing
 

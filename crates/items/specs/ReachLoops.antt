@@ -7,7 +7,7 @@ use Rattle.grammar.specs.Data.Symbol.{Symbol, right_of}
 use Rattle.grammar.specs.Automaton.Fixpoint.{visit, least}
 use Rattle.grammar.specs.Automaton.FirstSets.{Sets, nullable, sets_of, null, first}
 use Rattle.grammar.specs.Automaton.ReachSets.{reach_in, reach_rule, reach_sets}
-use Rattle.items.specs.Arrays.{flag, SuffixesIn, ReachesIn}
+use Rattle.items.specs.Arrays.{SuffixesIn, ReachesIn}
 use Rattle.items.specs.GrammarOf.{
   symbol_of,
   left_word,
@@ -25,7 +25,7 @@ use Rattle.items.specs.GrammarOf.{
   GrammarFits,
 }
 use Rattle.items.specs.Passes.{Told, given, visit-told}
-use Rattle.items.specs.Rests.{nulls_of, RestIs, RestsIn}
+use Rattle.items.specs.Rests.{nulls_of, RestIs, RestsIn, raised, raised-flag}
 use Rattle.items.specs.Filling.{Filled, of_rest, RestsAre, RestsFilled, fill_none, fill-up, rests-end}
 
 -- ---- one rest of a rule
@@ -42,15 +42,15 @@ module _ (F : Sets) (reached words : List ℕ) (P : ℕ) {d last : ℕ} (l : las
     inside = omega arith
 
     pub reach-more : {nullables begins : List ℕ} {word r : ℕ} → word ≡ symbol_word words P d → RestsIn F (right_in words P) (9 * P) nullables begins
-        → ((β : List Symbol) → RestIs F β (get_or nullables (9 * P + d + 1) 0) (get_or begins (9 * P + d + 1) 0) → r ≡ reach_in F reached (symbol_of word ∷ β))
+        → ((β : List Symbol) → RestIs F β (raised (get_or nullables (9 * P + d + 1) 0)) (get_or begins (9 * P + d + 1) 0) → r ≡ reach_in F reached (symbol_of word ∷ β))
         → r ≡ reach_in F reached (drop d (right_in words P))
     reach-more {nullables} {begins} {word} e R told =
         told (drop (d + 1) (right_in words P)) behind ∙ ap (reach_in F reached) (rw e (sym (rest_more words P d inside)))
       where
-        behind : RestIs F (drop (d + 1) (right_in words P)) (get_or nullables (9 * P + d + 1) 0) (get_or begins (9 * P + d + 1) 0)
+        behind : RestIs F (drop (d + 1) (right_in words P)) (raised (get_or nullables (9 * P + d + 1) 0)) (get_or begins (9 * P + d + 1) 0)
         behind =
             let q : 9 * P + (d + 1) ≡ 9 * P + d + 1 = omega arith in
-            subst (λ (k : ℕ). RestIs F (drop (d + 1) (right_in words P)) (get_or nullables k 0) (get_or begins k 0)) q
+            subst (λ (k : ℕ). RestIs F (drop (d + 1) (right_in words P)) (raised (get_or nullables k 0)) (get_or begins k 0)) q
             (R.rest_is (d + 1) (omega (arith, right-size words P)))
 
 -- ---- the arrays of a grammar
@@ -70,7 +70,9 @@ module _ {words : List ℕ} {count nulls : ℕ} {nullables begins : List ℕ} (S
   pub rests_in : (P : ℕ) → P < count → RestsIn (sets_of (grammar_of words count)) (right_in words P) (9 * P) nullables begins
   rests_in P h = record {
     rest_is = λ D l. record {
-      null_is = S.suffixes_are.null_is P D inside (rw e l) ∙ ap (λ (β : List Symbol). flag (null (sets_of (grammar_of words count)) (drop D β))) e;
+      null_is =
+          ap raised (S.suffixes_are.null_is P D inside (rw e l)) ∙ raised-flag _
+          ∙ ap (λ (β : List Symbol). null (sets_of (grammar_of words count)) (drop D β)) e;
       first_is = S.suffixes_are.first_is P D inside (rw e l) ∙ ap (λ (β : List Symbol). first (sets_of (grammar_of words count)) (drop D β)) e;
     };
   }

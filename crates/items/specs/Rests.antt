@@ -1,9 +1,10 @@
 -- Null, FIRST and what is reached of a string, by its first symbol and the rest behind it: what one turn of a loop over a right side does.
 -- Assumes nothing.
-use Rattle.std.specs.Prelude.{ℕ, ◌+◌, ◌-◌, ◌≤◌, ◌<◌, ◌≡◌, Bool, List, [], ◌∷◌, length, get_or, drop}
+use Rattle.std.specs.Prelude.{ℕ, ◌+◌, ◌-◌, ◌≤◌, ◌<◌, ◌≡◌, Bool, not, ◌&&◌, List, [], ◌∷◌, eqb, length, get_or, drop}
 use Rattle.std.proofs.Math.Path.{refl, sym}
-use Rattle.std.proofs.Common.{ap, ◌∙◌, arith, eq-eqb, ne_eqb}
+use Rattle.std.proofs.Common.{ap, ◌∙◌}
 use Rattle.std.proofs.Math.Bool.{true, false}
+use Rattle.std.specs.Int.{from_bool}
 use Rattle.sets.specs.Sets.{bit, single, union}
 use Rattle.grammar.specs.Automaton.TestLaws.{true-false}
 use Rattle.grammar.specs.Data.Symbol.{Symbol, terminal, nonterminal}
@@ -54,60 +55,58 @@ first_stops nulls firsts (nonterminal B) β e = rw (e, first_in)
 unfoldable pub nulls_of : Sets → ℕ
 nulls_of (sets nulls firsts) = nulls
 
--- two words that tell of the rest β whether it is nullable and what can begin it
-pub record RestIs (F : Sets) (β : List Symbol) (nullable begins : ℕ) : Type 0 where
-  pub null_is : nullable ≡ flag (null F β)
+-- of the rest β, whether it is nullable and what can begin it
+pub record RestIs (F : Sets) (β : List Symbol) (nullable : Bool) (begins : ℕ) : Type 0 where
+  pub null_is : nullable ≡ null F β
   pub first_is : begins ≡ first F β
 
 -- of a symbol with a rest behind it, by the tests that were made
-module _ {nulls : ℕ} {firsts : List ℕ} {β : List Symbol} {X : Symbol} {nullable begins own : ℕ} {r : Bool} (R : RestIs (sets nulls firsts) β nullable begins)
+module _ {nulls : ℕ} {firsts : List ℕ} {β : List Symbol} {X : Symbol} {nullable : Bool} {begins own : ℕ} {r : Bool} (R : RestIs (sets nulls firsts) β nullable begins)
     (o : own ≡ begins_with firsts X) (t : r ≡ null_symbol nulls X) where
   pub rest-past : r ≡ true → {u : ℕ} → u ≡ union own begins → RestIs (sets nulls firsts) (X ∷ β) nullable u
   unfolding null first
   rest-past q e = record {
-    null_is = R.null_is ∙ sym (ap flag (null-past nulls X β (sym t ∙ q)));
+    null_is = R.null_is ∙ sym (null-past nulls X β (sym t ∙ q));
     first_is = e ∙ rw (o, R.first_is) (sym (first_past nulls firsts X β (sym t ∙ q)));
   }
 
-  pub rest-stops : r ≡ false → RestIs (sets nulls firsts) (X ∷ β) 0 own
-  unfolding null first flag
+  pub rest-stops : r ≡ false → RestIs (sets nulls firsts) (X ∷ β) false own
+  unfolding null first
   rest-stops q = record {
-    null_is = sym (ap flag (null-stops nulls X β (sym t ∙ q)));
+    null_is = sym (null-stops nulls X β (sym t ∙ q));
     first_is = o ∙ sym (first_stops nulls firsts X β (sym t ∙ q));
   }
 
--- of every rest of β, the words from a place on
+-- what is nullable, as a word, and back
+pub from-flag : (t : Bool) → from_bool t ≡ flag t
+unfolding flag
+from-flag true = refl
+from-flag false = refl
+
+abbrev pub raised : ℕ → Bool
+raised word = not (eqb word 0)
+
+pub raised-flag : (t : Bool) → raised (flag t) ≡ t
+unfolding flag
+raised-flag true = refl
+raised-flag false = refl
+
+pub flag-same : (s t : Bool) → flag s ≡ flag t → s ≡ t
+flag-same s t e = sym (raised-flag s) ∙ ap raised e ∙ raised-flag t
+
+-- of every rest of β, by the words from a place on
 pub record RestsIn (F : Sets) (β : List Symbol) (place : ℕ) (nullables begins : List ℕ) : Type 0 where
-  pub rest_is : (D : ℕ) → D ≤ length β → RestIs F (drop D β) (get_or nullables (place + D) 0) (get_or begins (place + D) 0)
+  pub rest_is : (D : ℕ) → D ≤ length β → RestIs F (drop D β) (raised (get_or nullables (place + D) 0)) (get_or begins (place + D) 0)
 
-module _ {F : Sets} {β : List Symbol} {nullable begins : ℕ} (R : RestIs F β nullable begins) where
-  told_null : (t : Bool) → null F β ≡ t → nullable ≡ flag t
-  told_null t e = R.null_is ∙ ap flag e
-
-  -- the test for a dead end, by the words
-  pub dead_end : nullable ≡ 0 → begins ≡ 0 → dead F β ≡ true
-  unfolding dead flag
-  dead_end v b = go (null F β) refl
-    where
-      go : (t : Bool) → null F β ≡ t → dead F β ≡ true
-      go true e = absurd (let z : ⊥ = omega (arith, told_null true e) in z)
-      go false e = rw (e, dead) (eq-eqb (first F β) 0 (sym R.first_is ∙ b))
-
-  pub nullable-end : (nullable ≡ 0 → ⊥) → dead F β ≡ false
-  unfolding dead flag
-  nullable-end v = go (null F β) refl
-    where
-      go : (t : Bool) → null F β ≡ t → dead F β ≡ false
-      go true e = rw (e, dead)
-      go false e = absurd (v (told_null false e))
-
-  pub beginning-end : (begins ≡ 0 → ⊥) → dead F β ≡ false
-  unfolding dead
-  beginning-end b = go (null F β) refl
-    where
-      go : (t : Bool) → null F β ≡ t → dead F β ≡ false
-      go true e = rw (e, dead)
-      go false e = rw (e, dead) (ne_eqb (first F β) 0 (λ q. b (R.first_is ∙ q)))
+-- the test for a dead end
+pub dead-is : (F : Sets) (β : List Symbol) {nullable : Bool} {begins : ℕ} → RestIs F β nullable begins
+    → (not nullable && eqb begins 0) ≡ dead F β
+unfolding dead
+dead-is F β {nullable} {begins} R = rw (R.null_is, R.first_is) (go (null F β) refl)
+  where
+    go : (t : Bool) → null F β ≡ t → (not (null F β) && eqb (first F β) 0) ≡ dead F β
+    go true e = rw (e, dead)
+    go false e = rw (e, dead)
 
 pub null-one : (F : Sets) (B : ℕ) → null F (nonterminal B ∷ []) ≡ bit (nulls_of F) B
 unfolding null null_in nulls_of

@@ -2,6 +2,7 @@
 -- Each also tells whether something can follow wherever a rest stands. Assumes nothing.
 use Rattle.std.specs.Prelude.{ℕ, ◌+◌, ◌*◌, ◌-◌, ◌<◌, ◌≤◌, ◌≡◌, refl, Bool, true, false, not, ◌&&◌, List, [], ◌∷◌, length, set, drop}
 use Rattle.std.proofs.Common.{arith, sym, ap, ◌∙◌}
+use Rattle.std.specs.Int.{from_bool}
 use Rattle.std.proofs.Math.Decide.{ℕ_discrete}
 use Rattle.std.proofs.lemmas.Bool.{not-true}
 use Rattle.grammar.specs.Data.Symbol.{Symbol}
@@ -35,7 +36,7 @@ use Rattle.items.specs.GrammarOf.{
   GrammarFits,
 }
 use Rattle.items.specs.Living.{Living}
-use Rattle.items.specs.Rests.{RestIs}
+use Rattle.items.specs.Rests.{RestIs, from-flag, flag-same}
 
 -- of rule P, something can follow after the dots from d on
 abbrev pub LivesFrom : (words : List ℕ) (nulls : ℕ) (firsts : List ℕ) (P d : ℕ) → Type 0
@@ -48,9 +49,9 @@ pub record RuleSuffixes (words : List ℕ) (P nulls : ℕ) (firsts old_nullables
   pub firsts_are : RestsAre (first_in nulls firsts) words P old_begins now_begins
   pub living : alive ≡ true → LivesFrom words nulls firsts P 0
 
-pub record Suffixing (words : List ℕ) (P nulls : ℕ) (firsts old_nullables now_nullables old_begins now_begins : List ℕ) (d nullable begins : ℕ) (alive : Bool)
-    : Type 0 where
-  pub nullables-back : Backward (λ β. flag (null_in nulls β)) words P old_nullables now_nullables d nullable
+pub record Suffixing (words : List ℕ) (P nulls : ℕ) (firsts old_nullables now_nullables old_begins now_begins : List ℕ) (d : ℕ) (nullable : Bool) (begins : ℕ)
+    (alive : Bool) : Type 0 where
+  pub nullables-back : Backward (λ β. flag (null_in nulls β)) words P old_nullables now_nullables d (flag nullable)
   pub begins-back : Backward (first_in nulls firsts) words P old_begins now_begins d begins
   pub living : alive ≡ true → LivesFrom words nulls firsts P d
 
@@ -59,7 +60,7 @@ unfolding dead null null_in
 end-lives nulls firsts = refl
 
 module _ {words : List ℕ} {P nulls : ℕ} {firsts old_nullables old_begins : List ℕ} where
-  pub suffixing-begins : {last : ℕ} → last ≡ size_word words P → Suffixing words P nulls firsts old_nullables old_nullables old_begins old_begins last 1 0 true
+  pub suffixing-begins : {last : ℕ} → last ≡ size_word words P → Suffixing words P nulls firsts old_nullables old_nullables old_begins old_begins last true 0 true
   unfolding flag null_in first_in
   suffixing-begins {last} e = record {
     nullables-back = backward-begins (λ β. flag (null_in nulls β)) e refl;
@@ -68,14 +69,14 @@ module _ {words : List ℕ} {P nulls : ℕ} {firsts old_nullables old_begins : L
   }
 
   module _ (R : RuleFits words P) (m : 9 * P + 9 ≤ length old_nullables) (n : 9 * P + 9 ≤ length old_begins)
-      {now_nullables now_begins : List ℕ} {d nullable begins : ℕ} {alive : Bool}
+      {now_nullables now_begins : List ℕ} {d : ℕ} {nullable : Bool} {begins : ℕ} {alive : Bool}
       (S : Suffixing words P nulls firsts old_nullables now_nullables old_begins now_begins d nullable begins alive) where
-    module _ (h : 0 < d) {word nullable₁ begins₁ : ℕ} {dies : Bool} (w : word ≡ symbol_word words P (d - 1))
+    module _ (h : 0 < d) {word begins₁ : ℕ} {nullable₁ dies : Bool} (w : word ≡ symbol_word words P (d - 1))
         (step : (β : List Symbol) → RestIs (sets nulls firsts) β nullable begins → RestIs (sets nulls firsts) (symbol_of word ∷ β) nullable₁ begins₁)
         (told : (F : Sets) (β : List Symbol) → RestIs F β nullable₁ begins₁ → dies ≡ dead F β) where
       next : RestIs (sets nulls firsts) (symbol_of word ∷ drop d (right_in words P)) nullable₁ begins₁
       unfolding null first
-      next = step (drop d (right_in words P)) (record { null_is = S.nullables-back.behind_is; first_is = S.begins-back.behind_is })
+      next = step (drop d (right_in words P)) (record { null_is = flag-same _ _ S.nullables-back.behind_is; first_is = S.begins-back.behind_is })
 
       longer : symbol_of word ∷ drop d (right_in words P) ≡ drop (d - 1) (right_in words P)
       longer = rw w (sym (rest-before words P d h S.nullables-back.within))
@@ -90,23 +91,23 @@ module _ {words : List ℕ} {P nulls : ℕ} {firsts old_nullables old_begins : L
               rw z (ap (dead (sets nulls firsts)) (sym longer) ∙ sym (told (sets nulls firsts) _ next) ∙ not-true dies now)
           go before now (no z) = S.living before D (omega arith) k
 
-      pub suffixing-turn : {alive₁ : Bool} → alive₁ ≡ (alive && not dies)
-          → Suffixing words P nulls firsts old_nullables (set now_nullables (9 * P + d) nullable) old_begins (set now_begins (9 * P + d) begins) (d - 1)
+      pub suffixing-turn : {alive₁ : Bool} {place stored : ℕ} → place ≡ 9 * P + d → stored ≡ from_bool nullable → alive₁ ≡ (alive && not dies)
+          → Suffixing words P nulls firsts old_nullables (set now_nullables place stored) old_begins (set now_begins place begins) (d - 1)
           nullable₁ begins₁ alive₁
       unfolding null first
-      suffixing-turn e = record {
-        nullables-back = backward-turn _ R m S.nullables-back h w next.null_is;
+      suffixing-turn at s e = rw (at, s, from-flag nullable) (record {
+        nullables-back = backward-turn _ R m S.nullables-back h w (ap flag next.null_is);
         begins-back = backward-turn _ R n S.begins-back h w next.first_is;
         living = lives e;
-      }
+      })
 
-    pub suffixing-ends : d ≤ 0
-        → RuleSuffixes words P nulls firsts old_nullables (set now_nullables (9 * P) nullable) old_begins (set now_begins (9 * P) begins) alive
-    suffixing-ends h = record {
+    pub suffixing-ends : {stored : ℕ} → d ≤ 0 → stored ≡ from_bool nullable
+        → RuleSuffixes words P nulls firsts old_nullables (set now_nullables (9 * P) stored) old_begins (set now_begins (9 * P) begins) alive
+    suffixing-ends h s = rw (s, from-flag nullable) (record {
       nulls_are = backward-ends _ R m S.nullables-back h;
       firsts_are = backward-ends _ R n S.begins-back h;
       living = λ q D l k. S.living q D (omega arith) k;
-    }
+    })
 
 -- ---- rule after rule
 

@@ -1,13 +1,13 @@
 -- Passes from the last constraint to the first. Where every constraint gives no less from larger sets, they end at the same least family.
 -- Assumes nothing.
-use Rattle.std.specs.Prelude.{ℕ, ◌+◌, ◌-◌, ◌<◌, ◌≤◌, ◌≡◌, Bool, true, false, List}
+use Rattle.std.specs.Prelude.{ℕ, ◌+◌, ◌-◌, ◌<◌, ◌≤◌, ◌≡◌, Bool, true, false, ◌||◌, List}
 use Rattle.std.proofs.Common.{sym, ◌∙◌, subst, arith, ext_get_or}
 use Rattle.sets.specs.Sets.{bit}
 use Rattle.sets.proofs.SetsLaws.{same_set}
 use Rattle.sets.proofs.Operations.{same_truth}
 use Rattle.grammar.specs.Automaton.Fixpoint.{set_at, Constraint, visit, visits, least}
 use Rattle.grammar.specs.Automaton.LeastLaws.{Family, Within, Fits, least-family, least-holds, least-closed, least-within}
-use Rattle.items.specs.Passes.{Told, Passing, pass-begins, pass-ends, turn_more, turn-same}
+use Rattle.items.specs.Passes.{Told, Passing, pass-begins, pass-ends, turn}
 
 -- ---- families by their members
 
@@ -91,14 +91,12 @@ module _ {constraint : ℕ → Constraint} {count : ℕ} {first : List ℕ} (F :
         let here : p - 1 ≡ count - 1 - (count - p) = omega (arith, D.within) in
         subst (λ (q : ℕ). Told (visit (constraint q) now) now next r) here T
 
-    on : {changed : Bool} → Passing (turned constraint count) count first next changed (count - p + 1)
-        → Descending constraint count first next changed (p - 1)
-    on {changed} P =
+    pub descent-turn : Descending constraint count first next (changed || r) (p - 1)
+    descent-turn =
         let one : count - p + 1 ≡ count - (p - 1) = omega (arith, D.within) in
-        record { within = omega (arith, D.within); passing = subst (Passing (turned constraint count) count first next changed) one P }
-
-    pub descent-more : r ≡ true → Descending constraint count first next true (p - 1)
-    descent-more e = on (turn_more (turned-fits F) D.passing (omega (arith, D.within)) told e)
-
-    pub descent-same : r ≡ false → Descending constraint count first next changed (p - 1)
-    descent-same e = on (turn-same (turned-fits F) D.passing (omega (arith, D.within)) told e)
+        record {
+          within = omega (arith, D.within);
+          passing =
+              subst (Passing (turned constraint count) count first next (changed || r)) one
+              (turn (turned-fits F) D.passing (omega (arith, D.within)) told);
+        }

@@ -94,9 +94,7 @@ fn pass(
     let mut changed = false;
     let mut rule = leads[0] as usize;
     while rule < count {
-        if visit(rules, nullables, begins, rule, looks) {
-            changed = true;
-        }
+        changed |= visit(rules, nullables, begins, rule, looks);
         rule = leads[rule + 1] as usize;
     }
     changed
@@ -157,12 +155,8 @@ fn begin(
         → Begun (from_kernels b F (lines b.kernels from to) looks.old) looks.old looks.new result }
 {
     let mut given = false;
-    let mut i = from;
-    while i < to {
-        if line(rules, kernels, nullables, begins, i, looks) {
-            given = true;
-        }
-        i += 1;
+    for i in from..to {
+        given |= line(rules, kernels, nullables, begins, i, looks);
     }
     given
 }

@@ -29,8 +29,7 @@ fn state_closures(
         → StateItemsIn b F rules.now count kernels.now bounds.now states nullables.now begins.now
         → ClosuresIn b F closures.new }
 {
-    let mut s = 0;
-    while s < states as usize {
+    for s in 0..states as usize {
         let from = word(bounds, s);
         let to = word(bounds, s + 1);
         let at = 32 * s;
@@ -46,7 +45,6 @@ fn state_closures(
             begins,
             &mut closures[at..end],
         );
-        s += 1;
     }
 }
 

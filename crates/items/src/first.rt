@@ -27,16 +27,13 @@ fn first_right(rules: &[u32], p: usize, nulls: u32, firsts: &[u32]) -> u32
     requires { RuleFits rules.now p × (length firsts.now ≡ 32) }
     ensures { result ≡ first_in nulls firsts.now (right_in rules.now p) }
 {
-    let last = size(rules, p);
     let mut found = 0;
-    let mut d = 0;
-    while d < last {
+    for d in 0..size(rules, p) {
         let word = symbol(rules, p, d);
         found = sets::union(found, begins_with(word, firsts));
         if !null_symbol(word, nulls) {
             return found;
         }
-        d += 1;
     }
     found
 }
@@ -48,13 +45,9 @@ fn first_pass(rules: &[u32], count: u32, nulls: u32, firsts: &mut [u32]) -> bool
         firsts.old firsts.new result }
 {
     let mut changed = false;
-    let mut p = count as usize;
-    while 0 < p {
-        p -= 1;
+    for p in (0..count as usize).rev() {
         let more = first_right(rules, p, nulls, firsts);
-        if give(firsts, left(rules, p), more) {
-            changed = true;
-        }
+        changed |= give(firsts, left(rules, p), more);
     }
     changed
 }

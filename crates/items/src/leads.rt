@@ -16,10 +16,8 @@ pub fn fill_leads(rules: &[u32], count: usize, leads: &mut [u8])
     ensures { Leads rules.now count leads.new }
 {
     let mut lead = count as u8;
-    let mut rule = count;
-    leads[rule] = lead;
-    while rule > 0 {
-        rule -= 1;
+    leads[count] = lead;
+    for rule in (0..count).rev() {
         if derives(rules, rule) {
             lead = rule as u8;
         }

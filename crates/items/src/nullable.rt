@@ -13,10 +13,7 @@ pub fn null_symbol(word: u32, nulls: u32) -> bool
     requires { word < 64 }
     ensures { result ≡ null_symbol nulls (symbol_of word) }
 {
-    if word < 32 {
-        return false;
-    }
-    sets::has(nulls, word - 32)
+    32 <= word && sets::has(nulls, word - 32)
 }
 
 // Whether every right symbol of rule p is.
@@ -24,13 +21,10 @@ fn null_right(rules: &[u32], p: usize, nulls: u32) -> bool
     requires { RuleFits rules.now p }
     ensures { result ≡ null_in nulls (right_in rules.now p) }
 {
-    let last = size(rules, p);
-    let mut d = 0;
-    while d < last {
+    for d in 0..size(rules, p) {
         if !null_symbol(symbol(rules, p, d), nulls) {
             return false;
         }
-        d += 1;
     }
     true
 }
@@ -41,9 +35,7 @@ fn null_pass(rules: &[u32], count: u32, nulls: u32) -> u32
     ensures { (result ∷ []) ≡ visits (turned (null_rule (grammar_of rules.now count)) count) count (nulls ∷ []) }
 {
     let mut found = nulls;
-    let mut p = count as usize;
-    while 0 < p {
-        p -= 1;
+    for p in (0..count as usize).rev() {
         if null_right(rules, p, found) {
             found = sets::with(found, left(rules, p));
         }

@@ -15,20 +15,14 @@ use super::passes::give;
 use super::rules::{left, size, symbol};
 
 // Whether nothing can follow where a rest stands: it is not nullable, and nothing can begin it.
-pub fn dead_end(nullable: u32, begins: u32) -> bool
+pub fn dead_end(nullable: bool, begins: u32) -> bool
     ensures { (F : Sets) (β : List Symbol) → RestIs F β nullable begins → result ≡ dead F β }
 {
-    if nullable != 0 {
-        return false;
-    }
-    if begins != 0 {
-        return false;
-    }
-    true
+    !nullable & (begins == 0)
 }
 
 // What is reached of a symbol with a rest behind it.
-fn reach_step(word: u32, nulls: u32, nullable: u32, begins: u32, reached: &[u32]) -> u32
+fn reach_step(word: u32, nulls: u32, nullable: bool, begins: u32, reached: &[u32]) -> u32
     requires { (word < 64) × (length reached.now ≡ 32) }
     ensures { (F : Sets) (β : List Symbol) → nulls ≡ nulls_of F → RestIs F β nullable begins
         → result ≡ reach_in F reached.now (symbol_of word ∷ β) }
@@ -65,7 +59,13 @@ fn reach_rest(
         return 0;
     }
     let k = 9 * p + d + 1;
-    reach_step(symbol(rules, p, d), nulls, nullables[k], begins[k], reached)
+    reach_step(
+        symbol(rules, p, d),
+        nulls,
+        nullables[k] != 0,
+        begins[k],
+        reached,
+    )
 }
 
 // Gives each rule's left side what is reached of its right side; whether anything changed.
@@ -82,15 +82,10 @@ fn reach_pass(
         (visits (reach_rule (grammar_of rules.now count) (sets_of (grammar_of rules.now count))) count reached.old)
         reached.old reached.new result }
 {
-    let rules_count = count as usize;
     let mut changed = false;
-    let mut p = 0;
-    while p < rules_count {
+    for p in 0..count as usize {
         let more = reach_rest(rules, p, 0, nulls, nullables, begins, reached);
-        if give(reached, left(rules, p), more) {
-            changed = true;
-        }
-        p += 1;
+        changed |= give(reached, left(rules, p), more);
     }
     changed
 }
@@ -125,11 +120,8 @@ fn reach_rests(
     ensures { (F : Sets) → nulls ≡ nulls_of F → RestsIn F (right_in rules.now p) (9 * p) nullables.now begins.now
         → RestsAre (reach_in F reached.now) rules.now p reaches.old reaches.new }
 {
-    let last = size(rules, p);
-    let mut d = 0;
-    while d <= last {
+    for d in 0..=size(rules, p) {
         reaches[9 * p + d] = reach_rest(rules, p, d, nulls, nullables, begins, reached);
-        d += 1;
     }
 }
 
@@ -147,11 +139,8 @@ fn fill_reaches(
     ensures { ReachesIn (grammar_of rules.now count) (sets_of (grammar_of rules.now count))
         reached.now reaches.new }
 {
-    let rules_count = count as usize;
-    let mut p = 0;
-    while p < rules_count {
+    for p in 0..count as usize {
         reach_rests(rules, p, nulls, nullables, begins, reached, reaches);
-        p += 1;
     }
 }
 

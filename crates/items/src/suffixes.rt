@@ -16,7 +16,7 @@ use super::rules::{size, symbol};
 // What is told of a rest.
 #[derive(Clone, Copy)]
 pub struct Rest {
-    pub nullable: u32,
+    pub nullable: bool,
     pub begins: u32,
 }
 
@@ -34,7 +34,7 @@ fn longer(word: u32, nulls: u32, firsts: &[u32], rest: Rest) -> Rest
         };
     }
     Rest {
-        nullable: 0,
+        nullable: false,
         begins: own,
     }
 }
@@ -53,20 +53,18 @@ fn rule_suffixes(
     ensures { RuleSuffixes rules.now p nulls firsts.now
         nullables.old nullables.new begins.old begins.new result }
 {
-    let mut d = size(rules, p);
     let mut rest = Rest {
-        nullable: 1,
+        nullable: true,
         begins: 0,
     };
     let mut alive = true;
-    while 0 < d {
-        nullables[9 * p + d] = rest.nullable;
-        begins[9 * p + d] = rest.begins;
-        d -= 1;
+    for d in (0..size(rules, p)).rev() {
+        nullables[9 * p + d + 1] = u32::from(rest.nullable);
+        begins[9 * p + d + 1] = rest.begins;
         rest = longer(symbol(rules, p, d), nulls, firsts, rest);
-        alive = alive & !dead_end(rest.nullable, rest.begins);
+        alive &= !dead_end(rest.nullable, rest.begins);
     }
-    nullables[9 * p] = rest.nullable;
+    nullables[9 * p] = u32::from(rest.nullable);
     begins[9 * p] = rest.begins;
     alive
 }
@@ -85,13 +83,9 @@ pub fn suffixes(
     ensures { SuffixesIn (grammar_of rules.now count) (sets nulls firsts.now) nullables.new begins.new
         × (result ≡ true → Living (grammar_of rules.now count) (sets nulls firsts.now)) }
 {
-    let rules_count = count as usize;
     let mut alive = true;
-    let mut p = 0;
-    while p < rules_count {
-        let lives = rule_suffixes(rules, p, nulls, firsts, nullables, begins);
-        alive = alive & lives;
-        p += 1;
+    for p in 0..count as usize {
+        alive &= rule_suffixes(rules, p, nulls, firsts, nullables, begins);
     }
     alive
 }

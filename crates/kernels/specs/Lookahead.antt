@@ -13,24 +13,28 @@ use Rattle.grammar.specs.Format.ReaderLaws.{reading}
 use Rattle.grammar.specs.Automaton.TestLaws.{both_true}
 use Rattle.book.specs.Short.{Brief, naming-at}
 
--- where the number of the lookahead at a position begins, the number, and the position after it
-pub record Names (text : List ℕ) (at from number next : ℕ) : Type 0 where
+-- the number of the lookahead at a position, and the position after it
+pub record Names (text : List ℕ) (at number next : ℕ) : Type 0 where
+  pub from : ℕ
+  pub inside : from ≤ length text
   pub name_is : rest text from ≡ naming (word_of "t") (rest text at)
   pub number_is : Reads decimal text from number next
 
+-- none stands there
+pub record Unnamed (text : List ℕ) (at : ℕ) : Type 0 where
+  pub from : ℕ
+  pub outside : length text < from
+  pub name_is : rest text from ≡ naming (word_of "t") (rest text at)
+
 -- past the end there is none
-pub name_out : (text : List ℕ) (at : ℕ) → length text < at → rest text at ≡ naming (word_of "t") (rest text at)
+pub unnamed-out : (text : List ℕ) (at : ℕ) → length text < at → Unnamed text at
 unfolding reading
-name_out text at h = rw (rest_out text at h)
+unnamed-out text at h = record { from = at; outside = h; name_is = rw (rest_out text at h) }
 
--- what is answered of one that is read by its bytes: its number and the position after it, or position 0
+-- one that is read by its bytes, with a byte behind it
 pub record Nearby (text : List ℕ) (at number next : ℕ) : Type 0 where
-  pub begins : 0 < next → at + 2 ≤ length text
-  pub inside : 0 < next → next < length text
-  pub names : 0 < next → Names text at (at + 2) number next
-
-pub nearby-none : (text : List ℕ) (at number : ℕ) {next : ℕ} → next ≡ 0 → Nearby text at number next
-nearby-none text at number e = record { begins = λ h. absurd (omega arith); inside = λ h. absurd (omega arith); names = λ h. absurd (omega arith) }
+  pub inside : next < length text
+  pub names : Names text at number next
 
 -- a space, `t` and a short number
 module _ {text : List ℕ} (at : ℕ) {number next : ℕ} (long : at + 6 ≤ length text) (brief : Brief text (at + 2) number next) where
@@ -39,16 +43,17 @@ module _ {text : List ℕ} (at : ℕ) {number next : ℕ} (long : at + 6 ≤ len
   nearby-of e =
       let (blank, letter) = both_true _ _ e in
       record {
-        begins = λ some. omega arith;
-        inside = λ some. omega (arith, brief.near);
-        names = λ some. record {
-          name_is = naming-at text at 20 (omega arith) refl (eqb-true _ _ blank) (eqb-true _ _ letter) brief some;
-          number_is = brief.reads some;
+        inside = omega (arith, brief.near);
+        names = record {
+          from = at + 2;
+          inside = omega arith;
+          name_is = naming-at text at 20 (omega arith) refl (eqb-true _ _ blank) (eqb-true _ _ letter) brief;
+          number_is = brief.reads;
         };
       }
 
 -- before a bracket there is no other
-pub name-ends : (text : List ℕ) (at : ℕ) {from : ℕ} → at < length text → get_or text at 0 ≡ 41 → length text < from
-    → rest text from ≡ naming (word_of "t") (rest text at)
+pub unnamed-closed : (text : List ℕ) (at : ℕ) → at < length text → get_or text at 0 ≡ 41 → Unnamed text at
 unfolding reading
-name-ends text at h e out = rest_out text _ out ∙ (rw (rest_at text at h, e))
+unnamed-closed text at h e =
+    record { from = length text + 1; outside = omega arith; name_is = rest_out text _ (omega arith) ∙ (rw (rest_at text at h, e)) }

@@ -1,12 +1,12 @@
 // The section `(go S X M)`.
-ghost use Rattle.std.specs.Prelude.{◌≡◌, ◌∷◌, ◌*◌, ◌≤◌, ◌<◌, length};
+ghost use Rattle.std.specs.Prelude.{◌≡◌, ◌∷◌, ◌*◌, ◌≤◌, IfSome, length};
 ghost use Rattle.text.specs.Rest.{rest};
-ghost use Rattle.text.specs.Reading.{Lent};
 ghost use Rattle.grammar.specs.Format.Ordered.{symbol_key, go_key};
-ghost use Rattle.grammar.specs.Format.Parse.{symbol_of, go_line, go_lines};
+ghost use Rattle.grammar.specs.Format.Parse.{go_line, go_lines};
 ghost use Rattle.book.specs.Layout.{go_words};
 ghost use Rattle.book.specs.Order.{key_of, last_key};
 ghost use Rattle.book.specs.Sections.{Fills, PutsKeyed};
+ghost use Rattle.book.specs.Symbols.{symbol_read};
 ghost use Rattle.kernels.specs.GoLines.{GO_WORDS, Goes};
 
 use book::Section;
@@ -14,23 +14,24 @@ use book::order::{Key, Keyed, ascends};
 use book::short::short;
 use book::spelling::{GO, closing};
 use book::store::put_line;
-use book::symbol::{code_of, short_symbol, symbol};
+use book::symbol::Symbol;
+use book::symbols::{short_symbol, symbol};
+use lines::heads::Head;
 use lines::line_head;
+use text::source::Source;
 
 // The key of a line: its state, then terminals before nonterminals, then the symbol's number.
-fn key_of(state: u32, terminal: bool, number: u32) -> Key
-    ensures { key_of result ≡ state ∷ symbol_key (symbol_of terminal number) }
+#[tactic(auto, unfolding(grammar::specs::Format::Ordered::symbol_key))]
+fn key_of(state: u32, symbol: Symbol) -> Key
+    ensures { key_of result ≡ state ∷ symbol_key (symbol_read symbol) }
 {
-    if terminal {
-        return Key {
-            first: state,
-            second: 0,
-            third: number,
-        };
-    }
+    let (kind, number) = match symbol {
+        Symbol::Terminal(number) => (0, number),
+        Symbol::Nonterminal(number) => (1, number),
+    };
     Key {
         first: state,
-        second: 1,
+        second: kind,
         third: number,
     }
 }
@@ -39,143 +40,113 @@ fn key_of(state: u32, terminal: bool, number: u32) -> Key
 #[derive(Clone, Copy)]
 struct GoRead {
     state: u32,
-    terminal: bool,
-    number: u32,
+    symbol: Symbol,
     target: u32,
     at: usize,
 }
 
-impl GoRead {
-    // What is not read: position 0.
-    fn none() -> Self
-        ensures { result.at ≡ 0 }
-    {
-        GoRead {
-            state: 0,
-            terminal: false,
-            number: 0,
-            target: 0,
-            at: 0,
-        }
-    }
-}
-
 // `S X M)` and the line feed, by their parts.
-fn any_go(t: &[u8; 256], text: &[u8], at: usize) -> GoRead
-    requires { Lent t.now text.now }
-    ensures { Goes text.now at result.state result.terminal result.number result.target result.at }
+fn any_go(source: &Source<'_>, at: usize) -> GoRead
+    ensures { Goes source.now.bytes.now at result.state (symbol_read result.symbol) result.target result.at }
 {
-    let state = text::number(t, text, at);
-    let a = text::mark(t, text, state.at, text::SPACE);
-    let x = symbol(t, text, a);
-    let b = text::mark(t, text, x.at, text::SPACE);
-    let target = text::number(t, text, b);
-    let c = closing(t, text, target.at);
+    let state = source.number(at);
+    let a = source.mark(state.at, text::SPACE);
+    let x = symbol(source, a);
+    let b = source.mark(x.at, text::SPACE);
+    let target = source.number(b);
     GoRead {
         state: state.value,
-        terminal: x.terminal,
-        number: x.number,
+        symbol: x.symbol,
         target: target.value,
-        at: c,
+        at: closing(source, target.at),
     }
 }
 
-// Short numbers by their bytes, where the text is long enough for any three; for anything else, position 0.
-fn short_go(t: &[u8; 256], text: &[u8], at: usize) -> GoRead
-    requires { Lent t.now text.now }
-    ensures { 0 < result.at → Goes text.now at result.state result.terminal result.number result.target result.at }
+// Short numbers by their bytes, where the text is long enough for any three; None for anything else.
+fn short_go(source: &Source<'_>, at: usize) -> Option<GoRead>
+    ensures { IfSome result (λ read. Goes source.now.bytes.now at read.state (symbol_read read.symbol) read.target read.at) }
 {
-    let n = text.len();
+    let n = source.bytes.len();
     if n < 14 {
-        return GoRead::none();
+        return None;
     }
     if n - 14 < at {
-        return GoRead::none();
+        return None;
     }
-    let state = short(t, text, at);
+    let state = short(source, at)?;
     let a = state.at;
-    if a == 0 {
-        return GoRead::none();
+    if source.bytes[a] != b' ' {
+        return None;
     }
-    if text[a] != b' ' {
-        return GoRead::none();
-    }
-    let x = short_symbol(t, text, a + 1);
+    let x = short_symbol(source, a + 1)?;
     let b = x.at;
-    if b == 0 {
-        return GoRead::none();
+    if source.bytes[b] != b' ' {
+        return None;
     }
-    if text[b] != b' ' {
-        return GoRead::none();
-    }
-    let target = short(t, text, b + 1);
+    let target = short(source, b + 1)?;
     let c = target.at;
-    if c == 0 {
-        return GoRead::none();
-    }
-    if (text[c] == b')') & (text[c + 1] == b'\n') {
-        return GoRead {
+    if (source.bytes[c] == b')') & (source.bytes[c + 1] == b'\n') {
+        return Some(GoRead {
             state: state.value,
-            terminal: x.terminal,
-            number: x.number,
+            symbol: x.symbol,
             target: target.value,
             at: c + 2,
-        };
+        });
     }
-    GoRead::none()
+    None
 }
 
-fn go(t: &[u8; 256], text: &[u8], at: usize) -> GoRead
-    requires { Lent t.now text.now }
-    ensures { Goes text.now at result.state result.terminal result.number result.target result.at }
+fn go(source: &Source<'_>, at: usize) -> GoRead
+    ensures { Goes source.now.bytes.now at result.state (symbol_read result.symbol) result.target result.at }
 {
-    let read = short_go(t, text, at);
-    if read.at == 0 {
-        return any_go(t, text, at);
+    match short_go(source, at) {
+        Some(read) => read,
+        None => any_go(source, at),
     }
-    read
 }
 
 // Line k, after its head: it goes to its place, and its key must stand after the last key.
 fn go_line(
-    t: &[u8; 256],
-    text: &[u8],
+    source: &Source<'_>,
     at: usize,
     k: u32,
-    last: Key,
+    last: Option<Key>,
     room: usize,
     out: &mut [u32],
 ) -> Keyed
-    requires { Lent t.now text.now × (room * GO_WORDS ≤ length out.old) }
-    ensures { PutsKeyed go_key go_words room k (go_line (last_key k (key_of last)) (rest text.now at))
-        text.now out.old (key_of result.key) result.at out.new }
+    requires { room * GO_WORDS ≤ length out.old }
+    ensures { PutsKeyed go_key go_words room k (go_line (last_key key_of last) (rest source.now.bytes.now at))
+        source.now.bytes.now out.old (key_of result.key) result.at out.new }
 {
-    let read = go(t, text, at);
-    let key = key_of(read.state, read.terminal, read.number);
-    let d = text::require(t, text, read.at, ascends(k, last, key));
-    let line = [read.state, code_of(read.terminal, read.number), read.target];
+    let read = go(source, at);
+    let key = key_of(read.state, read.symbol);
+    let d = source.require(read.at, ascends(last, key));
+    let line = [read.state, read.symbol.code(), read.target];
     put_line(out, room, k, &line);
     Keyed { key, at: d }
 }
 
 // The lines, as far as there is room for them.
-pub fn go_lines(t: &[u8; 256], text: &[u8], at: usize, room: usize, out: &mut [u32]) -> Section
-    requires { Lent t.now text.now × (room * GO_WORDS ≤ length out.old) }
-    ensures { Fills go_words room (go_lines (rest text.now at))
-        text.now out.old result.count result.at out.new }
+pub fn go_lines(source: &Source<'_>, at: usize, room: usize, out: &mut [u32]) -> Section
+    requires { room * GO_WORDS ≤ length out.old }
+    ensures { Fills go_words room (go_lines (rest source.now.bytes.now at))
+        source.now.bytes.now out.old result.count result.at out.new }
 {
-    let n = text.len();
-    let head: &[u8] = b"(go ";
+    let n = source.bytes.len();
+    let head = Head {
+        word: GO,
+        bytes: b"(go ",
+    };
     let mut p = at;
     let mut k: u32 = 0;
-    let mut last = Key::none();
+    let mut last = None;
     loop {
-        let a = line_head(t, text, p, GO, head);
+        let a = line_head(source, p, &head);
         if n < a {
             return Section { count: k, at: p };
         }
-        let line = go_line(t, text, a, k, last, room, out);
-        last = line.key;
+        let line = go_line(source, a, k, last, room, out);
+        last = Some(line.key);
         p = line.at;
         k += 1;
     }

@@ -1,47 +1,36 @@
 // One lookahead of a kernel line: a space, `t` and a number.
-ghost use Rattle.text.specs.Reading.{Lent};
-ghost use Rattle.kernels.specs.Lookahead.{Names, Nearby};
+ghost use Rattle.std.specs.Prelude.{IfSome, MatchOption};
+ghost use Rattle.kernels.specs.Lookahead.{Names, Unnamed, Nearby};
 
 use book::short::short;
 use book::spelling::{T, naming};
 use text::Cursor;
+use text::source::Source;
 
-// Where the number begins, past the end if no lookahead stands there; the number, and where the text goes on.
-#[derive(Clone, Copy)]
-pub struct LookaheadRead {
-    pub from: usize,
-    pub number: u32,
-    pub at: usize,
-}
-
-// By its parts.
-pub fn lookahead(t: &[u8; 256], text: &[u8], at: usize) -> LookaheadRead
-    requires { Lent t.now text.now }
-    ensures { Names text.now at result.from result.number result.at }
+// By its parts: its number and where the text goes on, if one stands there.
+pub fn lookahead(source: &Source<'_>, at: usize) -> Option<Cursor>
+    ensures { MatchOption result (Unnamed source.now.bytes.now at) (λ k. Names source.now.bytes.now at k.value k.at) }
 {
-    let from = naming(t, text, at, T);
-    let number = text::number(t, text, from);
-    LookaheadRead {
-        from,
-        number: number.value,
-        at: number.at,
+    let a = naming(source, at, T);
+    if source.bytes.len() < a {
+        return None;
     }
+    Some(source.number(a))
 }
 
-// By its bytes, where its number is short and a byte stands behind it: the number and where the text goes on. For anything else, position 0.
-pub fn short_lookahead(t: &[u8; 256], text: &[u8], at: usize) -> Cursor
-    requires { Lent t.now text.now }
-    ensures { Nearby text.now at result.value result.at }
+// By its bytes, where its number is short and a byte stands behind it; None for anything else.
+pub fn short_lookahead(source: &Source<'_>, at: usize) -> Option<Cursor>
+    ensures { IfSome result (λ k. Nearby source.now.bytes.now at k.value k.at) }
 {
-    let n = text.len();
+    let n = source.bytes.len();
     if n < 6 {
-        return Cursor::new();
+        return None;
     }
     if n - 6 < at {
-        return Cursor::new();
+        return None;
     }
-    if (text[at] == b' ') & (text[at + 1] == b't') {
-        return short(t, text, at + 2);
+    if (source.bytes[at] == b' ') & (source.bytes[at + 1] == b't') {
+        return short(source, at + 2);
     }
-    Cursor::new()
+    None
 }

@@ -20,44 +20,44 @@ pub record Same (text : List ℕ) (at : ℕ) (bytes : List ℕ) (from m : ℕ) :
   pub each : (i : ℕ) → i < m → get_or text (at + i) 0 ≡ get_or bytes (from + i) 0
 
 -- the bytes of a line's head
-pub record Head (word : ℕ) (bytes : List ℕ) : Type 0 where
+pub record Spells (word : ℕ) (bytes : List ℕ) : Type 0 where
   pub few : 4 ≤ length bytes
   pub short : length bytes ≤ 8
   pub opens : (r : List ℕ) → opening word (left (bytes ++ r)) ≡ left r
 
-pub book-head : Head (word_of "book") (40 ∷ 98 ∷ 111 ∷ 111 ∷ 107 ∷ 32 ∷ [])
+pub book-head : Spells (word_of "book") (40 ∷ 98 ∷ 111 ∷ 111 ∷ 107 ∷ 32 ∷ [])
 unfolding reading
 book-head = record { few = omega arith; short = omega arith; opens = λ r. refl }
 
-pub inherited-head : Head (word_of "inh") (40 ∷ 105 ∷ 110 ∷ 104 ∷ 32 ∷ [])
+pub inherited-head : Spells (word_of "inh") (40 ∷ 105 ∷ 110 ∷ 104 ∷ 32 ∷ [])
 unfolding reading
 inherited-head = record { few = omega arith; short = omega arith; opens = λ r. refl }
 
-pub synthesized-head : Head (word_of "syn") (40 ∷ 115 ∷ 121 ∷ 110 ∷ 32 ∷ [])
+pub synthesized-head : Spells (word_of "syn") (40 ∷ 115 ∷ 121 ∷ 110 ∷ 32 ∷ [])
 unfolding reading
 synthesized-head = record { few = omega arith; short = omega arith; opens = λ r. refl }
 
-pub rule-head : Head (word_of "rule") (40 ∷ 114 ∷ 117 ∷ 108 ∷ 101 ∷ 32 ∷ [])
+pub rule-head : Spells (word_of "rule") (40 ∷ 114 ∷ 117 ∷ 108 ∷ 101 ∷ 32 ∷ [])
 unfolding reading
 rule-head = record { few = omega arith; short = omega arith; opens = λ r. refl }
 
-pub inherited-definition-head : Head (word_of "inhdef") (40 ∷ 105 ∷ 110 ∷ 104 ∷ 100 ∷ 101 ∷ 102 ∷ 32 ∷ [])
+pub inherited-definition-head : Spells (word_of "inhdef") (40 ∷ 105 ∷ 110 ∷ 104 ∷ 100 ∷ 101 ∷ 102 ∷ 32 ∷ [])
 unfolding reading
 inherited-definition-head = record { few = omega arith; short = omega arith; opens = λ r. refl }
 
-pub synthesized-definition-head : Head (word_of "syndef") (40 ∷ 115 ∷ 121 ∷ 110 ∷ 100 ∷ 101 ∷ 102 ∷ 32 ∷ [])
+pub synthesized-definition-head : Spells (word_of "syndef") (40 ∷ 115 ∷ 121 ∷ 110 ∷ 100 ∷ 101 ∷ 102 ∷ 32 ∷ [])
 unfolding reading
 synthesized-definition-head = record { few = omega arith; short = omega arith; opens = λ r. refl }
 
-pub kernel-head : Head (word_of "kernel") (40 ∷ 107 ∷ 101 ∷ 114 ∷ 110 ∷ 101 ∷ 108 ∷ 32 ∷ [])
+pub kernel-head : Spells (word_of "kernel") (40 ∷ 107 ∷ 101 ∷ 114 ∷ 110 ∷ 101 ∷ 108 ∷ 32 ∷ [])
 unfolding reading
 kernel-head = record { few = omega arith; short = omega arith; opens = λ r. refl }
 
-pub token-head : Head (word_of "tok") (40 ∷ 116 ∷ 111 ∷ 107 ∷ 32 ∷ [])
+pub token-head : Spells (word_of "tok") (40 ∷ 116 ∷ 111 ∷ 107 ∷ 32 ∷ [])
 unfolding reading
 token-head = record { few = omega arith; short = omega arith; opens = λ r. refl }
 
-pub go-head : Head (word_of "go") (40 ∷ 103 ∷ 111 ∷ 32 ∷ [])
+pub go-head : Spells (word_of "go") (40 ∷ 103 ∷ 111 ∷ 32 ∷ [])
 unfolding reading
 go-head = record { few = omega arith; short = omega arith; opens = λ r. refl }
 
@@ -93,7 +93,7 @@ front (b ∷ bytes) text at h same =
     )
 
 -- the first four bytes and the last four are all of them
-pub head_read : {word : ℕ} {bytes : List ℕ} (h : Head word bytes) (text : List ℕ) (at : ℕ) → at + length bytes ≤ length text → Same text at bytes 0 4
+pub head_read : {word : ℕ} {bytes : List ℕ} (h : Spells word bytes) (text : List ℕ) (at : ℕ) → at + length bytes ≤ length text → Same text at bytes 0 4
     → Same text (at + length bytes - 4) bytes (length bytes - 4) 4 → rest text (at + length bytes) ≡ opening word (rest text at)
 head_read {word} {bytes} h text at l first last =
     rest_in text (at + length bytes) l ∙ sym (rw (rest_in text at (omega arith), front bytes text at l each)

@@ -1,14 +1,19 @@
 // The line reader: it carries the lent text along with its position, and every line is opened through it. The functions over it are thin; the core, `past_head`,
-// is on slice and number.
+// is on a text and a position.
 #![tactic(auto)]
+
+pub mod heads;
 
 ghost use Rattle.std.specs.Prelude.{◌≡◌, true, ◌+◌, ◌*◌, ◌≤◌, length};
 ghost use Rattle.text.specs.Class.{open-bracket};
 ghost use Rattle.text.specs.Numeral.{keyword};
 ghost use Rattle.text.specs.Rest.{rest, mark};
-ghost use Rattle.text.specs.Reading.{Lent};
+ghost use Rattle.text.specs.Lent.{Lent};
 ghost use Rattle.grammar.specs.Format.Reader.{opening};
-ghost use Rattle.lines.specs.Heads.{Head, Four, Same};
+ghost use Rattle.lines.specs.Heads.{Four, Same};
+
+use heads::Head;
+use text::source::Source;
 
 #[derive(Clone, Copy)]
 pub struct LineReader<'a> {
@@ -16,21 +21,22 @@ pub struct LineReader<'a> {
     pub at: usize,
 }
 
-// `(word` and a byte of the class `end`, at a position of a text, by its parts.
-pub fn head(t: &[u8; 256], text: &[u8], at: usize, word: u32, end: u8) -> usize
-    requires { Lent t.now text.now }
-    ensures { rest text.now result ≡ mark end (keyword word (mark open-bracket (rest text.now at))) }
+// `(word` and a byte of the class `end`, at a position of a text, by its parts. Cold, so that the short way before it is inlined without it.
+#[cold]
+pub fn head(source: &Source<'_>, at: usize, word: u32, end: u8) -> usize
+    ensures { rest source.now.bytes.now result
+        ≡ mark end (keyword word (mark open-bracket (rest source.now.bytes.now at))) }
 {
-    let a = text::mark(t, text, at, text::OPEN);
-    let b = text::keyword(t, text, a, word);
-    text::mark(t, text, b, end)
+    let a = source.mark(at, text::OPEN);
+    let b = source.keyword(a, word);
+    source.mark(b, end)
 }
 
 // Four bytes as one number, which compilers load as one.
 pub fn four(a: u8, b: u8, c: u8, d: u8) -> u32
     ensures { Four result a b c d }
 {
-    (a as u32) + 256 * ((b as u32) + 256 * ((c as u32) + 256 * (d as u32)))
+    u32::from_le_bytes([a, b, c, d])
 }
 
 // True only if the four bytes of a text from `at` on are those of another from `from` on.
@@ -49,54 +55,51 @@ fn same_four(text: &[u8], at: usize, bytes: &[u8], from: usize) -> bool
 }
 
 // `(word ` at a position of a text: the bytes that it has are compared at once, and what is something else is read by its parts.
-fn past_head(t: &[u8; 256], text: &[u8], at: usize, word: u32, bytes: &[u8]) -> usize
-    requires { Lent t.now text.now × Head word bytes.now }
-    ensures { rest text.now result ≡ opening word (rest text.now at) }
+fn past_head(source: &Source<'_>, at: usize, wanted: &Head<'_>) -> usize
+    ensures { rest source.now.bytes.now result ≡ opening wanted.now.word (rest source.now.bytes.now at) }
 {
-    let n = text.len();
-    let m = bytes.len();
+    let n = source.bytes.len();
+    let m = wanted.bytes.len();
     if n < m {
-        return head(t, text, at, word, text::SPACE);
+        return head(source, at, wanted.word, text::SPACE);
     }
     if n - m < at {
-        return head(t, text, at, word, text::SPACE);
+        return head(source, at, wanted.word, text::SPACE);
     }
-    if !same_four(text, at, bytes, 0) {
-        return head(t, text, at, word, text::SPACE);
+    if !same_four(source.bytes, at, wanted.bytes, 0) {
+        return head(source, at, wanted.word, text::SPACE);
     }
-    if !same_four(text, at + m - 4, bytes, m - 4) {
-        return head(t, text, at, word, text::SPACE);
+    if !same_four(source.bytes, at + m - 4, wanted.bytes, m - 4) {
+        return head(source, at, wanted.word, text::SPACE);
     }
     at + m
 }
 
 // The reader at a position.
-pub fn line_at<'a>(text: &'a [u8], at: usize) -> LineReader<'a>
+pub fn line_at(text: &[u8], at: usize) -> LineReader<'_>
     ensures { (result.text ≡ text.entry) × (result.at ≡ at) }
 {
     LineReader { text, at }
 }
 
 // The reader past `(word ` where it stands.
-pub fn open<'t, 'a, 'h>(
-    t: &'t [u8; 256],
-    line: LineReader<'a>,
-    word: u32,
-    head: &'h [u8],
-) -> LineReader<'a>
-    requires { Lent t.now line.text.now × Head word head.now }
+pub fn open<'a>(classes: &[u8; 256], line: LineReader<'a>, wanted: &Head<'_>) -> LineReader<'a>
+    requires { Lent classes.now line.text.now }
     ensures { (result.text ≡ line.entry.text)
-        × (rest line.entry.text.now result.at ≡ opening word (rest line.entry.text.now line.entry.at)) }
+        × (rest line.entry.text.now result.at ≡ opening wanted.now.word (rest line.entry.text.now line.entry.at)) }
 {
     let text = line.text;
-    let at = past_head(t, text, line.at, word, head);
+    let source = Source {
+        classes,
+        bytes: text,
+    };
+    let at = past_head(&source, line.at, wanted);
     LineReader { text, at }
 }
 
 // `(word ` at the beginning of a line: the reader is made there and opens it, and its position is the answer.
-pub fn line_head(t: &[u8; 256], text: &[u8], at: usize, word: u32, head: &[u8]) -> usize
-    requires { Lent t.now text.now × Head word head.now }
-    ensures { rest text.now result ≡ opening word (rest text.now at) }
+pub fn line_head(source: &Source<'_>, at: usize, wanted: &Head<'_>) -> usize
+    ensures { rest source.now.bytes.now result ≡ opening wanted.now.word (rest source.now.bytes.now at) }
 {
-    open(t, line_at(text, at), word, head).at
+    open(source.classes, line_at(source.bytes, at), wanted).at
 }

@@ -1,13 +1,12 @@
 -- What a move over the arrays asks, and what it tells: the next configuration, or the answer with which the run stops. Assumes nothing.
-use Rattle.std.specs.Prelude.{ℕ, ◌+◌, ◌*◌, ◌≡◌, List, length}
+use Rattle.std.specs.Prelude.{ℕ, ◌+◌, ◌*◌, ◌≡◌, List, length, Result, MatchResult, Option, MatchOption}
 use Rattle.grammar.specs.Data.Book.{Book}
 use Rattle.grammar.specs.Evaluator.Tree.{Token}
 use Rattle.grammar.specs.Evaluator.Machine.{Config, refused, accepted, stop, step}
 use Rattle.grammar.specs.Engine.{tables_of}
+use Rattle.book.specs.declared.refusal.Refusal.{Refusal}
+use Rattle.book.specs.Refusals.{number_of}
 use Rattle.plans.specs.Plans.{PlansHeld}
-use Rattle.machine.specs.declared.moves.Moved.{Moved}
-use Rattle.machine.specs.declared.moves.Moved.TheVariants.{On, Stopped}
-use Rattle.machine.specs.declared.run.Outcome.{Outcome}
 use Rattle.stack.specs.declared.top.Top.{Top}
 use Rattle.stack.specs.Page.{RowsIn}
 use Rattle.stack.specs.Pushes.{Stacks}
@@ -35,9 +34,14 @@ pub record Accepts (b : Book) (c : Config) (rows : List ℕ) : Type 0 where
   pub stops : step b (tables_of b) c ≡ stop (accepted (rows_of c))
   pub rows_in : RowsIn (rows_of c) rows
 
--- what a move tells
 module _ (b : Book) (ks : List Token) (c : Config) (states inherited synthesized starts rows : List ℕ) where
-  pub data Told : Moved → Type 0 where
-    told_on : {top : Top} → GoesOn b ks c states inherited synthesized starts rows top → Told (On top)
-    told_accepted : {r : Outcome} → Accepts b c rows → r.number ≡ 0 → r.count ≡ length (rows_of c) → Told (Stopped r)
-    told_refused : {r : Outcome} → step b (tables_of b) c ≡ stop (refused r.number) → r.count ≡ 0 → Told (Stopped r)
+  -- what a shift or a reduce tells
+  pub record Moved (m : Result Top Refusal) : Type 0 where
+    pub tells : MatchResult m (λ next. GoesOn b ks c states inherited synthesized starts rows next)
+        (λ r. step b (tables_of b) c ≡ stop (refused (number_of r)))
+
+  -- what a move tells: none comes after it where the machine accepts
+  pub record Told (m : Result (Option Top) Refusal) : Type 0 where
+    pub tells : MatchResult m
+        (λ o. MatchOption o (Accepts b c rows) (λ next. GoesOn b ks c states inherited synthesized starts rows next))
+        (λ r. step b (tables_of b) c ≡ stop (refused (number_of r)))

@@ -1,5 +1,5 @@
 -- The moves of a run come to the machine's answer: from the start, move by move, to the move that stops. Assumes that the book is taken.
-use Rattle.std.specs.Prelude.{ℕ, ◌+◌, ◌*◌, ◌-◌, ◌≤◌, ◌<◌, ◌≡◌, refl, List, [], length, get_or, set}
+use Rattle.std.specs.Prelude.{ℕ, ◌+◌, ◌*◌, ◌-◌, ◌≤◌, ◌<◌, ◌≡◌, refl, List, [], length, get_or, set, Result, Ok, Err, MatchResult, IsOkAnd, IsErrAnd, Option, Some, None, MatchOption}
 use Rattle.std.proofs.Common.{◌∙◌, arith, get_or-set_same}
 use Rattle.grammar.specs.Data.Book.{Book}
 use Rattle.grammar.specs.Evaluator.Tree.{Token}
@@ -7,27 +7,28 @@ use Rattle.grammar.specs.Evaluator.Machine.{Tables, Frame, Config, Answer, refus
 use Rattle.grammar.specs.Evaluator.Runs.{Ends, halts, moves}
 use Rattle.grammar.proofs.Evaluator.RunLaws.{row_count, step-rows, evaluate-ends}
 use Rattle.grammar.specs.Engine.{tables_of}
+use Rattle.book.specs.declared.refusal.Refusal.{Refusal}
+use Rattle.book.specs.declared.refusal.Refusal.TheVariants.{NoMessage}
+use Rattle.book.specs.Refusals.{number_of}
 use Rattle.plans.specs.Plans.{PlansIn, PlansHeld}
 use Rattle.cells.specs.Frames.{no_frames}
-use Rattle.machine.specs.declared.moves.Moved.{Moved}
-use Rattle.machine.specs.declared.moves.Moved.TheVariants.{On, Stopped}
-use Rattle.machine.specs.declared.run.Outcome.{Outcome}
 use Rattle.stack.specs.declared.action.Move.{Move}
 use Rattle.stack.specs.declared.action.Action.{Action}
-use Rattle.stack.specs.declared.action.Action.TheVariants.{Due, None}
+use Rattle.stack.specs.declared.action.Action.TheVariants.{Due}
+use Rattle.stack.specs.declared.action.Action.TheVariants as action
 use Rattle.stack.specs.declared.top.Top.{Top}
 use Rattle.stack.specs.Action.{action_at}
-use Rattle.machine.specs.Moving.{Rooms, Poised, Told, told_on, told_accepted, told_refused}
+use Rattle.machine.specs.Moving.{Rooms, Poised, Told}
 use Rattle.machine.specs.Running.{RunIn, MovesIn, Facing, facing-of, TopLow, top-low, rows-count, Names, names-action, due-none}
 use Rattle.machine.specs.Setting.{TopAsked, TopSet, config-asked, config-set, config-cell}
 use Rattle.stack.specs.Page.{RowsIn, no_rows}
 use Rattle.stack.specs.Path.{bottom}
 use Rattle.stack.specs.Standing.{Message, ConfigIn, stands, frames_of, GoesOn}
 
--- what a run answers: the refusal and no row, or 0, the rows' count and the rows, behind which may stand anything
-abbrev pub Answered : Answer → Outcome → List ℕ → Type 0
-Answered (refused n) r rows = (r.number ≡ n) × (r.count ≡ 0)
-Answered (accepted rs) r rows = (r.number ≡ 0) × (r.count ≡ length rs) × RowsIn rs rows
+-- what a run answers: the refusal, or the rows' count and the rows, behind which may stand anything
+abbrev pub Answered : Answer → Result ℕ Refusal → List ℕ → Type 0
+Answered (refused n) r rows = IsErrAnd r (λ e. number_of e ≡ n)
+Answered (accepted rs) r rows = IsOkAnd r (λ count. (count ≡ length rs) × RowsIn rs rows)
 
 -- ---- the answer of a configuration
 
@@ -97,35 +98,21 @@ module _ {b : Book} {ks : List Token} {states inherited synthesized starts rows 
 -- ---- what a step tells
 
 module _ (b : Book) (ks : List Token) (top : Top) (states inherited synthesized starts rows slots lists : List ℕ) where
-  pub data Stepped : Moved → Type 0 where
-    goes_on : {next : Top} → Underway b ks states inherited synthesized starts rows slots lists next → 512 - next.rows < 512 - top.rows → Stepped (On next)
-    answers : {r : Outcome} → Answered (evaluate b (tables_of b) ks) r rows → Stepped (Stopped r)
-
--- by its answer
-module _ {b : Book} {ks : List Token} {top : Top} {states inherited synthesized starts rows slots lists : List ℕ} where
-  pub step-more : {m : Moved} {next : Top} → Stepped b ks top states inherited synthesized starts rows slots lists m → m ≡ On next
-      → Underway b ks states inherited synthesized starts rows slots lists next
-  step-more {next = next} (goes_on {next = n} u l) e = let same : n ≡ next = cc in rw same at u
-  step-more (answers a) e = absurd (let z : ◌≡◌ {A = ℕ} 0 1 = cc in omega arith)
-
-  pub step_less : {m : Moved} {next : Top} → Stepped b ks top states inherited synthesized starts rows slots lists m → m ≡ On next
-      → 512 - next.rows < 512 - top.rows
-  step_less {next = next} (goes_on {next = n} u l) e = let same : n ≡ next = cc in rw same at l
-  step_less (answers a) e = absurd (let z : ◌≡◌ {A = ℕ} 0 1 = cc in omega arith)
-
-  pub step-answers : {m : Moved} {r : Outcome} → Stepped b ks top states inherited synthesized starts rows slots lists m → m ≡ Stopped r
-      → Answered (evaluate b (tables_of b) ks) r rows
-  step-answers (goes_on u l) e = absurd (let z : ◌≡◌ {A = ℕ} 0 1 = cc in omega arith)
-  step-answers {r = r} (answers {r = s} a) e = let same : s ≡ r = cc in rw same at a
+  pub record Stepped (m : Result (Option Top) Refusal) : Type 0 where
+    pub tells : MatchResult m
+        (λ o. MatchOption o (Answered (evaluate b (tables_of b) ks) (Ok top.rows) rows)
+        (λ next. Underway b ks states inherited synthesized starts rows slots lists next × (512 - next.rows < 512 - top.rows)))
+        (λ r. Answered (evaluate b (tables_of b) ks) (Err r) rows)
 
 -- what a move told is what the step tells
 stepped : {b : Book} {ks : List Token} {states inherited synthesized starts rows slots lists : List ℕ} {top : Top}
     (U : Underway b ks states inherited synthesized starts rows slots lists top)
-    {states' inherited' synthesized' starts' rows' slots' lists' : List ℕ} {m : Moved} → PlansIn b slots' lists'
+    {states' inherited' synthesized' starts' rows' slots' lists' : List ℕ} {m : Result (Option Top) Refusal} → PlansIn b slots' lists'
     → Told b ks U.at states' inherited' synthesized' starts' rows' m → Stepped b ks top states' inherited' synthesized' starts' rows' slots' lists' m
-stepped U P (told_on on) = goes_on (underway-more U on P) (underway-less U on)
-stepped {b} U P (told_accepted {r = r} a z n) = answers {r = r} (rw (ends-stop b (tables_of b) U.ends a.stops) (z, n, a.rows_in))
-stepped {b} U P (told_refused {r = r} e z) = answers {r = r} (rw (ends-stop b (tables_of b) U.ends e) (refl, z))
+stepped U {m = Ok (Some next)} P T = record { tells = (underway-more U T.tells P, underway-less U T.tells) }
+stepped {b} U {m = Ok None} P T =
+    record { tells = rw (ends-stop b (tables_of b) U.ends T.tells.stops) ((rows-count U.config_in).0, T.tells.rows_in) }
+stepped {b} U {m = Err r} P T = record { tells = rw (ends-stop b (tables_of b) U.ends T.tells) refl }
 
 -- ---- a step
 
@@ -180,9 +167,9 @@ module _ {b : Book} {ks : List Token} {rules definitions : List ℕ} {lines : �
       run-names = rw action_is (names-action R.driven.book_in R.actions_in (run-facing refl))
 
       -- none is due
-      pub run_none : {r : Outcome} → x ≡ None → r.number ≡ 15 → r.count ≡ 0
-          → Stepped b ks top states inherited synthesized starts rows slots lists (Stopped r)
-      run_none {r} e n z = stepped U U.plans_in (told_refused {r = r} (rw n (due-none run-names e)) z)
+      pub run_none : x ≡ action.None → Stepped b ks top states inherited synthesized starts rows slots lists (Err NoMessage)
+      unfolding number_of
+      run_none e = stepped U U.plans_in (record { tells = due-none run-names e })
 
       -- one is, and what `advance` ensures
       module _ {due : Move} (due-is : x ≡ Due due) {value : ℕ} (value_is : value ≡ get_or tokens (2 * top.position + 1) 0) {slots' lists' inherited' : List ℕ}
@@ -190,7 +177,7 @@ module _ {b : Book} {ks : List Token} {rules definitions : List ℕ} {lines : �
         pub run-due : Names b U.at (Due due)
         run-due = rw due-is at run-names
 
-        pub run-stepped : {m : Moved} {states' synthesized' starts' rows' : List ℕ}
+        pub run-stepped : {m : Result (Option Top) Refusal} {states' synthesized' starts' rows' : List ℕ}
             → ((b : Book) (ks : List Token) (c : Config) → MovesIn b rules definitions spans down up table
             → Poised b ks c states inherited' synthesized starts rows top → Facing b c state kind value → Names b c (Due due)
             → Told b ks c states' inherited' synthesized' starts' rows' m)

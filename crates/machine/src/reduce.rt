@@ -5,12 +5,11 @@ ghost use Rattle.grammar.specs.Evaluator.Tree.{Token};
 ghost use Rattle.grammar.specs.Evaluator.Machine.{Config};
 ghost use Rattle.stack.specs.Pushes.{Stacks};
 ghost use Rattle.stack.specs.Standing.{BookIn, LeftIn};
-ghost use Rattle.machine.specs.Moving.{Poised, Told};
+ghost use Rattle.machine.specs.Moving.{Poised, Moved};
 ghost use Rattle.machine.specs.ReduceMove.{Reduces};
 
-use super::moves::Moved;
-use super::run::Outcome;
 use book::Book;
+use book::refusal::Refusal;
 use items::words::word;
 use stack::left::put_left;
 use stack::top::Top;
@@ -30,7 +29,7 @@ pub fn reduce(
     synthesized: &mut [u32],
     starts: &mut [u32],
     rows: &mut [u32],
-) -> Moved
+) -> Result<Top, Refusal>
     requires stacks { Stacks states.old synthesized.old starts.old rows.old × (length inherited.now ≡ 16 * length starts.old + 16) }
     requires book_in { (b : Lines) × (ks : List Token) × (c : Config) × BookIn b rules.now definitions.now table.now
         × LeftIn b definitions.now spans.now down.now up.now
@@ -39,22 +38,16 @@ pub fn reduce(
         → LeftIn b definitions.now spans.now down.now up.now
         → Poised b ks c states.old inherited.now synthesized.old starts.old rows.old top
         → Reduces b c rule
-        → Told b ks c states.new inherited.now synthesized.new starts.new rows.new result }
+        → Moved b ks c states.new inherited.now synthesized.new starts.new rows.new result }
 {
     if top.rows == Book::MAX_ROWS {
-        return Moved::Stopped(Outcome {
-            number: 16,
-            count: 0,
-        });
+        return Err(Refusal::TooMany);
     }
     let below = top.depth - word(rules, 10 * rule as usize + 1);
     if below == Book::MAX_STACK {
-        return Moved::Stopped(Outcome {
-            number: 17,
-            count: 0,
-        });
+        return Err(Refusal::TooDeep);
     }
-    Moved::On(put_left(
+    Ok(put_left(
         top,
         rule,
         rules,

@@ -11,18 +11,12 @@ ghost use Rattle.machine.specs.Running.{RunIn};
 ghost use Rattle.machine.specs.RunningLaws.{Answered};
 ghost use Rattle.stack.specs.Standing.{Message};
 
-use super::moves::Moved;
 use super::step::step;
+use book::refusal::Refusal;
 use stack::top::Top;
 
-// The answer: 0 or the refusal, and the number of rows.
-#[derive(Clone, Copy)]
-pub struct Outcome {
-    pub number: u32,
-    pub count: u32,
-}
-
-// The run from the start: the moves until one stops. Behind the rows of a message, and on a refusal everywhere, the words are left for the caller to clear.
+// The run from the start: the moves until the message is accepted or refused, and then the number of its rows. Behind these, and on a refusal everywhere, the
+// words are left for the caller to clear.
 pub fn run(
     rules: &[u32],
     definitions: &[u32],
@@ -47,7 +41,7 @@ pub fn run(
     synthesized: &mut [u32],
     starts: &mut [u32],
     rows: &mut [u32],
-) -> Outcome
+) -> Result<u32, Refusal>
     requires rooms { Rooms states.old inherited.old synthesized.old starts.old rows.old }
     requires run_in { (b : Book) × (ks : List Token)
         × RunIn b ks rules.now definitions.now lines owned.now kernels.now bounds.now closures.now nullables.now reaches.now places.now
@@ -62,40 +56,33 @@ pub fn run(
 {
     states[0] = 0;
     let mut top = Top::empty();
-    loop {
-        let moved = step(
-            top,
-            rules,
-            definitions,
-            lines,
-            owned,
-            kernels,
-            bounds,
-            closures,
-            nullables,
-            reaches,
-            places,
-            spans,
-            down,
-            up,
-            table,
-            actions,
-            tokens,
-            slots,
-            lists,
-            states,
-            inherited,
-            synthesized,
-            starts,
-            rows,
-        );
-        match moved {
-            Moved::On(next) => {
-                top = next;
-            }
-            Moved::Stopped(outcome) => {
-                return outcome;
-            }
-        }
+    while let Some(next) = step(
+        top,
+        rules,
+        definitions,
+        lines,
+        owned,
+        kernels,
+        bounds,
+        closures,
+        nullables,
+        reaches,
+        places,
+        spans,
+        down,
+        up,
+        table,
+        actions,
+        tokens,
+        slots,
+        lists,
+        states,
+        inherited,
+        synthesized,
+        starts,
+        rows,
+    )? {
+        top = next;
     }
+    Ok(top.rows as u32)
 }

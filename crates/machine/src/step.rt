@@ -11,10 +11,10 @@ ghost use Rattle.stack.specs.declared.action.Action.TheVariants.{Due};
 ghost use Rattle.stack.specs.Pushes.{Stacks};
 ghost use Rattle.stack.specs.Standing.{Message};
 
-use super::moves::{Moved, shift};
 use super::reduce::reduce;
-use super::run::Outcome;
 use super::setting::set_top;
+use super::shift::shift;
+use book::refusal::Refusal;
 use items::words::word;
 use stack::action::{Action, Move, action_of};
 use stack::top::Top;
@@ -23,13 +23,10 @@ use stack::top::Top;
 fn number(tokens: &[u32], i: usize) -> u32
     ensures { result ≡ get_or tokens.now i 0 }
 {
-    if i < tokens.len() {
-        return tokens[i];
-    }
-    0
+    tokens.get(i).copied().unwrap_or(0)
 }
 
-// The move that is due, with the top cell set.
+// The move that is due, with the top cell set. An accept leaves no new top.
 pub fn advance(
     top: Top,
     state: usize,
@@ -47,7 +44,7 @@ pub fn advance(
     synthesized: &mut [u32],
     starts: &mut [u32],
     rows: &mut [u32],
-) -> Moved
+) -> Result<Option<Top>, Refusal>
     requires stacks { Stacks states.old synthesized.old starts.old rows.old × (length inherited.now ≡ 16 * length starts.old + 16) }
     requires moves_in { (b : Book) × (ks : List Token) × (c : Config)
         × MovesIn b rules.now definitions.now spans.now down.now up.now table.now
@@ -59,7 +56,7 @@ pub fn advance(
         → Told b ks c states.new inherited.now synthesized.new starts.new rows.new result }
 {
     match due {
-        Move::Shift => shift(
+        Move::Shift => Ok(Some(shift(
             top,
             state,
             kind,
@@ -69,8 +66,8 @@ pub fn advance(
             synthesized,
             starts,
             rows,
-        ),
-        Move::Reduce(rule) => reduce(
+        )?)),
+        Move::Reduce(rule) => Ok(Some(reduce(
             top,
             rule,
             rules,
@@ -84,11 +81,8 @@ pub fn advance(
             synthesized,
             starts,
             rows,
-        ),
-        Move::Accept => Moved::Stopped(Outcome {
-            number: 0,
-            count: top.rows as u32,
-        }),
+        )?)),
+        Move::Accept => Ok(None),
     }
 }
 
@@ -119,7 +113,7 @@ pub fn step(
     synthesized: &mut [u32],
     starts: &mut [u32],
     rows: &mut [u32],
-) -> Moved
+) -> Result<Option<Top>, Refusal>
     requires rooms { Rooms states.old inherited.old synthesized.old starts.old rows.old }
     requires run_in { (b : Book) × (ks : List Token)
         × RunIn b ks rules.now definitions.now lines owned.now kernels.now bounds.now closures.now nullables.now reaches.now places.now
@@ -142,10 +136,7 @@ pub fn step(
     let kind = number(tokens, at);
     let action = action_of(actions[32 * state + kind as usize]);
     let Action::Due(due) = action else {
-        return Moved::Stopped(Outcome {
-            number: 15,
-            count: 0,
-        });
+        return Err(Refusal::NoMessage);
     };
     set_top(
         rules,

@@ -1,7 +1,7 @@
 -- A book that is taken, and a message, as the machine asks for them. Assumes nothing.
-use Rattle.std.specs.Prelude.{ℕ, ◌+◌, ◌*◌, ◌≤◌, ◌≡◌, List, ◌++◌, length, drop, replicate}
+use Rattle.std.specs.Prelude.{ℕ, ◌+◌, ◌*◌, ◌≤◌, ◌≡◌, List, ◌++◌, length, take, drop, replicate}
 use Rattle.std.proofs.Math.Option.{some}
-use Rattle.std.proofs.Common.{arith}
+use Rattle.std.proofs.Common.{ap, subst, ◌∙◌, arith, length-take-le}
 use Rattle.grammar.specs.Limits.{PAGE_WORDS, MAX_STACK}
 use Rattle.grammar.specs.Data.Book.{Book as Lines}
 use Rattle.grammar.specs.Evaluator.Tree.{Token}
@@ -60,12 +60,15 @@ module _ {numbers : Book} {inherited synthesized rules definitions kernels goes 
   pub tokens-of : {tokens : List ℕ} (m : Message numbers.terminals tokens) → Tokens b m.list
   tokens-of m = record { tokens = message-tokens b m (counted b h.ready.numbers_are).terminals_are; few = m.few }
 
-  -- no plan is worked out where the slots are cleared
-  pub plans-of : (old : List ℕ) {slots lists : List ℕ} → 32 * numbers.states ≤ length old
-      → slots ≡ replicate (32 * numbers.states) 0 ++ drop (32 * numbers.states) old → NoneListed lists → PlansIn b slots lists
-  plans-of old long e =
-      let noted : NoneNoted b.states _ = rw (counted b h.ready.numbers_are).states_are at (none-noted numbers.states old long e) in
-      plans-none b noted
+  -- no plan is worked out where the slots in front are cleared
+  pub plans-of : (old : List ℕ) {front lists : List ℕ} → 32 * numbers.states ≤ length old
+      → front ≡ replicate (length (take (32 * numbers.states) old)) 0 → NoneListed lists
+      → PlansIn b (front ++ drop (32 * numbers.states) old) lists
+  plans-of old {front} long e =
+      let n : ℕ = 32 * numbers.states in
+      let cleared : front ≡ replicate n 0 = e ∙ ap (λ (k : ℕ). replicate k 0) (length-take-le n old long) in
+      let noted = none-noted numbers.states old long (ap (λ (l : List ℕ). l ++ drop n old) cleared) in
+      plans-none b (subst (λ (k : ℕ). NoneNoted k (front ++ drop n old)) (counted b h.ready.numbers_are).states_are noted)
 
   -- words for the places of its definitions
   pub places-room : 32 + 9 * length b.rules ≤ 608

@@ -7,7 +7,6 @@ pub zeros : (n : ℕ) → length {A = ℕ} (replicate n 0) ≡ n
 zeros n = length-replicate n 0
 
 pub no_words : (n k : ℕ) → get_or {A = ℕ} (replicate n 0) k 0 ≡ 0
-unfolding replicate
 no_words zero k = refl
 no_words (suc n) zero = refl
 no_words (suc n) (suc k) = no_words n k

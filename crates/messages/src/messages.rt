@@ -11,9 +11,8 @@ ghost use Rattle.messages.specs.Pages.{Paged};
 
 use super::sides::fill_sides;
 use book::Book;
-use items::words::fill;
-use machine::run::{Outcome, run};
-use packing::packing::clear;
+use book::refusal::Refusal;
+use machine::run::run;
 use plans::members::mark_places;
 
 // Nonterminals, with the one that stands for a whole message, and rules.
@@ -43,7 +42,7 @@ fn message_run(
     tokens: &[u32],
     slots: &mut [u8],
     rows: &mut [u32],
-) -> Outcome
+) -> Result<u32, Refusal>
     requires some { Some (TakenBook book inherited.now synthesized.now rules.now definitions.now kernels.now goes.now nullables.now
         reaches.now bounds.now closures.now table.now actions.now) }
     requires message { Message book.terminals tokens.now × (length rows.old ≡ PAGE_WORDS) × (32 * book.states ≤ length slots.old) }
@@ -79,7 +78,7 @@ fn message_run(
         rules,
         &mut places,
     );
-    fill(slots, 32 * book.states as usize, 0);
+    slots[..32 * book.states as usize].fill(0);
     run(
         rules,
         definitions,
@@ -107,19 +106,7 @@ fn message_run(
     )
 }
 
-// Zeros behind the rows of a message that is accepted.
-fn clear_behind(outcome: Outcome, rows: &mut [u32])
-    requires { ((a : Answer) × Answered a outcome rows.old) × (length rows.old ≡ PAGE_WORDS) }
-    ensures { (a : Answer) → Answered a outcome rows.old → Paged a outcome rows.new }
-{
-    if outcome.number != 0 {
-        return;
-    }
-    let from = Book::ROW_WORDS * outcome.count as usize;
-    clear(&mut rows[from..]);
-}
-
-// The answer to a message: where it is accepted, its rows with zeros behind them.
+// The answer to a message: the number of its rows, which stand with zeros behind them, or the refusal.
 pub fn message(
     book: Book,
     inherited: &[u32],
@@ -137,7 +124,7 @@ pub fn message(
     tokens: &[u32],
     slots: &mut [u8],
     rows: &mut [u32],
-) -> Outcome
+) -> Result<u32, Refusal>
     requires some { Some (TakenBook book inherited.now synthesized.now rules.now definitions.now kernels.now goes.now nullables.now
         reaches.now bounds.now closures.now table.now actions.now) }
     requires message { Message book.terminals tokens.now × (length rows.old ≡ PAGE_WORDS) × (32 * book.states ≤ length slots.old) }
@@ -147,7 +134,7 @@ pub fn message(
         → (m : Message book.terminals tokens.now)
         → Paged (evaluate b (tables_of b) m.list) result rows.new }
 {
-    let outcome = message_run(
+    let count = message_run(
         book,
         inherited,
         synthesized,
@@ -164,7 +151,8 @@ pub fn message(
         tokens,
         slots,
         rows,
-    );
-    clear_behind(outcome, rows);
-    outcome
+    )?;
+    let from = Book::ROW_WORDS * count as usize;
+    rows[from..].fill(0);
+    Ok(count)
 }

@@ -1,7 +1,8 @@
 -- The loop that packs a text into the words of a stored book, by what holds before word i, and the words behind the text. Assumes nothing.
 use Rattle.std.specs.Prelude.{ℕ, ◌+◌, ◌-◌, ◌*◌, ◌/◌, ◌<◌, ◌≤◌, ◌≡◌, refl, List, [], ◌∷◌, ◌++◌, length, get_or, take, drop, set, replicate}
 use Rattle.std.proofs.Common.{sym, ap, ◌∙◌, append-nil, arith, length-append, length-drop, length-set, drop_of_length-le, take_at}
-use Rattle.std.proofs.Math.Seq.{append_snoc, drop-length}
+use Rattle.std.specs.Int.{w32, from_le_bytes}
+use Rattle.std.proofs.Math.Seq.{append_snoc}
 use Rattle.std.proofs.lemmas.List.{set_at}
 use Rattle.text.proofs.RestLaws.{drop_more}
 use Rattle.grammar.specs.Format.Packing.{word_of, pack, pack-length}
@@ -29,7 +30,7 @@ packed_more text old i h =
 
 module _ {text old words : List ℕ} {i : ℕ} (p : Packing text old words i) where
   pub packing-turn : {word : ℕ} → i < length text / 4 → length text ≤ 4 * length old
-      → word ≡ word_of (get_or text (4 * i) 0 ∷ get_or text (4 * i + 1) 0 ∷ get_or text (4 * i + 2) 0 ∷ get_or text (4 * i + 3) 0 ∷ [])
+      → word ≡ from_le_bytes w32 (get_or text (4 * i) 0 ∷ get_or text (4 * i + 1) 0 ∷ get_or text (4 * i + 2) 0 ∷ get_or text (4 * i + 3) 0 ∷ [])
       → Packing text old (set words i word) (i + 1)
   packing-turn {word} h room e =
       record {
@@ -37,9 +38,6 @@ module _ {text old words : List ℕ} {i : ℕ} (p : Packing text old words i) wh
         long = simp length-set p.long;
         words_are = rw (e ∙ word_at text (4 * i), p.words_are) (packed_more text old i (omega arith));
       }
-
-  pub packing-end : length text / 4 ≤ i → words ≡ pack (length text / 4) text ++ drop (length text / 4) old
-  packing-end h = let e : i ≡ length text / 4 = omega (arith, p.within) in rw (← e) p.words_are
 
 -- a slice whose part from m on was lent and cleared
 pub cleared-rest : {zeros : List ℕ} (words : List ℕ) (m : ℕ) → zeros ≡ replicate (length (part_from m words)) 0
@@ -53,12 +51,6 @@ cleared-rest words m e =
 module _ {words : List ℕ} (n : ℕ) (text old : List ℕ) (e : words ≡ pack n text ++ drop n old) where
   packed-length : length words ≡ n + (length old - n)
   packed-length = ap length e ∙ simp (length-append, length-drop, pack-length)
-
-  pub packed_all : n ≤ length old → length words ≤ n → words ≡ pack (length old) text
-  packed_all room h =
-      let m : n ≡ length old = omega (arith, packed-length) in
-      let f : words ≡ pack (length old) text ++ drop (length old) old = rw (← m) e in
-      f ∙ rw (drop-length old) (append-nil _)
 
   packed-last : {word : ℕ} → length text ≤ 4 * n + 4 → n < length words → word ≡ word_of (drop (4 * n) text)
       → take (n + 1) (set words n word) ++ replicate (length (set words n word) - (n + 1)) 0 ≡ pack (length old) text

@@ -1,20 +1,16 @@
--- Laws of a piece of text that is put into its place: four bytes stored one after the other, and what then stands in front. Assumes nothing.
-use Rattle.std.specs.Prelude.{ℕ, suc, ◌+◌, ◌≤◌, ◌≡◌, refl, List, [], ◌∷◌, ◌++◌, length, take, drop, set}
-use Rattle.std.proofs.Common.{sym, ap, ◌∙◌, append_assoc, arith, length-append, length-take, length-drop, take_at}
-use Rattle.std.proofs.lemmas.List.Edits.{sets, sets-eq}
-use Rattle.packing.specs.Words.{Placed}
+-- Laws of a piece of text that is put into its place: a word's four bytes, and what then stands in front. Assumes nothing.
+use Rattle.std.specs.Prelude.{ℕ, ◌+◌, ◌-◌, ◌≤◌, ◌≡◌, refl, List, ◌++◌, length, take, drop}
+use Rattle.std.proofs.Common.{sym, ap, ◌∙◌, append_assoc, arith, length-append, length-take, length-drop, drop-drop, take_at}
+use Rattle.std.specs.Int.{w32, to_le_bytes}
+use Rattle.packing.specs.Words.{bytes_of, Placed}
 
-placed-sets : (bytes text : List ℕ) (at : ℕ) → at + length bytes ≤ length text → Placed bytes at text (sets text at bytes) (at + length bytes)
-placed-sets bytes text at h =
-    record { next-is = refl; text_is = sets-eq bytes text at h ∙ append_assoc (take at text) bytes (drop (at + length bytes) text) }
-
-pub placed-four : (text : List ℕ) (at : ℕ) → at + 4 ≤ length text → (a b c d : ℕ)
-    → Placed (a ∷ b ∷ c ∷ d ∷ []) at text (set (set (set (set text at a) (at + 1) b) (at + 2) c) (at + 3) d) (at + 4)
-placed-four text at h a b c d =
-    let i : at + 1 ≡ suc at = omega arith in
-    let j : at + 2 ≡ suc (suc at) = omega arith in
-    let k : at + 3 ≡ suc (suc (suc at)) = omega arith in
-    rw (i, j, k) (placed-sets (a ∷ b ∷ c ∷ d ∷ []) text at (omega arith))
+-- the bytes of a word put into the part of the text that is lent for them
+pub placed-word : (text put : List ℕ) (at w : ℕ) → put ≡ to_le_bytes w32 w
+    → Placed (bytes_of w) at text (take at text ++ (put ++ drop (at + 4 - at) (drop at text))) (at + 4)
+unfolding bytes_of
+placed-word text put at w e =
+    let k : at + 4 - at ≡ 4 = omega arith in
+    record { next-is = refl; text_is = rw (k, e, drop-drop 4 at text) }
 
 module _ {bytes old new : List ℕ} {at next : ℕ} (p : Placed bytes at old new next) (h : next ≤ length old) where
   pub placed-length : length new ≡ length old

@@ -3,7 +3,9 @@
 use Prim.Native.Nat.{ℕ, zero, suc, ◌+◌, ◌-◌, ◌*◌, ◌/◌, ◌%◌, ◌^◌, ◌<◌, ◌≤◌}
 use Rattle.std.specs.Prelude.{◌≡◌, List, ◌∷◌, ◌++◌, length, take, drop}
 use Rattle.std.proofs.Math.Path.{refl}
-use Rattle.std.proofs.Common.{sym, ap, ◌∙◌, arith, take-add, take-take}
+use Rattle.std.proofs.Common.{sym, ap, ◌∙◌, arith, take-add, take-take, get_or-take, get_or-drop}
+use Rattle.std.proofs.Math.Pow.{pow_mono}
+use Rattle.std.proofs.lemmas.Nat.{pow_pos}
 use Rattle.std.specs.Int.Bits.{bit_or}
 use Rattle.std.proofs.Math.ListN.{get_or, get_or-eq_default}
 use Rattle.sets.specs.Bits.{below_suc}
@@ -16,9 +18,6 @@ use Rattle.packing.specs.PlacedLaws.{placed-length, placed-front}
 
 -- ---- words that are 0
 
-pub zeros-none : (words : List ℕ) (at : ℕ) → Zeros words at at
-zeros-none words at = record { each = λ i h k. absurd (omega arith) }
-
 -- the bits of a word more are gathered
 pub zeros-more : {words : List ℕ} {from to : ℕ} (bits : ℕ) → (bits ≡ 0 → Zeros words from to)
     → bit_or bits (get_or words to 0) ≡ 0 → Zeros words from (to + 1)
@@ -26,15 +25,30 @@ zeros-more {words} {from} {to} bits Z e =
     let (none, last) = or-none bits (get_or words to 0) e in
     record { each = λ i h k. below_suc (λ j. get_or words j 0 ≡ 0) to i (omega arith) ((Z none).each i h) last }
 
--- one part behind another
-pub zeros-join : {words : List ℕ} {from mid to : ℕ} → Zeros words from mid → Zeros words mid to → Zeros words from to
-zeros-join {mid = mid} Y Z = record { each = λ i h k. by_less i mid (Y.each i h) (λ l. Z.each i l k) }
+-- words in front, behind which all words are 0
+pub record Front (words front : List ℕ) : Type 0 where
+  pub is : front ≡ take (length front) words
+  pub behind : Zeros words (length front) (length words)
 
--- one word in front
-pub zeros-front : {words : List ℕ} {at to : ℕ} → 0 < at → get_or words (at - 1) 0 ≡ 0 → Zeros words at to → Zeros words (at - 1) to
-zeros-front {words} {at} {to} pos z Z = record {
-  each = λ i h k. by_less i at (λ l. let e : i ≡ at - 1 = omega arith in rw e z) (λ l. Z.each i l k);
-}
+-- a block less
+pub front-less : {words rest front block : List ℕ} (n : ℕ) → Front words rest → length front + n ≡ length rest → front ≡ take (length rest - n) rest
+    → block ≡ drop (length rest - n) rest → Zeros block 0 n → Front words front
+front-less {words} {rest} {front} {block} n F long f b Z =
+    let m : length rest - n ≡ length front = omega arith in
+    let shorter : front ≡ take (length front) rest = rw m at f in
+    record {
+      is = shorter ∙ ap (take (length front)) F.is ∙ take-take (length front) (length rest) words (omega arith);
+      behind = record { each = λ i h k. by_less i (length rest) (inside m i h) (λ l. F.behind.each i l k) };
+    }
+  where
+    inside : length rest - n ≡ length front → (i : ℕ) → length front ≤ i → i < length rest → get_or words i 0 ≡ 0
+    inside m i h l =
+        let at : ℕ = i - length front in
+        let j : length front + at ≡ i = omega arith in
+        let in_words : get_or rest i 0 ≡ get_or words i 0 =
+        ap (λ (ws : List ℕ). get_or ws i 0) F.is ∙ get_or-take (length rest) words i 0 l in
+        let in_block : get_or block at 0 ≡ get_or rest i 0 = rw (b, m, get_or-drop (length front) rest at 0, j) in
+        sym in_words ∙ sym in_block ∙ Z.each at (omega arith) (omega arith)
 
 -- ---- the word in which the text ends
 
@@ -78,6 +92,27 @@ module _ (w : ℕ) where
     behind = λ i k. get_or-eq_default (bytes_of w) 0 {n = i} k;
     last = λ _ e. omega arith;
   }
+
+  -- the word's highest bit is bit r
+  pub ends-top : (r : ℕ) → 2 ^ r ≤ w → w < 2 * 2 ^ r → r < 32 → Ends (bytes_of w) (r / 8 + 1)
+  ends-top r l h m =
+      by_less r 8 (λ n. rw (quotient 0 (omega arith)) (ends-first (λ z. omega (arith, pow_pos r)) (omega (arith, above 7 (omega arith)))))
+      (λ first.
+      by_less r 16
+      (λ n. rw (quotient 1 (omega arith)) (ends-second (omega (arith, below 8 first)) (omega (arith, above 15 (omega arith)))))
+      (λ second.
+      by_less r 24
+      (λ n. rw (quotient 2 (omega arith)) (ends-third (omega (arith, below 16 second)) (omega (arith, above 23 (omega arith)))))
+      (λ third. rw (quotient 3 (omega arith)) (ends-fourth (omega (arith, below 24 third)) (omega (arith, above 31 (omega arith)))))))
+    where
+      quotient : (q : ℕ) → (8 * q ≤ r) × (r < 8 * q + 8) → r / 8 + 1 ≡ q + 1
+      quotient q b = omega arith
+
+      below : (k : ℕ) → k ≤ r → 2 ^ k ≤ w
+      below k b = omega (arith, pow_mono {i = k} {j = r} b)
+
+      above : (k : ℕ) → r ≤ k → w < 2 * 2 ^ k
+      above k b = omega (arith, pow_mono {i = r} {j = k} b)
 
 -- the bytes of words that are 0
 zeros-behind : {words : List ℕ} {from : ℕ} → Zeros words from (length words) → (i : ℕ) → from ≤ i / 4 → get_or (bytes words) i 0 ≡ 0
@@ -150,9 +185,3 @@ copied-four {words} {text} {one} {two} {three} {new} {i} {at} within room e a b 
     let fourth : Copied words (i + 3 + 1) new = copied-turn (rw n at third) (omega arith) (omega arith) (rw v at d) in
     let k : i + 3 + 1 ≡ i + 4 = omega arith in
     rw k at fourth
-
-pub copied_none : (words text : List ℕ) → Copied words 0 text
-copied_none words text = record { text_is = refl }
-
-pub copied-end : {words text : List ℕ} {i : ℕ} → Copied words i text → (n : ℕ) → n ≤ 4 * i → take n text ≡ take n (bytes words)
-copied-end {words} {text} {i} C n h = sym (take-take n (4 * i) text h) ∙ ap (take n) C.text_is ∙ take-take n (4 * i) (bytes words) h

@@ -2,6 +2,7 @@
 -- Assumes nothing.
 use Rattle.std.specs.Prelude.{ℕ, zero, suc, ◌+◌, ◌-◌, ◌*◌, ◌/◌, ◌%◌, ◌^◌, ◌<◌, ◌≤◌, ◌≡◌, refl, List, [], ◌∷◌, ◌++◌, length, get_or, take, drop, replicate}
 use Rattle.std.proofs.Common.{sym, ap, ◌∙◌, arith, length-drop, length-take, take_all, drop-drop, get_or-drop, get_or-take, ext_get_or}
+use Rattle.std.specs.Int.{w32, from_le_bytes}
 use Rattle.std.proofs.Math.ListN.{get_or-append, get_or-eq_default}
 use Rattle.std.proofs.Math.Seq.{drop-nil}
 use Rattle.text.proofs.Positional.{by_less}
@@ -29,11 +30,11 @@ pack-nothing (suc n) = ap (λ (ws : List ℕ). 0 ∷ ws) (pack-nothing n)
 
 -- the word of four bytes in a text, 0 past its end
 pub word_at : (text : List ℕ) (at : ℕ)
-    → word_of (get_or text at 0 ∷ get_or text (at + 1) 0 ∷ get_or text (at + 2) 0 ∷ get_or text (at + 3) 0 ∷ []) ≡ word_of (drop at text)
+    → from_le_bytes w32 (get_or text at 0 ∷ get_or text (at + 1) 0 ∷ get_or text (at + 2) 0 ∷ get_or text (at + 3) 0 ∷ []) ≡ word_of (drop at text)
 unfolding word_of
 word_at text at =
     let e : at + 0 ≡ at = omega arith in
-    rw (get_or-drop at text 0 0, e, get_or-drop at text 1 0, get_or-drop at text 2 0, get_or-drop at text 3 0)
+    rw (get_or-drop at text 0 0, e, get_or-drop at text 1 0, get_or-drop at text 2 0, get_or-drop at text 3 0) (omega arith)
 
 -- texts that differ in zeros at the end alone are packed alike
 pack-same : (n : ℕ) (s t : List ℕ) → ((i : ℕ) → get_or s i 0 ≡ get_or t i 0) → pack n s ≡ pack n t

@@ -7,10 +7,7 @@ fn put_whole(text: &mut [u8], at: usize, word: u32)
     requires { at + 4 ≤ length text.old }
     ensures { Placed (bytes_of word) at text.old text.new (at + 4) }
 {
-    text[at] = (word % 256) as u8;
-    text[at + 1] = (word / 256 % 256) as u8;
-    text[at + 2] = (word / 65536 % 256) as u8;
-    text[at + 3] = (word / 16777216 % 256) as u8;
+    text[at..at + 4].copy_from_slice(&word.to_le_bytes());
 }
 
 // The bytes of four words. All are loaded before the first is put, so that compilers move them as one.
@@ -34,10 +31,8 @@ pub fn unpack(words: &[u32], n: usize, text: &mut [u8])
     requires { (n ≤ length text.old) × (length text.old % 16 ≡ 0) × (length text.old ≤ 4 * length words.now) }
     ensures { take n text.new ≡ take n (bytes words.now) }
 {
-    let mut k = 0;
-    while 16 * k < n {
+    for k in 0..n.div_ceil(16) {
         put_four(words, 4 * k, text);
-        k += 1;
     }
 }
 
@@ -45,15 +40,12 @@ pub fn unpack(words: &[u32], n: usize, text: &mut [u8])
 const BLOCK: usize = 128;
 
 // The bits of a block of words, gathered with no way out of the loop.
-fn block_bits(words: &[u32], from: usize) -> u32
-    requires { from + 128 ≤ length words.now }
-    ensures { result ≡ 0 → Zeros words.now from (from + 128) }
+fn block_bits(block: &[u32; BLOCK]) -> u32
+    ensures { result ≡ 0 → Zeros block.now 0 BLOCK }
 {
-    let mut bits = 0u32;
-    let mut i = 0;
-    while i < BLOCK {
-        bits |= words[from + i];
-        i += 1;
+    let mut bits = 0;
+    for word in block {
+        bits |= *word;
     }
     bits
 }
@@ -62,14 +54,14 @@ fn block_bits(words: &[u32], from: usize) -> u32
 fn before_zeros(words: &[u32]) -> usize
     ensures { (result ≤ length words.now) × Zeros words.now result (length words.now) }
 {
-    let mut end = words.len();
-    while BLOCK <= end {
-        if block_bits(words, end - BLOCK) != 0 {
-            return end;
+    let mut rest = words;
+    while let Some((front, block)) = rest.split_last_chunk::<BLOCK>() {
+        if block_bits(block) != 0 {
+            break;
         }
-        end -= BLOCK;
+        rest = front;
     }
-    end
+    rest.len()
 }
 
 // The bytes of a word up to the last one that is not 0.
@@ -77,29 +69,17 @@ fn word_length(word: u32) -> usize
     requires { word ≡ 0 → ⊥ }
     ensures { (0 < result) × Ends (bytes_of word) result }
 {
-    if 16777216 <= word {
-        return 4;
-    }
-    if 65536 <= word {
-        return 3;
-    }
-    if 256 <= word {
-        return 2;
-    }
-    1
+    word.ilog2() as usize / 8 + 1
 }
 
 // How many bytes the text in the words has.
 pub fn text_length(words: &[u32]) -> usize
     ensures { Holds words.now result }
 {
-    let mut end = before_zeros(words);
-    while 0 < end {
-        let word = words[end - 1];
-        if word != 0 {
-            return 4 * (end - 1) + word_length(word);
+    for i in (0..before_zeros(words)).rev() {
+        if words[i] != 0 {
+            return 4 * i + word_length(words[i]);
         }
-        end -= 1;
     }
     0
 }

@@ -1,6 +1,6 @@
 -- The sections of a book, read one after another, are the book; and what the arrays then hold of it.
 -- Assumes nothing.
-use Rattle.std.specs.Prelude.{ℕ, ◌≤◌, ◌<◌, ◌≡◌, refl, Bool, List, [], ◌∷◌, map, eqb, ltb}
+use Rattle.std.specs.Prelude.{ℕ, ◌≤◌, ◌<◌, ◌≡◌, refl, Bool, List, [], ◌∷◌, map, eqb, ltb, Option, None, Some}
 use Rattle.std.proofs.Math.Path.{sym, ap}
 use Rattle.std.proofs.Common.{◌∙◌, ⊎_elim, eq-or-lt_of_le, drop_of_length-le, eqb-true, ltb-true, ltb-false}
 use Rattle.std.proofs.Math.Bool.{true, false}
@@ -16,6 +16,7 @@ use Rattle.grammar.specs.Data.Book.{Book as Lines}
 use Rattle.grammar.specs.Format.Reader.{parsed, result, remaining}
 use Rattle.grammar.specs.Format.ReaderLaws.{shrinking}
 use Rattle.grammar.specs.Format.Parse.{owner_lines, rule_lines, kernel_lines, go_lines, end_line, book_text, ended, parse_book}
+use Rattle.book.specs.declared.kind.Kind.TheVariants.{Inherited, Synthesized}
 use Rattle.book.specs.declared.Book.{Book}
 use Rattle.book.specs.declared.Room.{Room}
 use Rattle.book.specs.Layout.{store_lines, owner_words, rule_words, kernel_words, go_words}
@@ -31,7 +32,7 @@ use Rattle.book.specs.Held.{inherited_words, synthesized_words}
 use Rattle.book.specs.Counts.{counts_of}
 use Rattle.definitions.specs.Both.{DefinesBoth}
 use Rattle.parsing.specs.Declarations.{Declares}
-use Rattle.book.specs.Spelling.{arrays, stored_in, is_book, Spelling}
+use Rattle.book.specs.Spelling.{arrays, stored_in, Spelling}
 
 -- Where reading ends
 
@@ -72,8 +73,8 @@ whole text numbers p₁ p₂ p₃ p₄ p₅ p₆ p₇ = record {
   inherited_owners = result (owner_lines (word_of "inh") (word_of "i") (rest text p₁));
   synthesized_owners = result (owner_lines (word_of "syn") (word_of "s") (rest text p₂));
   rules = result (rule_lines (rest text p₃));
-  inherited_definitions = map inherited_of (result (definitions true (rest text p₄)));
-  synthesized_definitions = map synthesized_of (result (definitions false (rest text p₅)));
+  inherited_definitions = map inherited_of (result (definitions Inherited (rest text p₄)));
+  synthesized_definitions = map synthesized_of (result (definitions Synthesized (rest text p₅)));
   kernels = result (kernel_lines (rest text p₆));
   goes = result (go_lines (rest text p₇));
 }
@@ -99,8 +100,8 @@ module _ {text inherited₀ inherited synthesized₀ synthesized rules₀ rules 
     (inherited_read : Fills owner_words MAX_INHERITED (owner_lines (word_of "inh") (word_of "i") (rest text p₁)) text inherited₀ i p₂ inherited)
     (synthesized_read : Fills owner_words MAX_SYNTHESIZED (owner_lines (word_of "syn") (word_of "s") (rest text p₂)) text synthesized₀ s p₃ synthesized)
     (rules_read : Fills rule_words room.rules (rule_lines (rest text p₃)) text rules₀ r p₄ rules)
-    (inherited-defined : Defines (definitions true (rest text p₄)) room.definitions 0 text definitions₀ d p₅ definitions₁)
-    (synthesized-defined : Defines (definitions false (rest text p₅)) room.definitions d text definitions₁ e p₆ definitions₂)
+    (inherited-defined : Defines (definitions Inherited (rest text p₄)) room.definitions 0 text definitions₀ d p₅ definitions₁)
+    (synthesized-defined : Defines (definitions Synthesized (rest text p₅)) room.definitions d text definitions₁ e p₆ definitions₂)
     (kernels-read : Fills kernel_words room.kernels (kernel_lines (rest text p₆)) text kernels₀ k p₇ kernels)
     (goes-read : Fills go_words room.goes (go_lines (rest text p₇)) text goes₀ g p₈ goes)
     (end_read : rest text p₉ ≡ end_line (rest text p₈)) where
@@ -130,11 +131,6 @@ module _ {text inherited₀ inherited synthesized₀ synthesized rules₀ rules 
   unfolding parse_book
   parse-is = let z : rest text 0 ≡ left text = rest_in text 0 (omega arith) in ap ended (ap book_text (sym z) ∙ book-read)
 
-  spelled_as : (t : Bool) → eqb p₉ (length text) ≡ t → t ≡ is_book text
-  unfolding is_book
-  spelled_as true q = rw (parse-is ∙ some_at read text p₉ (eqb-true p₉ (length text) q), is_book)
-  spelled_as false q = rw (parse-is ∙ none-at read text p₉ (eqb-false p₉ (length text) q), is_book)
-
   counts-are : numbers_with numbers i s r d e k g ≡ counts_of read
   unfolding whole counts_of
   counts-are =
@@ -146,8 +142,8 @@ module _ {text inherited₀ inherited synthesized₀ synthesized rules₀ rules 
         synthesized-defined.count_is,
         kernels-read.count_is,
         goes-read.count_is,
-        length-map (result (definitions true (rest text p₄))) inherited_of,
-        length-map (result (definitions false (rest text p₅))) synthesized_of,
+        length-map (result (definitions Inherited (rest text p₄))) inherited_of,
+        length-map (result (definitions Synthesized (rest text p₅))) synthesized_of,
       )
 
   -- the definitions' array, where the text is not lost
@@ -167,12 +163,12 @@ module _ {text inherited₀ inherited synthesized₀ synthesized rules₀ rules 
         ap size kernels-read.remaining_is,
         kernels-size (rest text p₆),
       ) in
-      let fifth : 0 < size (rest text p₅) = omega (arith, ap size synthesized-defined.remaining_is, definitions-size false (rest text p₅)) in
+      let fifth : 0 < size (rest text p₅) = omega (arith, ap size synthesized-defined.remaining_is, definitions-size Synthesized (rest text p₅)) in
       some_left (rest text p₆) sixth λ cs e₆. some_left (rest text p₅) fifth λ bs e₅.
-      let first : definitions₁ ≡ store_lines inherited_words room.definitions 0 (map inherited_of (result (definitions true (rest text p₄)))) definitions₀ =
+      let first : definitions₁ ≡ store_lines inherited_words room.definitions 0 (map inherited_of (result (definitions Inherited (rest text p₄)))) definitions₀ =
       inherited-defined.array_is ∙ inherited-stored (rest text p₄) room.definitions 0 definitions₀ (sym inherited-defined.remaining_is ∙ e₅) in
-      let count : d ≡ length (map inherited_of (result (definitions true (rest text p₄)))) =
-      inherited-defined.count_is ∙ sym (length-map (result (definitions true (rest text p₄))) inherited_of) in
+      let count : d ≡ length (map inherited_of (result (definitions Inherited (rest text p₄)))) =
+      inherited-defined.count_is ∙ sym (length-map (result (definitions Inherited (rest text p₄))) inherited_of) in
       synthesized-defined.array_is
       ∙ (synthesized-stored (rest text p₅) room.definitions d definitions₁ (sym synthesized-defined.remaining_is ∙ e₆) ∙ rw (first, count))
 
@@ -186,13 +182,22 @@ module _ {text inherited₀ inherited synthesized₀ synthesized rules₀ rules 
   read-got : {C : Type 0} (b : Lines) → parse_book text ≡ some b → (read ≡ b → 0 < size (rest text p₉) → C) → C
   read-got b e f = ended-got read (rest text p₉) (sym parse-is ∙ e) f
 
-  by-sections : Spelling room text (arrays inherited₀ synthesized₀ rules₀ definitions₀ kernels₀ goes₀) (eqb p₉ (length text)) (numbers_with numbers i s r d e k g)
-      (arrays inherited synthesized rules definitions₂ kernels goes)
-  by-sections =
+  -- a book that was read ends where the text ends
+  ends-got : (b : Lines) → parse_book text ≡ some b → p₉ ≡ length text
+  ends-got b z = go (eqb p₉ (length text)) refl
+    where
+      go : (t : Bool) → eqb p₉ (length text) ≡ t → p₉ ≡ length text
+      go true q = eqb-true p₉ (length text) q
+      go false q = let y : some b ≡ none = sym z ∙ (parse-is ∙ none-at read text p₉ (eqb-false p₉ (length text) q)) in absurd (cc)
+
+  -- what is answered: the numbers where the text ends there, and else nothing
+  by-sections : (answer : Option Book) → (p₉ ≡ length text → answer ≡ Some (numbers_with numbers i s r d e k g)) → ((p₉ ≡ length text → ⊥) → answer ≡ None)
+      → Spelling room text (arrays inherited₀ synthesized₀ rules₀ definitions₀ kernels₀ goes₀) answer (arrays inherited synthesized rules definitions₂ kernels goes)
+  by-sections answer there elsewhere =
       record {
-        spelled_is = spelled_as (eqb p₉ (length text)) refl;
-        numbers_are = λ b e. read-got b e λ same some. counts-are ∙ ap counts_of same;
-        lines_are = λ b e. read-got b e λ same some. arrays-are some ∙ ap (stored_in room (arrays inherited₀ synthesized₀ rules₀ definitions₀ kernels₀ goes₀)) same;
+        none_is = λ z. elsewhere λ end. let y : some read ≡ none = sym (some_at read text p₉ end) ∙ (sym parse-is ∙ z) in absurd (cc);
+        some_is = λ b z. read-got b z λ same some. there (ends-got b z) ∙ ap Some (counts-are ∙ ap counts_of same);
+        lines_are = λ b z. read-got b z λ same some. arrays-are some ∙ ap (stored_in room (arrays inherited₀ synthesized₀ rules₀ definitions₀ kernels₀ goes₀)) same;
       }
 
 -- the parts of a book, one after another
@@ -200,8 +205,8 @@ pub spelling-steps : {text inherited₀ inherited synthesized₀ synthesized rul
     {numbers : Numbers} {i s r d e k g p₄ p₆ p₇ p₈ : ℕ} (room : Room) (p₉ : ℕ) → Declares room.rules text inherited₀ synthesized₀ rules₀ numbers i s r p₄ inherited synthesized rules
     → DefinesBoth text room.definitions definitions₀ p₄ d e p₆ definitions₂ → Fills kernel_words room.kernels (kernel_lines (rest text p₆)) text kernels₀ k p₇ kernels
     → Fills go_words room.goes (go_lines (rest text p₇)) text goes₀ g p₈ goes → rest text p₉ ≡ end_line (rest text p₈)
-    → Spelling room text (arrays inherited₀ synthesized₀ rules₀ definitions₀ kernels₀ goes₀) (eqb p₉ (length text)) (numbers_with numbers i s r d e k g)
-    (arrays inherited synthesized rules definitions₂ kernels goes)
+    → (answer : Option Book) → (p₉ ≡ length text → answer ≡ Some (numbers_with numbers i s r d e k g)) → ((p₉ ≡ length text → ⊥) → answer ≡ None)
+    → Spelling room text (arrays inherited₀ synthesized₀ rules₀ definitions₀ kernels₀ goes₀) answer (arrays inherited synthesized rules definitions₂ kernels goes)
 spelling-steps room p₉ declared defined items moves end =
     by-sections room p₉ declared.head_read declared.inherited_read declared.synthesized_read declared.rules_read defined.inherited_read
     defined.synthesized_read items moves end

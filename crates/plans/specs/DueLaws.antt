@@ -1,34 +1,26 @@
 -- When a definition whose item is in the partial state is due: its left side is settled, or it does not wait for it. Over the attributes that are known
 -- this is the test of the one-formula check, where some formula stands for each of them. Assumes nothing.
-use Prim.Native.Nat.{ℕ, zero, suc, ◌+◌, ◌*◌, ◌<◌, ◌≤◌}
+use Prim.Native.Nat.{ℕ, zero, suc, ◌<◌, ◌≤◌}
 use Rattle.std.proofs.Common.{arith, ◌∙◌}
-use Rattle.std.proofs.Math.Path.{◌≡◌, refl, sym, ap}
+use Rattle.std.proofs.Math.Path.{◌≡◌, refl, sym}
 use Rattle.std.specs.Prelude.{Bool, List, [], ◌∷◌, eqb}
 use Rattle.std.proofs.Math.Bool.{true, false}
 use Rattle.std.proofs.Math.Option.{Option, none, some}
 use Rattle.std.proofs.Math.ListN.{length, get_or}
-use Rattle.sets.specs.Sets.{bit, subset}
+use Rattle.sets.specs.Sets.{bit}
 use Rattle.grammar.specs.Limits.{MAX_INHERITED}
 use Rattle.grammar.specs.Conditions.Decides.{all_below}
 use Rattle.grammar.specs.Data.Symbol.{left_of}
 use Rattle.grammar.specs.Data.Term.{number}
 use Rattle.grammar.specs.Data.Book.{InheritedDefinition, Book, owner_at}
 use Rattle.grammar.specs.Formulas.Formula.{Formula}
-use Rattle.grammar.specs.Formulas.Slots.{Slots, slot_at, settled_below, attributes}
-use Rattle.grammar.specs.Formulas.FormulaCheck as grammar
-use Rattle.grammar.specs.Formulas.FormulaCheck.{dot_of, line_at}
+use Rattle.grammar.specs.Formulas.Slots.{Slots, slot_at, settled_below, attributes, ready}
+use Rattle.grammar.specs.Formulas.FormulaCheck.{dot_of}
 use Rattle.grammar.specs.Formulas.Plan.{settled_in, ready_in, due_in}
-use Rattle.attributes.specs.Owned.{is_filled, KnownIn, settled_is}
-use Rattle.attributes.specs.Checking.{CheckHeld}
-use Rattle.attributes.specs.CheckingLaws.{position-word, left_word}
-
--- the attributes that are known, as a set
-pub record KnownSet (known : List Bool) (set : ℕ) : Type 0 where
-  pub long : length known ≡ MAX_INHERITED
-  pub known_is : (K : ℕ) → K < MAX_INHERITED → bit set K ≡ get_or known K true
+use Rattle.attributes.specs.Owned.{is_filled, KnownIn}
 
 -- some formula for each attribute that is known
-slots_for : List Bool → Slots
+unfoldable pub slots_for : List Bool → Slots
 slots_for [] = []
 slots_for (true ∷ known) = some (number 0) ∷ slots_for known
 slots_for (false ∷ known) = none ∷ slots_for known
@@ -41,8 +33,10 @@ filled-for (false ∷ known) zero h = refl
 filled-for (true ∷ known) (suc K) h = filled-for known K (omega arith)
 filled-for (false ∷ known) (suc K) h = filled-for known K (omega arith)
 
-known-for : {known : List Bool} {set : ℕ} → KnownSet known set → KnownIn (slots_for known) set
-known-for {known} S = record { known_is = λ K h. S.known_is K h ∙ sym (filled-for known K (omega (arith, S.long))) }
+-- a set of the attributes that are known is one of those for which a formula stands
+pub known-for : (known : List Bool) {set : ℕ} → length known ≡ MAX_INHERITED → ((K : ℕ) → K < MAX_INHERITED → bit set K ≡ get_or known K true)
+    → KnownIn (slots_for known) set
+known-for known long is = record { known_is = λ K h. is K h ∙ sym (filled-for known K (omega (arith, long))) }
 
 module _ (known : List Bool) where
   -- what A owns below n
@@ -70,33 +64,8 @@ pub due-own : (b : Book) (member : ℕ → ℕ → Bool) (known : List Bool) (li
 unfolding due_in
 due-own b member known line e = rw (due_in, e)
 
-module _ (b : Book) (known : List Bool) (P : ℕ) where
-  behind-dot : (D : ℕ) → (D ≡ 0 → ⊥) → ready_in b known P D ≡ true
-  unfolding ready_in
-  behind-dot zero n = absurd (n refl)
-  behind-dot (suc D) n = refl
-
-  front-dot : (D : ℕ) → D ≡ 0 → ready_in b known P D ≡ settled_in b.inherited_owners known (left_of b.rules P)
-  unfolding ready_in
-  front-dot D e = rw (e, ready_in)
-
-module _ {b : Book} {definitions rules owned masks : List ℕ} (H : CheckHeld b definitions rules owned masks) {d : ℕ} (l : d < grammar.definitions b)
-    (known : List Bool) {position : ℕ} (p : position ≡ get_or definitions (49 * d + 1) 0) where
-  -- a definition that does not wait
-  pub ready-behind : (position ≡ 1 → ⊥) → true ≡ ready_in b known (line_at b d).rule (dot_of (line_at b d))
-  ready-behind n =
-      sym (behind-dot b known (line_at b d).rule (dot_of (line_at b d)) (λ z. n (omega (arith, position-word H l, (H.line_in d l).position_low))))
-
-  -- one that waits for its left side
-  pub ready-front : position ≡ 1 → {set : ℕ} → KnownSet known set → {rule left : ℕ} → rule ≡ get_or definitions (49 * d) 0
-      → left ≡ get_or rules (10 * rule) 0 → subset (get_or owned left 0) set ≡ ready_in b known (line_at b d).rule (dot_of (line_at b d))
-  unfolding settled_in
-  ready-front o {set} S {rule} {left} r q =
-      let A = left_of b.rules (line_at b d).rule in
-      let is : left ≡ A = q ∙ ap (λ (P : ℕ). get_or rules (10 * P) 0) r ∙ left_word H l in
-      let low : A < 32 = H.left_low (line_at b d).rule (H.line_in d l).rule_there in
-      let few : attributes b ≤ length known = omega (arith, H.premises.attributes_limit, S.long) in
-      ap (λ (x : ℕ). subset (get_or owned x 0) set) is ∙ ap (λ (x : ℕ). subset x set) (H.owned_in.set_is A low)
-      ∙ settled_is b.inherited_owners (known-for S) A (attributes b) H.premises.attributes_limit
-      ∙ settled-for known b.inherited_owners A (attributes b) few
-      ∙ sym (front-dot b known (line_at b d).rule (dot_of (line_at b d)) (omega (arith, position-word H l)))
+-- a definition waits for its left side as where some formula stands for each attribute that is known
+pub ready-known : (b : Book) (known : List Bool) → attributes b ≤ length known → (P D : ℕ) → ready b (slots_for known) P D ≡ ready_in b known P D
+unfolding ready ready_in settled_in
+ready-known b known few P zero = settled-for known b.inherited_owners (left_of b.rules P) (attributes b) few
+ready-known b known few P (suc D) = refl

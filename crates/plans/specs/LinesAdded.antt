@@ -2,7 +2,7 @@
 use Rattle.std.specs.Prelude.{ℕ, zero, suc, ◌+◌, ◌/◌, ◌%◌, ◌^◌, ◌<◌, ◌≤◌, ◌≡◌, refl, Bool, true, false, ◌||◌, List, eqb, length, get_or, set}
 use Rattle.std.proofs.Common.{arith, ap, ◌∙◌, length-set, get_or-set_same, get_or-set_other, eq-eqb, ne_eqb}
 use Rattle.std.proofs.Math.Decide.{ℕ_discrete}
-use Rattle.std.proofs.Math.Bool.{or-true}
+use Rattle.std.proofs.Math.Bool.{or-true, or-false}
 use Rattle.std.specs.Int.Bits.{bit_or}
 use Rattle.sets.specs.Sets.{bit, empty, single}
 use Rattle.sets.proofs.SetsLaws.{bit-empty, bit-single}
@@ -14,10 +14,6 @@ pub record Added (line : ℕ) (old new : List ℕ) : Type 0 where
   pub long : length new ≡ 2
   pub here : line_bit new line ≡ true
   pub other : (d : ℕ) → d < 128 → (d ≡ line → ⊥) → line_bit new d ≡ line_bit old d
-
-or-false : (t : Bool) → (t || false) ≡ t
-or-false true = refl
-or-false false = refl
 
 pub line-added : {line word one : ℕ} {old : List ℕ} → length old ≡ 2 → line < 128 → word ≡ line / 64 → one ≡ 2 ^ (line % 64)
     → Added line old (set old word (bit_or (get_or old word 0) one))
@@ -52,9 +48,6 @@ pub record Adding (first line : ℕ) (old new : List ℕ) : Type 0 where
   pub low : first ≤ line
   pub within : (d : ℕ) → first ≤ d → d < line → line_bit new d ≡ true
   pub without : (d : ℕ) → d < 128 → (first ≤ d → d < line → ⊥) → line_bit new d ≡ line_bit old d
-
-pub adding-none : {first : ℕ} {old : List ℕ} → length old ≡ 2 → Adding first first old old
-adding-none e = record { long = e; low = omega arith; within = λ d h l. absurd (omega arith); without = λ d h n. refl }
 
 pub adding-more : {first line : ℕ} {old new more : List ℕ} → Adding first line old new → line < 128 → Added line new more → Adding first (line + 1) old more
 adding-more {first} {line} {old} {new} {more} A low B = record {

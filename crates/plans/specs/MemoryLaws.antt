@@ -44,9 +44,9 @@ module _ {b : Book} {rules definitions : List ℕ} {lines : ℕ} {owned kernels 
 
 module _ {b : Book} {S a : ℕ} (low : a < 32) {slots lists : List ℕ} (M : PlansIn b slots lists) (s : S < b.states) where
   -- the plan is known
-  pub told-known : (get_or slots (32 * S + a) 0 ≡ 0 → ⊥) → PlanTold b slots lists S a (get_or slots (32 * S + a) 0 - 1)
-  told-known k =
-      let N = M.noted S a (get_or slots (32 * S + a) 0 - 1) s low (omega (arith, k)) in
+  pub told-known : {slot : ℕ} → get_or slots (32 * S + a) 0 ≡ slot + 1 → PlanTold b slots lists S a slot
+  told-known {slot} k =
+      let N = M.noted S a slot s low k in
       record { plans_in = M; slot_low = omega (arith, N.in_use, M.last_low, M.lists_long); plan_in = N.plan_in }
 
   -- it has no lines

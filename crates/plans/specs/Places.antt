@@ -26,15 +26,6 @@ pub record PlacesIn (b : Book) (n : ℕ) (places : List ℕ) : Type 0 where
 
 -- Definition by definition, from the last on
 
-pub places-none : (b : Book) {places : List ℕ} {n : ℕ} → n ≡ grammar.definitions b → 32 + 9 * length b.rules ≤ length places
-    → ((k : ℕ) → get_or places k 0 ≡ 0) → PlacesIn b n places
-places-none b e long none = record {
-  long = long;
-  front_is = λ d h l. absurd (omega arith);
-  first_low = λ k s. absurd (s (none (32 + k)));
-  first_is = λ d h l. absurd (omega arith);
-}
-
 -- one line more: it comes before those of its item that are there
 module _ {b : Book} {definitions rules owned masks : List ℕ} (H : CheckHeld b definitions rules owned masks) {d : ℕ} (l : d < grammar.definitions b)
     (places : List ℕ) (L : PlacesIn b (d + 1) places) {rule position : ℕ} (r : rule ≡ get_or definitions (49 * d) 0) (p : position ≡ get_or definitions (49 * d + 1) 0)
@@ -155,9 +146,6 @@ module _ {closures : List ℕ} {first : ℕ} {places : List ℕ} where
         free = λ A l.
             below_suc (λ k. bit_and (get_or closures (first + k) 0) (get_or places k 0) ≡ 0) n A (omega arith) ((before none).free A) last;
       }
-
-  pub front-all : {n : ℕ} → FrontFree closures first places n → 32 ≤ n → FrontFree closures first places 32
-  front-all F h = record { free = λ A l. F.free A (omega arith) }
 
   -- the closure has nothing of a left side whose rules have a definition of their first symbol
   pub front-empty : FrontFree closures first places 32 → (A : ℕ) → A < 32 → get_or places A 0 ≡ full → get_or closures (first + A) 0 < 2 ^ 32

@@ -1,15 +1,15 @@
 -- Laws of a plan that is being made in a row of bytes: what a visit of a definition does, what the passes do, and that nothing else changes.
 -- Assumes nothing.
-use Rattle.std.specs.Prelude.{ℕ, ◌+◌, ◌*◌, ◌<◌, ◌≤◌, ◌≡◌, refl, Bool, not, ◌||◌, List, [], ◌∷◌, ◌++◌, length, set}
+use Rattle.std.specs.Prelude.{ℕ, ◌+◌, ◌*◌, ◌<◌, ◌≤◌, ◌≡◌, refl, Bool, not, List, [], ◌∷◌, ◌++◌, length, set}
 use Rattle.std.proofs.Common.{arith, ◌∙◌, length-append, get_or-set_same, get_or-set_other}
 use Rattle.std.proofs.Math.Decide.{ℕ_discrete}
 use Rattle.std.proofs.Math.Path.{sym, ap}
 use Rattle.std.proofs.Math.Bool.{true, false}
-use borrow.Author.Tests.{ne_eqb, not-true, not-false}
+use borrow.Author.Tests.{not-true, not-false}
 use Rattle.std.proofs.Math.ListN.{get_or, length-set, get_or-append}
 use Rattle.std.proofs.Math.Seq.{get_or-append_seam}
 use Rattle.sets.specs.Sets.{bit, with}
-use Rattle.sets.proofs.SetsLaws.{bit-with, with-self}
+use Rattle.sets.proofs.SetsLaws.{with-self}
 use Rattle.grammar.specs.Limits.{MAX_INHERITED}
 use Rattle.grammar.specs.Automaton.TestLaws.{true-false}
 use Rattle.grammar.specs.Data.Book.{Book}
@@ -17,11 +17,13 @@ use Rattle.grammar.specs.Formulas.FormulaCheck as grammar
 use Rattle.grammar.specs.Formulas.FormulaCheck.{dot_of, line_at}
 use Rattle.grammar.proofs.Formulas.FormulaCheckSteps.{done_more, done-length}
 use Rattle.grammar.specs.Formulas.Plan.{ready_in, due_in}
+use Rattle.grammar.specs.Formulas.Slots.{ready}
+use Rattle.attributes.specs.Owned.{KnownIn, with-other}
 use Rattle.attributes.specs.Checking.{CheckHeld}
 use Rattle.attributes.specs.CheckingLaws.{attribute-word, attribute_low}
 use Rattle.plans.specs.Planning.{Planning, planning, lines_of, known_of, plan_line}
 use Rattle.plans.specs.PlanningLaws.{plan_line-by, plan_line-sets, planned-more}
-use Rattle.plans.specs.DueLaws.{KnownSet, due-own}
+use Rattle.plans.specs.DueLaws.{slots_for, known-for, ready-known, due-own}
 use Rattle.plans.specs.PlanRows.{PlanRow, Elsewhere, PlanningIn}
 
 -- Outside a part of the row
@@ -52,13 +54,6 @@ elsewhere-set from to k row x low high = record {
 
 -- A visit
 
-or-false : (t : Bool) → (t || false) ≡ t
-or-false true = refl
-or-false false = refl
-
-with-other : (s i j : ℕ) → j < 32 → (j ≡ i → ⊥) → bit (with s i) j ≡ bit s j
-with-other s i j h n = bit-with s i j h ∙ ap (λ (t : Bool). bit s j || t) (ne_eqb i j (λ e. n (sym e))) ∙ or-false (bit s j)
-
 -- a line more in the row
 row_more : (lines row : List ℕ) (from count d : ℕ) → PlanRow lines row from count → from + count < length row
     → PlanRow (lines ++ d ∷ []) (set row (from + count) d) from (count + 1)
@@ -83,10 +78,10 @@ known_more done known A long is low K h = by (ℕ_discrete K A)
     by (yes e) = rw e (with-self known A (omega arith) ∙ sym (get_or-set_same done A true true (omega arith)))
     by (no n) = with-other known A K (omega arith) n ∙ is K h ∙ sym (get_or-set_other done A K true true n)
 
--- what is known, as a set
-pub known-set : {b : Book} {member : ℕ → ℕ → Bool} (s : Planning) {row : List ℕ} {from known count : ℕ} → PlanningIn b member s row from known count
-    → KnownSet (known_of s) known
-known-set s R = record { long = R.planned.known_long; known_is = R.known_is }
+-- what is known, as formulas that stand
+pub known-slots : {b : Book} {member : ℕ → ℕ → Bool} (s : Planning) {row : List ℕ} {from known count : ℕ} → PlanningIn b member s row from known count
+    → KnownIn (slots_for (known_of s)) known
+known-slots s R = known-for (known_of s) R.planned.known_long R.known_is
 
 module _ {b : Book} {definitions rules owned masks : List ℕ} (H : CheckHeld b definitions rules owned masks) {d : ℕ} (l : d < grammar.definitions b)
     {member : ℕ → ℕ → Bool} where
@@ -94,6 +89,12 @@ module _ {b : Book} {definitions rules owned masks : List ℕ} (H : CheckHeld b 
   known-word : (s : Planning) {row : List ℕ} {from known count : ℕ} → PlanningIn b member s row from known count
       → bit known (get_or definitions (49 * d + 2) 0) ≡ get_or (known_of s) (line_at b d).attribute true
   known-word s R = R.known_is (get_or definitions (49 * d + 2) 0) (attribute_low H l) ∙ ap (λ (K : ℕ). get_or (known_of s) K true) (attribute-word H l)
+
+  -- whether it waits for its left side, by what is known
+  waits : (s : Planning) {row : List ℕ} {from known count : ℕ} → PlanningIn b member s row from known count
+      → ready b (slots_for (known_of s)) (line_at b d).rule (dot_of (line_at b d)) ≡ ready_in b (known_of s) (line_at b d).rule (dot_of (line_at b d))
+  waits s R =
+      ready-known b (known_of s) (omega (arith, R.planned.known_long, H.premises.attributes_limit)) (line_at b d).rule (dot_of (line_at b d))
 
   -- nothing happens where the attribute is set, or the definition waits
   pub visit-set : (s : Planning) {row : List ℕ} {from known count : ℕ} → PlanningIn b member s row from known count
@@ -104,12 +105,12 @@ module _ {b : Book} {definitions rules owned masks : List ℕ} (H : CheckHeld b 
 
   pub visit-waits : member (line_at b d).rule (dot_of (line_at b d)) ≡ true → (s : Planning) {row : List ℕ} {from known count : ℕ}
       → PlanningIn b member s row from known count
-      → {t : Bool} → t ≡ ready_in b (known_of s) (line_at b d).rule (dot_of (line_at b d)) → not t ≡ true
+      → {t : Bool} → t ≡ ready b (slots_for (known_of s)) (line_at b d).rule (dot_of (line_at b d)) → not t ≡ true
       → PlanningIn b member (plan_line b member d s) row from known count
   unfolding known_of
   visit-waits own (planning lines done) {row} {from} {known} {count} R {t} e f =
       plan_line-by b member (λ s. PlanningIn b member s row from known count) d lines done R
-      (λ n h. true-false (e ∙ sym (due-own b member done (line_at b d) own) ∙ h) (not-true t f))
+      (λ n h. true-false (e ∙ waits (planning lines done) R ∙ sym (due-own b member done (line_at b d) own) ∙ h) (not-true t f))
 
   -- where it is not set, there is room for a line more
   pub count_low : (s : Planning) {row : List ℕ} {from known count : ℕ} → PlanningIn b member s row from known count
@@ -130,12 +131,12 @@ module _ {b : Book} {definitions rules owned masks : List ℕ} (H : CheckHeld b 
   pub visit-sets : member (line_at b d).rule (dot_of (line_at b d)) ≡ true → (s : Planning) {row : List ℕ} {from known count : ℕ}
       → PlanningIn b member s row from known count
       → bit known (get_or definitions (49 * d + 2) 0) ≡ false
-      → {t : Bool} → t ≡ ready_in b (known_of s) (line_at b d).rule (dot_of (line_at b d)) → not t ≡ false
+      → {t : Bool} → t ≡ ready b (slots_for (known_of s)) (line_at b d).rule (dot_of (line_at b d)) → not t ≡ false
       → PlanningIn b member (plan_line b member d s) (set row (from + count) d) from (with known (get_or definitions (49 * d + 2) 0)) (count + 1)
   unfolding known_of lines_of
   visit-sets own (planning lines done) {row} {from} {known} {count} R e {t} f g =
       let open-line : get_or done (line_at b d).attribute true ≡ false = sym (known-word (planning lines done) R) ∙ e in
-      let is-due : due_in b member done (line_at b d) ≡ true = due-own b member done (line_at b d) own ∙ sym f ∙ not-false t g in
+      let is-due : due_in b member done (line_at b d) ≡ true = due-own b member done (line_at b d) own ∙ sym (waits (planning lines done) R) ∙ sym f ∙ not-false t g in
       let low = count_low (planning lines done) R e in
       rw (plan_line-sets b member d lines done open-line is-due) (record {
         planned = planned-more b member d l R.planned open-line is-due;

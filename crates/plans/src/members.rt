@@ -52,9 +52,7 @@ pub fn mark_places(definitions: &[u32], lines: usize, rules: &[u32], places: &mu
         → lines ≡ grammar.definitions b → 32 + 9 * length b.rules ≤ length places.old
         → ((k : ℕ) → get_or places.old k 0 ≡ 0) → PlacesIn b 0 places.new }
 {
-    let mut i = lines;
-    while i > 0 {
-        i -= 1;
+    for i in (0..lines).rev() {
         mark_place(definitions, i, rules, places);
     }
 }
@@ -66,10 +64,8 @@ fn front_free(closures: &[u32], first: usize, places: &[u32]) -> bool
     ensures { result ≡ true → FrontFree closures.now first places.now 32 }
 {
     let mut bits = 0u32;
-    let mut i = 0;
-    while i < 32 {
+    for i in 0..32 {
         bits |= closures[first + i] & places[i];
-        i += 1;
     }
     bits == 0
 }
@@ -140,8 +136,7 @@ fn front_lines(
     if front_free(closures, first, places) {
         return;
     }
-    let mut i = 0;
-    while i < lines {
+    for i in 0..lines {
         front_line(
             definitions,
             i,
@@ -153,7 +148,6 @@ fn front_lines(
             terminal,
             found,
         );
-        i += 1;
     }
 }
 
@@ -164,13 +158,11 @@ fn item_lines(definitions: &[u32], lines: usize, place: usize, first: usize, fou
     ensures { (b : Book) (rules owned masks : List ℕ) → CheckHeld b definitions.now rules owned masks → lines ≡ grammar.definitions b
         → ItemLines b lines place first found.old found.new }
 {
-    let mut line = first;
-    while line < lines {
+    for line in first..lines {
         if 9 * word(definitions, 49 * line) + word(definitions, 49 * line + 1) != place + 1 {
             return;
         }
         add(found, line);
-        line += 1;
     }
 }
 
@@ -197,15 +189,14 @@ fn kernel_line(
 {
     let rule = word(kernels, 5 * i + 1);
     let dot = word(kernels, 5 * i + 2);
-    let first = word(places, 32 + 9 * rule + dot);
-    if first == 0 {
+    let Some(first) = word(places, 32 + 9 * rule + dot).checked_sub(1) else {
         return;
-    }
+    };
     let reach = reach_with(nullables, reaches, rule, dot, kernels[5 * i + 4]);
     if !sets::has(reach, terminal) {
         return;
     }
-    item_lines(definitions, lines, 9 * rule + dot, first - 1, found);
+    item_lines(definitions, lines, 9 * rule + dot, first, found);
 }
 
 // Those of the kernel lines from `from` up to `to`, the last line first.
@@ -231,9 +222,7 @@ fn kernel_lines(
         → PlacesIn b 0 places.now → FoundIn b F R terminal items found.old
         → FoundIn b F R terminal (of_kernels (slice from to b.kernels) ++ items) found.new }
 {
-    let mut i = to;
-    while i > from {
-        i -= 1;
+    for i in (from..to).rev() {
         kernel_line(
             definitions,
             lines,

@@ -43,8 +43,8 @@ fn plan_next(
     slot
 }
 
-// The slot of the plan of a state and a terminal: byte 17 * slot of `lists` is the number of its lines, which follow. Most partial states have no item with
-// a definition; their plans have no lines, and stand in slot 0.
+// The slot of the plan of a state and a terminal: a byte of `slots` is one more than it, or 0 where there is no plan yet, and byte 17 * slot of `lists` is
+// the number of its lines, which follow. Most partial states have no item with a definition; their plans have no lines, and stand in slot 0.
 pub fn planned(
     rules: &[u32],
     definitions: &[u32],
@@ -68,9 +68,8 @@ pub fn planned(
         → PlansIn b slots.old lists.old → PlanTold b slots.new lists.new state terminal result }
 {
     let place = 32 * state + terminal as usize;
-    let known = slots[place];
-    if known != 0 {
-        return known as usize - 1;
+    if let Some(slot) = slots[place].checked_sub(1) {
+        return slot as usize;
     }
     let mut found = [0u64; 2];
     members(

@@ -6,15 +6,14 @@ ghost use Rattle.grammar.specs.Formulas.FormulaCheck as grammar;
 ghost use Rattle.grammar.specs.Formulas.FormulaCheck.{dot_of, line_at};
 ghost use Rattle.grammar.specs.Formulas.Passes as fixpoint;
 ghost use Rattle.grammar.specs.Formulas.Passes.{visits};
-ghost use Rattle.grammar.specs.Formulas.Plan.{ready_in};
 ghost use Rattle.attributes.specs.Checking.{CheckHeld};
 ghost use Rattle.plans.specs.Planning as specs;
 ghost use Rattle.plans.specs.Planning.{Planning, known_in, plan_line};
-ghost use Rattle.plans.specs.DueLaws.{KnownSet};
 ghost use Rattle.plans.specs.PlanRows.{PlanningIn, Elsewhere, PlanRow};
 ghost use Rattle.plans.specs.Lines.{LinesIn};
 ghost use Rattle.plans.specs.LinesWalk.{Walking, visited};
 
+use attributes::due::ready;
 use automaton::lefts::{behind, least};
 use items::words::word;
 
@@ -23,22 +22,6 @@ use items::words::word;
 pub struct Progress {
     pub known: u32,
     pub count: usize,
-}
-
-// Whether a definition, whose item is in the partial state, does not wait for its left side.
-fn ready(definitions: &[u32], line: usize, rules: &[u32], owned: &[u32], known: u32) -> bool
-    requires { (b : Book) × (masks : List ℕ) × (done : List Bool) × CheckHeld b definitions.now rules.now owned.now masks
-        × (line < grammar.definitions b) × KnownSet done known }
-    ensures { (b : Book) (masks : List ℕ) (done : List Bool)
-        → CheckHeld b definitions.now rules.now owned.now masks → line < grammar.definitions b → KnownSet done known
-        → result ≡ ready_in b done (line_at b line).rule (dot_of (line_at b line)) }
-{
-    if word(definitions, 49 * line + 1) != 1 {
-        return true;
-    }
-    let rule = word(definitions, 49 * line);
-    let left = word(rules, 10 * rule);
-    sets::subset(owned[left], known)
 }
 
 // One definition of an item of the partial state: it is planned if its attribute is not set and it is ready.
@@ -75,7 +58,7 @@ fn visit(
     }
 }
 
-// The lines among 64, from line `base` on, that are bits of a number.
+// The lines among 64, from line `base` on, that are bits of a number: from each to the next one that is there, so the lines are no range.
 fn half(
     definitions: &[u32],
     base: usize,

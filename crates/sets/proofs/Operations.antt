@@ -1,13 +1,14 @@
--- The operations of `Sets` on numbers below 2 ^ 32 are the machine's: union is `|`, the numbers that a
--- set does not hold are those of `^` with all of them, and the two tests compare an `&`.
+-- The operations of `Sets` on numbers below 2 ^ 32 are the machine's: union is `|`, the numbers that a set does not hold are those of `!`, and the two
+-- tests compare an `&`.
 -- Assumes nothing.
-use Rattle.std.specs.Prelude.{ℕ, zero, suc, ◌+◌, ◌*◌, ◌/◌, ◌%◌, ◌^◌, ◌<◌, min, max, ◌≡◌, Bool, true, false, not, ◌&&◌, ◌||◌, eqb}
+use Rattle.std.specs.Prelude.{ℕ, zero, suc, ◌-◌, ◌/◌, ◌%◌, ◌^◌, ◌<◌, min, max, ◌≡◌, Bool, true, false, not, ◌&&◌, ◌||◌, eqb}
 use Rattle.std.proofs.Math.Path.{refl}
 use Rattle.std.proofs.Common.{sym, ap, ◌∙◌, arith, eq-eqb, ne_eqb, eqb-true}
-use Rattle.std.specs.Int.Bits.{bit_and, bit_or, bit_xor, differ, and_step, or_step, xor_step, and_lt, or_add_and}
-use Rattle.std.proofs.lemmas.Nat.{and_shr, or_shr, xor_shr, or_lt, and_le_l, and_le_r}
-use Rattle.sets.specs.Sets.{bit, empty, collect, union, subset, meets}
-use Rattle.sets.specs.Bits.{bit-collect}
+use Rattle.std.specs.Int.Bits.{bit_and, bit_or, and_lt, or_add_and}
+use Rattle.std.proofs.lemmas.Nat.{or_lt, and_le_l, and_le_r}
+use Rattle.std.specs.Int.{w32}
+use Rattle.std.proofs.lemmas.Nat.Bits.{bit_at_and, bit_at_or, bit_at_not, bit_at_ones}
+use Rattle.sets.specs.Sets.{bit, empty, union, subset, meets}
 use Rattle.sets.proofs.SetsLaws.{bit-empty, bit-union, empty-lt, union-lt, same_set, subset-holds, subset-true, meets-holds, meets-false}
 
 -- ---- the bits of `|` and `&`
@@ -32,19 +33,11 @@ min-and x y p q =
 
 pub bit-or : (a b i : ℕ) → bit (bit_or a b) i ≡ (bit a i || bit b i)
 unfolding bit
-bit-or a b i =
-    let x : ℕ = a / 2 ^ i in
-    let y : ℕ = b / 2 ^ i in
-    let low : bit_or x y % 2 ≡ max (x % 2) (y % 2) = omega (arith, or_step x y) in
-    ap (λ (n : ℕ). eqb (n % 2) 1) (or_shr a b i) ∙ ap (λ (n : ℕ). eqb n 1) low ∙ max-or (x % 2) (y % 2) (omega arith) (omega arith)
+bit-or a b i = ap (λ (n : ℕ). eqb n 1) (bit_at_or a b i) ∙ max-or (a / 2 ^ i % 2) (b / 2 ^ i % 2) (omega arith) (omega arith)
 
 pub bit-and : (a b i : ℕ) → bit (bit_and a b) i ≡ (bit a i && bit b i)
 unfolding bit
-bit-and a b i =
-    let x : ℕ = a / 2 ^ i in
-    let y : ℕ = b / 2 ^ i in
-    let low : bit_and x y % 2 ≡ min (x % 2) (y % 2) = omega (arith, and_step x y) in
-    ap (λ (n : ℕ). eqb (n % 2) 1) (and_shr a b i) ∙ ap (λ (n : ℕ). eqb n 1) low ∙ min-and (x % 2) (y % 2) (omega arith) (omega arith)
+bit-and a b i = ap (λ (n : ℕ). eqb n 1) (bit_at_and a b i) ∙ min-and (a / 2 ^ i % 2) (b / 2 ^ i % 2) (omega arith) (omega arith)
 
 -- ---- the bits of both are none only if those of each are
 
@@ -63,24 +56,15 @@ abbrev pub full : ℕ
 full = 4294967295
 
 pub bit-full : (i : ℕ) → i < 32 → bit full i ≡ true
-bit-full i h = ap (λ (s : ℕ). bit s i) all ∙ bit-collect (λ _. true) 32 i h
-  where
-    all : full ≡ collect 32 (λ _. true)
-    all = unfold collect in refl
-
-flip : (x z : ℕ) → x < 2 → eqb ((z * 2 + differ x 1) % 2) 1 ≡ not (eqb x 1)
-flip zero z h = let e : (z * 2 + 1) % 2 ≡ 1 = omega arith in ap (λ (n : ℕ). eqb n 1) e
-flip (suc zero) z h = let e : (z * 2 + 0) % 2 ≡ 0 = omega arith in ap (λ (n : ℕ). eqb n 1) e
-flip (suc (suc x)) z h = absurd (omega arith)
-
-pub bit-others : (s i : ℕ) → i < 32 → bit (bit_xor s full) i ≡ not (bit s i)
 unfolding bit
-bit-others s i h =
-    let x : ℕ = s / 2 ^ i in
-    let y : ℕ = full / 2 ^ i in
-    let odd : y % 2 ≡ 1 = eqb-true (y % 2) 1 (bit-full i h) in
-    ap (λ (n : ℕ). eqb (n % 2) 1) (xor_shr s full i ∙ xor_step x y ∙ ap (λ (n : ℕ). bit_xor (x / 2) (y / 2) * 2 + differ (x % 2) n) odd)
-    ∙ flip (x % 2) (bit_xor (x / 2) (y / 2)) (omega arith)
+bit-full i h = ap (λ (n : ℕ). eqb n 1) (bit_at_ones 32 i h)
+
+flip : (x : ℕ) → x < 2 → eqb (1 - x) 1 ≡ not (eqb x 1)
+flip x h = digit (λ x. eqb (1 - x) 1 ≡ not (eqb x 1)) refl refl x h
+
+pub bit-others : (s i : ℕ) → s < 2 ^ 32 → i < 32 → bit (full - s) i ≡ not (bit s i)
+unfolding bit
+bit-others s i l h = ap (λ (n : ℕ). eqb n 1) (bit_at_not w32 s i l h) ∙ flip (s / 2 ^ i % 2) (omega arith)
 
 -- ---- the tests
 

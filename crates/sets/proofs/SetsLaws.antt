@@ -1,11 +1,13 @@
 -- Laws of the sets of `Sets`: what each holds, by `bit`; what the tests tell; and that a union can only grow a number.
 -- Assumes nothing.
-use Rattle.std.specs.Prelude.{ℕ, ◌+◌, ◌^◌, ◌<◌, ◌≤◌, ◌≡◌, refl, Bool, true, false, not, ◌&&◌, ◌||◌, ◌⊎◌, eqb, ltb}
-use Rattle.std.proofs.Common.{sym, ap, ◌∙◌, subst, inl, inr, ⊎_elim, arith, le_antisymm, eq-or-lt_of_le, pow_pos, pow_mono, eq-eqb, ne_eqb, ltb-true, ltb-false}
+use Rattle.std.specs.Prelude.{ℕ, ◌/◌, ◌%◌, ◌^◌, ◌<◌, ◌≤◌, ◌≡◌, refl, Bool, true, false, not, ◌&&◌, ◌||◌, ◌⊎◌, eqb, ltb}
+use Rattle.std.proofs.lemmas.Nat.Bits.{bit_at-pow_same, bit_at-pow_other}
+use Rattle.std.proofs.lemmas.Bool.{eqb-false}
+use Rattle.std.proofs.Common.{eqb-true, sym, ap, ◌∙◌, inl, inr, ⊎_elim, arith, le_antisymm, eq-or-lt_of_le, pow_pos, pow_mono, eq-eqb, ltb-true, ltb-false}
 use Rattle.std.proofs.Math.Bool.{or-true}
 use Rattle.std.proofs.Math.Pow.{pow-lt}
 use Rattle.sets.specs.Sets.{bit, empty, single, union, with, subset, meets}
-use Rattle.sets.specs.Bits.{bit_past, bit-top, bit-under, bits-le, collect-lt, bit-collect, every_holds, every_true, exists-holds, exists-true}
+use Rattle.sets.specs.Bits.{bit_past, bits-le, collect-lt, bit-collect, every_holds, every_true, exists-holds, exists-true}
 
 -- ---- what a set holds
 
@@ -14,21 +16,12 @@ unfolding empty
 bit-empty i = bit_past 0 i (pow_pos i)
 
 pub bit-single : (i j : ℕ) → bit (single i) j ≡ eqb i j
-unfolding single empty
-bit-single i j = go (ltb j i) refl
+unfolding single bit
+bit-single i j = go (eqb i j) refl
   where
-    alone : 2 ^ i + 0 ≡ 2 ^ i
-    alone = omega arith
-
-    go : (t : Bool) → ltb j i ≡ t → bit (2 ^ i) j ≡ eqb i j
-    go true e =
-        let l : j < i = ltb-true j i e in
-        subst (λ (x : ℕ). bit x j ≡ false) alone (bit-under j i 0 l ∙ bit-empty j) ∙ sym (ne_eqb i j (λ q. omega arith))
-    go false e =
-        ⊎_elim
-        (λ q. subst (λ (n : ℕ). bit (2 ^ i) n ≡ true) q (subst (λ (x : ℕ). bit x i ≡ true) alone (bit-top 0 i (pow_pos i))) ∙ sym (eq-eqb i j q))
-        (λ l. bit_past (2 ^ i) j (pow-lt l) ∙ sym (ne_eqb i j (λ q. omega arith)))
-        (eq-or-lt_of_le (ltb-false j i e))
+    go : (t : Bool) → eqb i j ≡ t → eqb (2 ^ i / 2 ^ j % 2) 1 ≡ t
+    go true e = rw (eqb-true i j e) (ap (λ (x : ℕ). eqb x 1) (bit_at-pow_same j))
+    go false e = ap (λ (x : ℕ). eqb x 1) (bit_at-pow_other i j (λ q. eqb-false i j e (sym q)))
 
 pub bit-union : (a b i : ℕ) → i < 32 → bit (union a b) i ≡ (bit a i || bit b i)
 unfolding union

@@ -2,7 +2,8 @@
 -- Assumes nothing.
 use Prim.Native.Nat.{ℕ, zero, suc, ◌+◌, ◌*◌, ◌/◌, ◌%◌, ◌^◌, ◌<◌, ◌≤◌}
 use Rattle.std.proofs.Math.Path.{◌≡◌, refl}
-use Rattle.std.proofs.Common.{sym, ap, ◌∙◌, subst, ⊎_elim, one-add, div-one, eq-or-lt_of_le, le_of_suc-le-suc, shr-shr, eqb-true}
+use Rattle.std.proofs.Common.{sym, ap, ◌∙◌, subst, ⊎_elim, div-one, eq-or-lt_of_le, le_of_suc-le-suc, eqb-true}
+use Rattle.std.proofs.lemmas.Nat.Bits.{bit_at-suc, bit_at_cat_low}
 use Rattle.std.specs.Prelude.{Bool, eqb}
 use Rattle.std.proofs.Math.Bool.{true, false}
 use native.Mathlib.Omega.{arith}
@@ -18,28 +19,24 @@ bit-first s = ap (λ (x : ℕ). eqb (x % 2) 1) (div-one s)
 
 pub bit-half : (s i : ℕ) → bit s (suc i) ≡ bit (s / 2) i
 unfolding bit
-bit-half s i = ap (λ (x : ℕ). eqb (x % 2) 1) (sym (shr-shr s 1 i ∙ ap (λ (n : ℕ). s / 2 ^ n) (one-add i)))
+bit-half s i = ap (λ (x : ℕ). eqb x 1) (bit_at-suc s i)
 
 pub bit_past : (s i : ℕ) → s < 2 ^ i → bit s i ≡ false
 unfolding bit
 bit_past s i h = ap (λ (x : ℕ). eqb (x % 2) 1) (div-eq_of_lt h)
 
 -- a power of two in front of a smaller number: its own bit, and those below it
-pub bit-top : (s k : ℕ) → s < 2 ^ k → bit (2 ^ k + s) k ≡ true
+bit-top : (s k : ℕ) → s < 2 ^ k → bit (2 ^ k + s) k ≡ true
 unfolding bit
 bit-top s k h =
     let e : 1 * 2 ^ k + s ≡ 2 ^ k + s = omega arith in
     ap (λ (x : ℕ). eqb (x % 2) 1) (subst (λ (x : ℕ). x / 2 ^ k ≡ 1) e (high 1 k h))
 
-pub bit-under : (i k s : ℕ) → i < k → bit (2 ^ k + s) i ≡ bit s i
-bit-under zero (suc k) s h =
-    let e : (2 ^ suc k + s) % 2 ≡ s % 2 = omega (arith, pow-suc 2 k) in
-    bit-first (2 ^ suc k + s) ∙ ap (λ (x : ℕ). eqb x 1) e ∙ sym (bit-first s)
-bit-under (suc i) (suc k) s h =
-    let e : (2 ^ suc k + s) / 2 ≡ 2 ^ k + s / 2 = omega (arith, pow-suc 2 k) in
-    bit-half (2 ^ suc k + s) i ∙ ap (λ (x : ℕ). bit x i) e ∙ bit-under i k (s / 2) (omega arith) ∙ sym (bit-half s i)
-bit-under zero zero s h = absurd (omega arith)
-bit-under (suc i) zero s h = absurd (omega arith)
+bit-under : (i k s : ℕ) → i < k → bit (2 ^ k + s) i ≡ bit s i
+unfolding bit
+bit-under i k s h =
+    let e : 1 * 2 ^ k + s ≡ 2 ^ k + s = omega arith in
+    ap (λ (x : ℕ). eqb x 1) (rw e at (bit_at_cat_low 1 k s i h))
 
 -- ---- the order of numbers by their bits
 

@@ -6,7 +6,7 @@ ghost use Rattle.std.specs.Prelude.{◌≡◌, not, ℕ, ◌<◌};
 ghost use Rattle.sets.specs.Sets.{bit, empty, single, union, with, subset, meets};
 
 // The set that holds every number below 32.
-pub const ALL: u32 = 4294967295;
+pub const ALL: u32 = u32::MAX;
 
 // The set that holds nothing.
 pub fn empty() -> u32
@@ -50,7 +50,7 @@ pub fn union(a: u32, b: u32) -> u32
 pub fn others(s: u32) -> u32
     ensures { (i : ℕ) → i < 32 → bit result i ≡ not (bit s i) }
 {
-    s ^ ALL
+    !s
 }
 
 // Whether all that is in `a` is in `b`.

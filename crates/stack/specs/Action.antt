@@ -2,7 +2,7 @@
 use Rattle.std.specs.Prelude.{ℕ, ◌+◌, ◌*◌, ◌-◌, ◌≤◌, ◌<◌, ◌≡◌, refl, ◌≢◌, true, false, List, eqb, length, get_or}
 use Rattle.std.proofs.Common.{ap, ◌∙◌, arith}
 use Rattle.std.proofs.Math.Option.{Option, none, some}
-use borrow.Author.Tests.{eq-eqb, ne_eqb}
+use borrow.Author.Tests.{ne_eqb}
 use Rattle.grammar.specs.Limits.{MAX_RULES}
 use Rattle.grammar.specs.Data.Symbol.{right_of}
 use Rattle.grammar.specs.Data.Book.{Book}
@@ -44,31 +44,12 @@ unfoldable pub opens : Unit {0}
 unfolding action_at meant
 opens = tt
 
--- ---- by the tests
+-- ---- a rule
 
-module _ (code : ℕ) where
-  pub code_free : code ≡ 0 → action_at code ≡ None
-  unfolding action_at
-  code_free e = rw (eq-eqb code 0 e, action_at)
-
-  module _ (n0 : code ≢ 0) where
-    pub code-shift : code ≡ 1 → action_at code ≡ Due Shift
-    unfolding action_at
-    code-shift e = rw (ne_eqb code 0 n0, eq-eqb code 1 e, action_at)
-
-    module _ (n1 : code ≢ 1) where
-      pub code-accept : code ≡ 2 → action_at code ≡ Due Accept
-      unfolding action_at
-      code-accept e = rw (ne_eqb code 0 n0, ne_eqb code 1 n1, eq-eqb code 2 e, action_at)
-
-      module _ (n2 : code ≢ 2) where
-        pub code-conflict : code ≡ 255 → action_at code ≡ None
-        unfolding action_at
-        code-conflict e = rw (ne_eqb code 0 n0, ne_eqb code 1 n1, ne_eqb code 2 n2, eq-eqb code 255 e, action_at)
-
-        pub code-reduce : code ≢ 255 → action_at code ≡ Due (Reduce (code - 2))
-        unfolding action_at
-        code-reduce n3 = rw (ne_eqb code 0 n0, ne_eqb code 1 n1, ne_eqb code 2 n2, ne_eqb code 255 n3, action_at)
+-- any byte but these four is a rule's
+pub code-reduce : (code : ℕ) → code ≢ 0 → code ≢ 1 → code ≢ 2 → code ≢ 255 → action_at code ≡ Due (Reduce (code - 2))
+unfolding action_at
+code-reduce code n0 n1 n2 n3 = rw (ne_eqb code 0 n0, ne_eqb code 1 n1, ne_eqb code 2 n2, ne_eqb code 255 n3, action_at)
 
 -- ---- the table
 

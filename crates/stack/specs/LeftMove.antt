@@ -47,9 +47,6 @@ module _ {b : Book} {ks : List Token} {c : Config} {rules definitions table span
     pub left-owner : owner < 32
     left-owner = omega (arith, left-ready.owner_low)
 
-    pub left-state : get_or states (top.depth - n) 0 < 128
-    left-state = rw same_size left-ready.state_low
-
     pub left-state-there : get_or states (top.depth - n) 0 < b.states
     left-state-there = rw same_size left-ready.state_there
 

@@ -312,9 +312,6 @@ module _ {room : ℕ} {owners array lists : List ℕ} {n i : ℕ} (O : Listable 
   pub turn-owner : get_or array i 0 < 32
   turn-owner = omega (arith, O.owners_in.owner_is i (omega (arith, O.counted)), O.low i h)
 
-  pub turn-there : i < length array
-  turn-there = omega (arith, O.owners_in.long, O.owners_in.fits, O.counted)
-
   turn-room : length (numbers_below owners i (get_or array i 0)) < MAX_OWNED
   turn-room =
       let A : ℕ = get_or array i 0 in

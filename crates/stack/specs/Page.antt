@@ -3,7 +3,7 @@
 use Prim.Native.Nat.{ℕ, zero, suc, ◌+◌, ◌*◌, ◌-◌, ◌≤◌, ◌<◌}
 use Rattle.std.specs.Prelude.{◌≡◌, replicate, take, drop}
 use Rattle.std.proofs.Math.Path.{refl, ap}
-use Rattle.std.proofs.Common.{sym, ◌∙◌, length-append, length-set, take_at}
+use Rattle.std.proofs.Common.{sym, ◌∙◌, length-append, take_at}
 use mathlib.Core.List.{List, [], ◌∷◌, ◌++◌, append_assoc, append-nil}
 use native.Mathlib.Omega.{arith}
 use Rattle.std.proofs.Math.ListN.{length, set}
@@ -12,9 +12,7 @@ use Rattle.grammar.specs.Limits.{MAX_ROWS, PAGE_WORDS}
 use Rattle.grammar.specs.Evaluator.Rows.{Row, token_row, node_row, four, words, filled, page}
 use Rattle.grammar.specs.Evaluator.RowsLaws.{filled-length}
 use Rattle.book.specs.Layout.{write_at}
-use Rattle.book.specs.LayoutLaws.{length-write}
 use Rattle.cells.specs.Cells.{cleared}
-use Rattle.cells.specs.CellsLaws.{cleared-long}
 
 -- the words of a token's row, stored one by one over zeros
 unfoldable pub token_stored : ℕ → ℕ → ℕ → ℕ → List ℕ → List ℕ
@@ -31,14 +29,8 @@ opens = tt
 
 -- ---- a node's row, part by part
 
-pub written-long : (i : ℕ) (ws old : List ℕ) {new : List ℕ} → new ≡ write_at i ws old → length new ≡ length old
-written-long i ws old e = ap length e ∙ length-write i ws old
-
 module _ (r P start : ℕ) (is old : List ℕ) {mid : List ℕ}
     (down : mid ≡ write_at (10 * r + 2) is (set (set (cleared (10 * r) 10 old) (10 * r) P) (10 * r + 1) start)) where
-  pub down-long : length mid ≡ length old
-  down-long = written-long (10 * r + 2) is _ down ∙ simp length-set (cleared-long (10 * r) 10 old)
-
   pub node-parts : (ss : List ℕ) {new : List ℕ} → new ≡ write_at (10 * r + 6) ss mid → new ≡ node_stored r P start is ss old
   unfolding node_stored
   node-parts ss up = up ∙ ap (write_at (10 * r + 6) ss) down

@@ -3,7 +3,7 @@
 use Prim.Native.Nat.{ℕ, zero, suc, ◌+◌, ◌≤◌, ◌<◌}
 use Rattle.std.specs.Prelude.{◌≡◌, List, get_or, set, replicate}
 use Rattle.std.proofs.Math.Path.{refl}
-use Rattle.std.proofs.Common.{ap, ◌∙◌, add-one}
+use Rattle.std.proofs.Common.{◌∙◌, add-one}
 use native.Mathlib.Omega.{arith}
 use Rattle.std.proofs.Math.ListN.{length, length-set, length-replicate}
 use Rattle.std.proofs.Math.Seq.{get_or-set_same, get_or-set_other}
@@ -65,9 +65,6 @@ module _ {definitions spans values : List ℕ} {P from : ℕ} {old : List ℕ} w
   putting-start = record { within = omega arith; words_are = refl }
 
   module _ {i : ℕ} {new : List ℕ} (W : PuttingLines definitions spans values P from old i new) where
-    pub putting-long : length new ≡ length old
-    putting-long = ap length W.words_are ∙ put-long definitions values (get_or spans P 0) from old i
-
     pub putting-turn : {k : ℕ} → i < line_count spans P → k ≡ attribute_word definitions (get_or spans P 0 + i)
         → PuttingLines definitions spans values P from old (i + 1) (set new (from + k) (get_or values i 0))
     unfolding values_put

@@ -9,6 +9,7 @@ pub enum Move {
     Accept,
 }
 
+// No Option, since a step takes the move out of it by a `let .. else`, which the project's rules ask on an enum of the action.
 #[derive(Clone, Copy)]
 pub enum Action {
     Due(Move),
@@ -16,20 +17,15 @@ pub enum Action {
 }
 
 // The action of a byte of the action table.
+#[tactic(auto, unfolding(crate::specs::Action::action_at))]
 pub fn action_of(code: u8) -> Action
     ensures { result ≡ action_at code }
 {
-    if code == 0 {
-        return Action::None;
+    match code {
+        0 => Action::None,
+        1 => Action::Due(Move::Shift),
+        2 => Action::Due(Move::Accept),
+        255 => Action::None,
+        _ => Action::Due(Move::Reduce(code as u32 - 2)),
     }
-    if code == 1 {
-        return Action::Due(Move::Shift);
-    }
-    if code == 2 {
-        return Action::Due(Move::Accept);
-    }
-    if code == 255 {
-        return Action::None;
-    }
-    Action::Due(Move::Reduce(code as u32 - 2))
 }

@@ -7,12 +7,10 @@ pub fn fill_lists(owners: &[u32], count: usize, lists: &mut [u32])
     requires { ((room : ℕ) × (os : List ℕ) × Listable room os owners.now count) × (lists.old ≡ replicate 160 0) }
     ensures { (room : ℕ) → (os : List ℕ) → Listable room os owners.now count → ListsIn os lists.new }
 {
-    let mut i = 0;
-    while i < count {
+    for i in 0..count {
         let head = 5 * owners[i] as usize;
         let n = lists[head];
         lists[head + 1 + n as usize] = i as u32;
         lists[head] = n + 1;
-        i += 1;
     }
 }

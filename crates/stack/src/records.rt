@@ -7,7 +7,6 @@ ghost use Rattle.stack.specs.NodeValues.{NodeAsked, NodeValues};
 ghost use Rattle.stack.specs.Records.{Stored};
 ghost use Rattle.stack.specs.PutValues.{Putting, lines_put, left_record};
 
-use cells::cells::clear;
 use cells::values::value;
 use items::words::word;
 
@@ -16,7 +15,8 @@ fn clear_record(synthesized: &mut [u32], height: usize)
     requires { 33 * height + 33 ≤ length synthesized.old }
     ensures { Stored (33 * height) (replicate 33 0) synthesized.old 33 synthesized.new }
 {
-    clear(synthesized, 33 * height, 33);
+    let place = 33 * height;
+    synthesized[place..place + 33].fill(0);
 }
 
 // The record of symbol `height` is that of a token.
@@ -47,10 +47,8 @@ pub fn node_values<'a>(
 {
     let first = word(spans, rule);
     let count = word(spans, rule + 1) - first;
-    let mut i = 0;
-    while i < count {
+    for i in 0..count {
         values[i] = value(definitions, first + i, size, height, inherited, synthesized);
-        i += 1;
     }
 }
 
@@ -70,11 +68,9 @@ fn put_values(
     let place = 33 * height + 1;
     let first = word(spans, rule);
     let count = word(spans, rule + 1) - first;
-    let mut i = 0;
-    while i < count {
+    for i in 0..count {
         let k = word(definitions, 49 * (first + i) + 2);
         synthesized[place + k] = values[i];
-        i += 1;
     }
 }
 

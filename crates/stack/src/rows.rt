@@ -6,7 +6,6 @@ ghost use Rattle.stack.specs.Lists.{Gathers, gathered};
 ghost use Rattle.stack.specs.Page.{token_stored, node_stored};
 
 use book::Book;
-use cells::cells::clear;
 use items::words::word;
 
 // The words of `source` that the list of `owner` names, into the rows from `place` on.
@@ -16,11 +15,9 @@ fn gather(lists: &[u32], owner: usize, source: &[u32], from: usize, rows: &mut [
 {
     let head = 5 * owner;
     let count = word(lists, head);
-    let mut i = 0;
-    while i < count {
+    for i in 0..count {
         let number = word(lists, head + 1 + i);
         rows[place + i] = source[from + number];
-        i += 1;
     }
 }
 
@@ -30,7 +27,7 @@ pub fn token_row(rows: &mut [u32], row: usize, kind: u32, start: u32, value: u32
     ensures { rows.new ≡ token_stored row kind start value rows.old }
 {
     let first = Book::ROW_WORDS * row;
-    clear(rows, first, Book::ROW_WORDS);
+    rows[first..first + Book::ROW_WORDS].fill(0);
     rows[first] = 64 + kind;
     rows[first + 1] = start;
     rows[first + 6] = value;
@@ -55,7 +52,7 @@ pub fn node_row(
         (gathered up.now owner synthesized.now (33 * height + 1)) rows.old }
 {
     let place = Book::ROW_WORDS * row;
-    clear(rows, place, Book::ROW_WORDS);
+    rows[place..place + Book::ROW_WORDS].fill(0);
     rows[place] = rule;
     rows[place + 1] = start;
     gather(down, owner, inherited, 16 * height, rows, place + 2);

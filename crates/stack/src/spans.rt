@@ -8,14 +8,12 @@ fn past(definitions: &[u32], to: usize, rule: u32, first: usize) -> usize
     requires { (49 * to ≤ length definitions.now) × (first ≤ to) }
     ensures { Passes definitions.now to rule first result }
 {
-    let mut i = first;
-    while i < to {
+    for i in first..to {
         if definitions[49 * i] != rule {
             return i;
         }
-        i += 1;
     }
-    i
+    to
 }
 
 // Fills `spans`: of the lines from `from` up to `to`, those of rule P stand from word P up to word P + 1.
@@ -25,10 +23,8 @@ pub fn fill_spans(definitions: &[u32], from: usize, to: usize, rules: u32, spans
 {
     let mut at = from;
     spans[0] = from as u32;
-    let mut p = 0;
-    while p < rules {
+    for p in 0..rules {
         at = past(definitions, to, p, at);
-        p += 1;
-        spans[p as usize] = at as u32;
+        spans[p as usize + 1] = at as u32;
     }
 }

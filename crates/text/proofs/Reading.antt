@@ -3,7 +3,7 @@
 use Rattle.std.proofs.Common.{arith}
 use Rattle.text.specs.Numeral.{decimal, letters}
 use Rattle.text.proofs.Positional.{decimal-positional, letters-positional}
-use Rattle.text.specs.Reading.{Valid}
+use Rattle.text.specs.Valid.{Valid}
 
 pub decimal-valid : Valid decimal
 decimal-valid = record { positional = decimal-positional; one_digit = omega arith; base_fits = omega arith; limit_fits = omega arith }

@@ -1,7 +1,9 @@
 pub mod Class
 pub mod Examples
+pub mod Lent
 pub mod Numeral
 pub mod Positional
 pub mod Reading
 pub mod Rest
 pub mod Table
+pub mod Valid

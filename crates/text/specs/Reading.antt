@@ -1,26 +1,18 @@
 -- What the readers in code ask of their callers and what they answer, by name.
 -- Assumes nothing.
-use Rattle.std.specs.Prelude.{ℕ, ◌≤◌, ◌≡◌, List, length}
-use Rattle.text.specs.declared.Notation.{Notation}
-use Rattle.text.specs.Table.{table}
+use Rattle.std.specs.Prelude.{ℕ, ◌<◌, ◌≤◌, ◌≡◌, Option, Some, None, List, length}
+use Rattle.text.specs.declared.notation.Notation.{Notation}
+use Rattle.text.specs.Valid.{system}
 use Rattle.text.specs.Rest.{rest}
-use Rattle.text.specs.Numeral.{System, Read, number_of, rest_of, value, past}
-use Rattle.text.specs.Positional.{Positional}
-
--- what is lent to a reader: the table of classes, and a text that is not too long
-pub record Lent (classes text : List ℕ) : Type 0 where
-  pub table_is : classes ≡ table
-  pub short : length text ≤ 65536
+use Rattle.text.specs.Numeral.{System, digit_of, Read, number_of, rest_of, value, past}
 
 abbrev pub system_of : Notation → System
-system_of s = record { class = s.class; zero_byte = s.zero; base = s.base; limit = s.limit }
+system_of s = system s.class s.zero s.base s.limit
 
--- a system that the code can read: one digit is a number, and a number is a word of 32 bits
-pub record Valid (S : System) : Type 0 where
-  pub positional : Positional S
-  pub one_digit : S.base ≤ S.limit
-  pub base_fits : S.base ≤ 256
-  pub limit_fits : S.limit ≤ 4294967295
+-- the digit that a byte is, if it is one
+abbrev pub Digit : System → ℕ → Option ℕ → Type 0
+Digit S b None = digit_of S b ≡ S.base
+Digit S b (Some d) = (d ≡ digit_of S b) × (d < S.base)
 
 -- the number that stands at a position, and the position after it
 pub record Reads (S : System) (text : List ℕ) (at number next : ℕ) : Type 0 where

@@ -1,4 +1,4 @@
-use Prim.Native.Nat.{ℕ, ◌-◌, ◌≤◌}
+use Prim.Native.Nat.{ℕ}
 use mathlib.Core.Path.{◌≡◌}
 use mathlib.Core.List.{List}
 use Rattle.grammar.specs.Data.Book.{Book}
@@ -8,8 +8,5 @@ use Rattle.agreement.specs.Alike.{Untold}
 use Rattle.agreement.proofs.alike.alike.Given as goal
 
 abbrev pub invariant-loop-i : goal.invariant-loop-i
-invariant-loop-i l = (l.i ≤ l.lines) × ((b : Book) (rules owned : List ℕ) → CheckHeld b l.definitions rules owned l.masks → l.lines ≡ grammar.definitions b
-    → Untold b l.masks l.terminal l.apart l.i)
-
-abbrev pub decreases-loop-i : goal.decreases-loop-i
-decreases-loop-i l = l.lines - l.i
+invariant-loop-i l = (b : Book) (rules owned : List ℕ) → CheckHeld b l.definitions rules owned l.masks → l.lines ≡ grammar.definitions b
+    → Untold b l.masks l.terminal l.apart l.i

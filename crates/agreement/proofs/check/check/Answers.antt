@@ -1,33 +1,24 @@
-use mathlib.Core.Path.{refl, ◌∙◌}
+use mathlib.Core.Path.{◌∙◌}
 use mathlib.Core.Bool.{false}
 use mathlib.Core.Option.{none}
 use lib.ListN.{replicate}
-use Rattle.agreement.specs.CheckLaws.{begun, check-is}
+use Rattle.agreement.specs.Progress.{ProgressIn}
+use Rattle.agreement.specs.CheckLaws.{nothing_yet, begun, check-is}
 use Rattle.agreement.proofs.check.check.Goals as goal
+use Rattle.agreement.proofs.check.check.Goals.{After-fill-3}
+
+-- the words where the passes begin
+start : (c : After-fill-3) → ProgressIn (replicate 16 none) (replicate 128 false) c.fill.new.self c.fill-2.new.self c.args.table.now c.fill-3.new.self
+    c.args.nexts.now nothing_yet
+start c = begun c.requires.1 (c.fill.ensures.after (λ y e. e)) (c.fill-2.ensures.after (λ y e. e)) (c.fill-3.ensures.after (λ y e. e))
 
 pub passes-requires : goal.passes-requires
 passes-requires c = (
-  (
-    c.requires.0.0,
-    replicate 16 none,
-    replicate 128 false,
-    c.requires.0.1,
-    c.requires.0.2,
-    begun c.requires.1
-        c.clear_slots.ensures
-        c.fill.ensures
-        c.clear.ensures,
-  ),
+  (c.requires.0.0, replicate 16 none, replicate 128 false, c.requires.0.1, c.requires.0.2, start (goal.at.passes-requires c).After-fill-3),
   c.skip.ensures,
-  refl,
   c.requires.1.nodes_room.enough,
 )
 
 pub returns : goal.returns
 returns c = λ b H e.
-    c.passes.ensures b (replicate 16 none) (replicate 128 false) H e
-    (begun c.requires.1
-    c.clear_slots.ensures
-    c.fill.ensures
-    c.clear.ensures)
-    ∙ check-is b _
+    c.passes.ensures b (replicate 16 none) (replicate 128 false) H e (start (goal.at.returns c).After-fill-3) ∙ check-is b _

@@ -25,21 +25,15 @@ told c b H e =
     ∙ check-single b c.args.masks.now c.loop-a.a (omega (arith, c.loop-a-test.true, c.requires.1))
 
 pub loop-a-init : goal.loop-a-init
-loop-a-init c = (omega arith, refl, refl, refl, refl, refl, λ b H e. all_start _, λ b H e. right-start b c.args.masks.now)
+loop-a-init c = λ b H e. (all_start _, right-start b c.args.masks.now)
 
 pub loop-a-preserved-then-has : goal.loop-a-preserved-then-has
-loop-a-preserved-then-has c = (
-  omega (arith, c.loop-a-test.true),
-  c.loop-a.invariant.1,
-  c.loop-a.invariant.2,
-  c.loop-a.invariant.3,
-  c.loop-a.invariant.4,
-  c.loop-a.invariant.5,
-  λ b H e.
-      all-turn (answer c.args.masks.now b) c.loop-a.a (c.loop-a.invariant.6 b H e)
-      (sym (c.loop-a.invariant.7 b H e c.loop-a.a (omega (arith, c.loop-a-test.true, c.requires.1)) (sym c.has.ensures ∙ c.if-has.true))) refl,
-  c.loop-a.invariant.7,
-)
+loop-a-preserved-then-has c = λ b H e.
+    let (all, right) = c.loop-a.invariant b H e in (
+      all-turn (answer c.args.masks.now b) c.loop-a.a all
+          (sym (right c.loop-a.a (omega (arith, c.loop-a-test.true, c.requires.1)) (sym c.has.ensures ∙ c.if-has.true))) refl,
+      right,
+    )
 
 pub returns-then-not-check : goal.returns-then-not-check
 returns-then-not-check c =
@@ -47,18 +41,11 @@ returns-then-not-check c =
     one-fails (answer c.args.masks.now b) c.loop-a.a _ (omega (arith, c.loop-a-test.true, t)) (told (goal.at.returns-then-not-check c).After-check b H e) (ap not c.if-not-check.true)
 
 pub loop-a-preserved : goal.loop-a-preserved
-loop-a-preserved c =
-    let here = (goal.at.loop-a-preserved c).After-check in (
-      omega (arith, c.loop-a-test.true),
-      c.check.auto.slots ∙ c.loop-a.invariant.1,
-      c.check.auto.done ∙ c.loop-a.invariant.2,
-      c.check.auto.table ∙ c.loop-a.invariant.3,
-      c.check.auto.heads ∙ c.loop-a.invariant.4,
-      c.check.auto.nexts ∙ c.loop-a.invariant.5,
-      λ b H e. all-turn (answer c.args.masks.now b) c.loop-a.a (c.loop-a.invariant.6 b H e) (told here b H e) (ap not c.if-not-check.false),
-      λ b H e.
-          rw c.union-right.ensures
-          (right-more b c.args.masks.now c.loop-a.right c.alike-more.result c.loop-a.a (c.loop-a.invariant.7 b H e)
-          (sym (told here b H e) ∙ c.if-not-check.false)
+loop-a-preserved c = λ b H e.
+    let (all, right) = c.loop-a.invariant b H e in
+    let now = told (goal.at.loop-a-preserved c).After-check b H e in (
+      all-turn (answer c.args.masks.now b) c.loop-a.a all now (ap not c.if-not-check.false),
+      rw c.union-right.ensures
+          (right-more b c.args.masks.now c.loop-a.right c.alike-more.result c.loop-a.a right (sym now ∙ c.if-not-check.false)
           (c.alike-more.ensures b c.args.rules.now c.args.owned.now H e)),
     )

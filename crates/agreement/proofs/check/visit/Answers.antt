@@ -6,7 +6,8 @@ use native.Mathlib.Omega.{arith}
 use lib.ListN.{get_or, set}
 use Rattle.grammar.specs.Formulas.Slots.{own_at}
 use Rattle.grammar.specs.Formulas.FormulaCheck.{dot_of, formula_of, line_at}
-use Rattle.attributes.specs.CheckingLaws.{attribute_low, visit-done, visit-undue, visit-enters, count_low, asked-line, formed-means, formed-low, formed-progress}
+use Rattle.attributes.specs.CheckingLaws.{attribute_low}
+use Rattle.agreement.specs.VisitLaws.{visit-done, visit-undue, visit-enters, count_low, asked-line, formed-means, formed-low, formed-progress}
 use Rattle.agreement.proofs.check.visit.Goals as goal
 use Rattle.agreement.proofs.check.visit.Goals.{Else-not-due}
 
@@ -16,22 +17,21 @@ mark c = c.if-done-line-ne0.false
 
 pub returns-then-done-line-ne0 : goal.returns-then-done-line-ne0
 returns-then-done-line-ne0 c = λ b s d H l R.
-    visit-done H l R c.if-done-line-ne0.true c.requires.1 _
+    visit-done H l R c.if-done-line-ne0.true _
 
 pub returns-then-not-due : goal.returns-then-not-due
 returns-then-not-due c = λ b s d H l R.
     visit-undue H l R _ (c.due.ensures b s H l R.known_in) (ap not c.if-not-due.true)
-    c.requires.1
 
 pub formula_of-r-requires : goal.formula_of-r-requires
 formula_of-r-requires c =
     let line = line_at c.requires.0.0 c.args.line in
     let R = c.requires.0.5 in
-    record { table = R.table_in; by_index = (line.expression, own_at c.requires.0.1 (dot_of line), asked-line c.requires.0.3 c.requires.0.4 R (mark (goal.at.formula_of-r-requires c).Else-not-due) c.requires.2 refl) }
+    record { table = R.table_in; by_index = (line.expression, own_at c.requires.0.1 (dot_of line), asked-line c.requires.0.3 c.requires.0.4 R (mark (goal.at.formula_of-r-requires c).Else-not-due) c.requires.1 refl) }
 
-pub overflow_add-p : goal.overflow_add-p
-overflow_add-p c =
-    omega (arith, count_low c.requires.0.3 c.requires.0.4 c.requires.0.5 (mark (goal.at.overflow_add-p c).Else-not-due))
+pub overflow_add-formed : goal.overflow_add-formed
+overflow_add-formed c =
+    omega (arith, count_low c.requires.0.3 c.requires.0.4 c.requires.0.5 (mark (goal.at.overflow_add-formed c).Else-not-due))
 
 pub enter-requires : goal.enter-requires
 enter-requires c =
@@ -39,14 +39,14 @@ enter-requires c =
     let H = c.requires.0.3 in
     let l = c.requires.0.4 in
     let R = c.requires.0.5 in
-    let F = c.formula_of-r.ensures _ _ (asked-line H l R (mark here) c.requires.2 refl) in
-    (attribute_low H l, R.words_long, formed-low H l R (mark here) c.requires.2 refl F)
+    let F = c.formula_of-r.ensures _ _ (asked-line H l R (mark here) c.requires.1 refl) in
+    (attribute_low H l, R.words_long, formed-low H l R (mark here) c.requires.1 refl F)
 
 pub returns : goal.returns
 returns c =
     let here = (goal.at.returns c).Else-not-due in
     λ b s d H l R.
-    let room = c.requires.2 in
+    let room = c.requires.1 in
     let F = c.formula_of-r.ensures _ _ (asked-line H l R (mark here) room refl) in
     rw (visit-enters H l R (mark here) c.args.wanted (c.due.ensures b s H l R.known_in) (ap not c.if-not-due.false))
     (c.enter.ensures s (set d c.args.line true) _ _ _ _ (formula_of s (line_at b c.args.line))

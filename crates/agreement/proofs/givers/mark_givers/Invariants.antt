@@ -1,4 +1,4 @@
-use Prim.Native.Nat.{ℕ, ◌*◌, ◌-◌, ◌≤◌}
+use Prim.Native.Nat.{ℕ, ◌*◌, ◌≤◌}
 use mathlib.Core.Path.{◌≡◌}
 use mathlib.Core.List.{List}
 use lib.ListN.{length}
@@ -9,9 +9,5 @@ use Rattle.agreement.specs.Given.{GivenIn}
 use Rattle.agreement.proofs.givers.mark_givers.Given as goal
 
 abbrev pub invariant-loop-i : goal.invariant-loop-i
-invariant-loop-i l = (l.i ≤ l.lines) × (length l.given ≡ length l.initial.given)
-    × ((b : Book) (rules owned masks : List ℕ) → CheckHeld b l.definitions rules owned masks → l.lines ≡ grammar.definitions b
-    → 9 * length b.rules ≤ length l.initial.given → GivenIn b l.i l.given l.leaders)
-
-abbrev pub decreases-loop-i : goal.decreases-loop-i
-decreases-loop-i l = l.lines - l.i
+invariant-loop-i l = (b : Book) (rules owned masks : List ℕ) → CheckHeld b l.definitions rules owned masks → l.lines ≡ grammar.definitions b
+    → 9 * length b.rules ≤ length l.initial.given → GivenIn b l.i l.given l.leaders

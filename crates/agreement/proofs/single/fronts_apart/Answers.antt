@@ -42,4 +42,4 @@ pub loop-rest-preserved : goal.loop-rest-preserved
 loop-rest-preserved c = walk_more c.loop-rest.invariant c.least-gap.ensures c.behind-rest.ensures refl c.if-bits-here-ne0.false
 
 pub returns : goal.returns
-returns c = λ e. walk-last c.loop-rest.invariant c.loop-rest-test.false
+returns c = walk-last c.loop-rest.invariant c.loop-rest-test.false

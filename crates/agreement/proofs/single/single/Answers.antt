@@ -1,5 +1,4 @@
 use native.Mathlib.Omega.{arith}
-use borrow.Author.Tests.{not-false}
 use Rattle.automaton.specs.StatesIn.{state-range}
 use Rattle.agreement.specs.SingleState.{single-state}
 use Rattle.agreement.proofs.single.single.Goals as goal
@@ -14,5 +13,4 @@ lines_apart-requires c = let g = c.requires in
 pub returns : goal.returns
 returns c = λ e b rules closures o I W G s.
     let (all, K) = c.lines_apart.ensures e in
-    let F = c.fronts_apart-fronted.ensures (not-false _ c.if-not-fronted.false) in
-    single-state o I W G s c.word-first.ensures c.word-last.ensures F K
+    single-state o I W G s c.word-first.ensures c.word-last.ensures c.in-Some.ensures K

@@ -1,4 +1,4 @@
-use Prim.Native.Nat.{ℕ, ◌-◌, ◌<◌, ◌≤◌}
+use Prim.Native.Nat.{ℕ, ◌<◌}
 use mathlib.Core.Path.{◌≡◌}
 use mathlib.Core.List.{List}
 use Rattle.grammar.specs.Data.Book.{Book}
@@ -12,9 +12,5 @@ use Rattle.agreement.specs.SingleState.{Single}
 use Rattle.agreement.proofs.single.states_single.Given as goal
 
 abbrev pub invariant-loop-state : goal.invariant-loop-state
-invariant-loop-state l = (l.state ≤ l.states)
-    × ((b : Book) (rules closures : List ℕ) → Ordered b → ItemsIn b (sets_of b.rules) rules l.kernels l.bounds closures
-    → FrontsIn b rules closures l.fronts → GivenIn b (grammar.definitions b) l.given l.leaders → l.states ≡ b.states → (S : ℕ) → S < l.state → Single b S)
-
-abbrev pub decreases-loop-state : goal.decreases-loop-state
-decreases-loop-state l = l.states - l.state
+invariant-loop-state l = (b : Book) (rules closures : List ℕ) → Ordered b → ItemsIn b (sets_of b.rules) rules l.kernels l.bounds closures
+    → FrontsIn b rules closures l.fronts → GivenIn b (grammar.definitions b) l.given l.leaders → l.states ≡ b.states → (S : ℕ) → S < l.state → Single b S

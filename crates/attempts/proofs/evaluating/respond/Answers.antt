@@ -1,27 +1,22 @@
-use native.Mathlib.Omega.{arith}
-use borrow.Author.Tests.{not-false}
-use Rattle.attempts.specs.Attempts.{book-taken, states-within, attempts-none, attempts-asked, attempts-run}
+use Rattle.std.proofs.Common.{arith}
+use Rattle.std.proofs.lemmas.Result.{err_from_is_err_and}
+use Rattle.attempts.specs.Attempts.{book-taken, states-within, responds-none, responds-asked, responds-run}
 use Rattle.attempts.proofs.evaluating.respond.Goals as goal
 
-pub returns-then-compiled-ne0 : goal.returns-then-compiled-ne0
-returns-then-compiled-ne0 c = λ room n text R. attempts-none R (not-false _ c.if-not-compiled.false) c.if-compiled-ne0.true
+pub returns-in_default : goal.returns-in_default
+returns-in_default c = λ room n text R. responds-none R c.in_default.is
 
-pub returns-then-first-ne0 : goal.returns-then-first-ne0
-returns-then-first-ne0 c = λ room n text R.
-    attempts-asked R (not-false _ c.if-not-compiled.false) c.if-compiled-ne0.false c.asked-first.ensures c.if-first-ne0.true
+pub returns-in_err-asked : goal.returns-in_err-asked
+returns-in_err-asked c = λ room n text R.
+    let (_, is, same) = err_from_is_err_and c.from_residual.result c.from_residual.ensures.1 in rw (is, same) (responds-asked R c.in-Ok.is c.in_err-asked.ensures)
 
-pub message-outcome-requires : goal.message-outcome-requires
-message-outcome-requires c = let (room, n, text, R, slots) = c.requires in
-    let whole = not-false _ c.if-not-compiled.false in
-    let taken = c.if-compiled-ne0.false in record {
-      some = book-taken R whole taken;
-      message = (
-        c.asked-first.ensures.passed c.if-first-ne0.false,
-        c.asked-first.ensures.all_rows c.if-first-ne0.false,
-        omega (arith, slots, states-within R whole taken),
-      );
+pub message-requires : goal.message-requires
+message-requires c = let (room, n, text, R, slots) = c.requires in
+    let passed = c.in_ok-asked.ensures.says in
+    record {
+      some = book-taken R c.in-Ok.is;
+      message = (passed.its_message, passed.all_rows, omega (arith, slots, states-within R c.in-Ok.is));
     }
 
 pub returns : goal.returns
-returns c = λ room n text R.
-    attempts-run R (not-false _ c.if-not-compiled.false) c.if-compiled-ne0.false c.asked-first.ensures c.if-first-ne0.false c.message-outcome.ensures
+returns c = λ room n text R. responds-run R c.in-Ok.is _ c.in_ok-asked.ensures.says c.message.ensures

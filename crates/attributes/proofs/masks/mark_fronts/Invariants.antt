@@ -1,4 +1,4 @@
-use Prim.Native.Nat.{ℕ, ◌*◌, ◌-◌, ◌≤◌}
+use Prim.Native.Nat.{ℕ, ◌*◌, ◌≤◌}
 use mathlib.Core.Path.{◌≡◌}
 use mathlib.Core.List.{List}
 use lib.ListN.{length}
@@ -11,10 +11,6 @@ use Rattle.attributes.specs.MarkFronts.{LooksIn, FrontsMarked}
 use Rattle.attributes.proofs.masks.mark_fronts.Given as goal
 
 abbrev pub invariant-loop-i : goal.invariant-loop-i
-invariant-loop-i l = (l.i ≤ l.lines) × (length l.masks ≡ length l.initial.masks)
-    × ((b : Book) (F : Sets) (R begins owned cleared L : List ℕ) → CheckHeld b l.definitions l.rules owned cleared → LooksIn b.rules l.rules L l.closures l.first
-    → l.lines ≡ grammar.definitions b → SuffixesIn b.rules F l.nullables begins → ReachesIn b.rules F R l.reaches
-    → 9 * length b.rules ≤ length l.initial.masks → FrontsMarked b F R L l.i l.masks)
-
-abbrev pub decreases-loop-i : goal.decreases-loop-i
-decreases-loop-i l = l.lines - l.i
+invariant-loop-i l = (b : Book) (F : Sets) (R begins owned cleared L : List ℕ) → CheckHeld b l.definitions l.rules owned cleared
+    → LooksIn b.rules l.rules L l.closures l.first → l.lines ≡ grammar.definitions b → SuffixesIn b.rules F l.nullables begins
+    → ReachesIn b.rules F R l.reaches → 9 * length b.rules ≤ length l.initial.masks → FrontsMarked b F R L l.i l.masks

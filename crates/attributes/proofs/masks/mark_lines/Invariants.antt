@@ -1,5 +1,4 @@
 use Prim.Native.Nat.{ℕ, ◌≤◌}
-use mathlib.Core.Path.{◌≡◌}
 use mathlib.Core.List.{List, ◌++◌}
 use lib.ListN.{length}
 use lib.Seq.{slice}
@@ -12,10 +11,7 @@ use Rattle.attributes.specs.MarkLines.{ItemLinesIn}
 use Rattle.attributes.proofs.masks.mark_lines.Given as goal
 
 abbrev pub invariant-loop-i : goal.invariant-loop-i
-invariant-loop-i l = (l.first ≤ l.i) × (l.i ≤ l.last) × (length l.masks ≡ length l.initial.masks)
+invariant-loop-i l = (l.first ≤ l.i)
     × ((b : Book) (F : Sets) (R begins : List ℕ) (items : List Core) → ItemLinesIn b l.kernels → l.last ≤ length b.kernels
     → SuffixesIn b.rules F l.nullables begins → ReachesIn b.rules F R l.reaches → MarksIn b F R items l.initial.masks
     → MarksIn b F R (of_kernels (slice l.i l.last b.kernels) ++ items) l.masks)
-
-abbrev pub decreases-loop-i : goal.decreases-loop-i
-decreases-loop-i l = l.i

@@ -1,4 +1,4 @@
-use Prim.Native.Nat.{ℕ, ◌-◌, ◌≤◌}
+use Prim.Native.Nat.{ℕ}
 use mathlib.Core.Path.{◌≡◌}
 use mathlib.Core.List.{List}
 use lib.ListN.{length}
@@ -8,7 +8,4 @@ use Rattle.attributes.specs.Owned.{OwnedIn}
 use Rattle.attributes.proofs.owned.owned.Given as goal
 
 abbrev pub invariant-loop-i : goal.invariant-loop-i
-invariant-loop-i l = (l.i ≤ l.count) × ((os : List ℕ) → OwnersIn MAX_INHERITED os l.owners → length os ≡ l.count → OwnedIn os l.i l.sets)
-
-abbrev pub decreases-loop-i : goal.decreases-loop-i
-decreases-loop-i l = l.count - l.i
+invariant-loop-i l = (os : List ℕ) → OwnersIn MAX_INHERITED os l.owners → length os ≡ l.count → OwnedIn os l.i l.sets

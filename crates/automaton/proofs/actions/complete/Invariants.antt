@@ -1,9 +1,5 @@
-use Prim.Native.Nat.{◌-◌, ◌≤◌}
 use Rattle.automaton.specs.ActionRows.{Completing}
 use Rattle.automaton.proofs.actions.complete.Given as goal
 
 abbrev pub invariant-loop-a : goal.invariant-loop-a
-invariant-loop-a l = (l.a ≤ 32) × Completing l.terminals l.state l.rule l.lookaheads l.initial.actions l.actions l.clear l.a
-
-abbrev pub decreases-loop-a : goal.decreases-loop-a
-decreases-loop-a l = 32 - l.a
+invariant-loop-a l = Completing l.terminals l.state l.rule l.lookaheads l.initial.actions l.actions l.clear l.a

@@ -15,7 +15,7 @@ low c = let p = c.requires in
 pub loop-i-init : goal.loop-i-init
 loop-i-init c = let range = state-range c.requires.1.1 c.args.state c.requires.1.2 in
     kernels-none c.args.rules.now c.args.kernels.now c.args.bounds.now c.args.terminals c.args.state c.args.actions.now
-    c.word-first.ensures c.word-i.ensures (omega (arith, range.ordered, c.word-first.ensures, c.word-i.ensures))
+    c.word-first.ensures c.word-last.ensures (omega (arith, range.ordered, c.word-first.ensures, c.word-last.ensures))
 
 pub word-rule-requires : goal.word-rule-requires
 word-rule-requires c =

@@ -2,7 +2,7 @@ use native.Mathlib.Omega.{arith}
 use Rattle.automaton.specs.StatesIn.{state-range}
 use Rattle.automaton.specs.Comes.{searched, has_kernel, has-rule}
 use Rattle.automaton.proofs.go_rules.has_item.Goals as goal
-use Rattle.automaton.proofs.go_rules.has_item.Goals.{else-dot-eq0, then-dot-eq0+else-closures-state-ne0}
+use Rattle.automaton.proofs.go_rules.has_item.Goals.{else-dot-eq0-via-else-dot-eq0, else-dot-eq0-via-then-dot-eq0+else-closures-state-ne0}
 
 pub returns-then-closures-state-ne0 : goal.returns-then-closures-state-ne0
 returns-then-closures-state-ne0 c = λ b F h s. has-rule h s c.if-dot-eq0.true c.word.ensures c.if-closures-state-ne0.true
@@ -15,8 +15,8 @@ holds_item-requires c = let range = state-range c.requires.2.states_in c.args.st
 
 pub returns : goal.returns
 returns c = λ b F h s.
-    has_kernel h s (λ z. elim c.if-dot-eq0.branch [
-      | then-dot-eq0+else-closures-state-ne0 w ↦ rw w.word.ensures at w.if-closures-state-ne0.false
-      | else-dot-eq0 w ↦ absurd (w.if-dot-eq0.false z)
+    has_kernel h s (λ z. elim c.else-dot-eq0.branch [
+      | else-dot-eq0-via-then-dot-eq0+else-closures-state-ne0 w ↦ rw w.word.ensures at w.if-closures-state-ne0.false
+      | else-dot-eq0-via-else-dot-eq0 w ↦ absurd (w.if-dot-eq0.false z)
     ])
     (searched h s c.word-first.ensures c.word-last.ensures c.empty.ensures c.holds_item.ensures)

@@ -6,9 +6,9 @@ use Rattle.automaton.proofs.go_rules.kernels_advance.Goals as goal
 
 pub loop-i-init : goal.loop-i-init
 loop-i-init c = let range = state-range c.requires.1.states_in c.args.state c.requires.2 in
-    kernels-none c.args.rules.now c.args.kernels.now c.args.bounds.now c.args.table.now c.args.state c.word-i.ensures
+    kernels-none c.args.rules.now c.args.kernels.now c.args.bounds.now c.args.table.now c.args.state c.word-first.ensures
     c.word-last.ensures
-    (omega (arith, range.ordered, c.word-i.ensures, c.word-last.ensures))
+    (omega (arith, range.ordered, c.word-first.ensures, c.word-last.ensures))
 
 pub kernel_advances-requires : goal.kernel_advances-requires
 kernel_advances-requires c = let range = state-range c.requires.1.states_in c.args.state c.requires.2 in

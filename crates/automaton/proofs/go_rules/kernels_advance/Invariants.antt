@@ -1,9 +1,5 @@
-use Prim.Native.Nat.{◌-◌}
 use Rattle.automaton.specs.Advances.{KernelsAdvance}
 use Rattle.automaton.proofs.go_rules.kernels_advance.Given as goal
 
 abbrev pub invariant-loop-i : goal.invariant-loop-i
 invariant-loop-i l = KernelsAdvance l.rules l.kernels l.bounds l.table l.state l.last l.i
-
-abbrev pub decreases-loop-i : goal.decreases-loop-i
-decreases-loop-i l = l.last - l.i

@@ -1,9 +1,5 @@
-use Prim.Native.Nat.{◌-◌}
 use Rattle.automaton.specs.Comes.{LinesCome}
 use Rattle.automaton.proofs.go_rules.lines_come.Given as goal
 
 abbrev pub invariant-loop-i : goal.invariant-loop-i
 invariant-loop-i l = LinesCome l.rules l.kernels l.goes l.bounds l.closures l.count l.i
-
-abbrev pub decreases-loop-i : goal.decreases-loop-i
-decreases-loop-i l = l.count - l.i

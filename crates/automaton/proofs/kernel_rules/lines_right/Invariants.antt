@@ -1,12 +1,6 @@
-use Prim.Native.Nat.{◌-◌}
-use mathlib.Core.Path.{◌≡◌}
-use lib.ListN.{length}
 use Rattle.grammar.specs.Data.Book.{Book}
 use Rattle.automaton.specs.KernelRules.{RuledIn, Walked}
 use Rattle.automaton.proofs.kernel_rules.lines_right.Given as goal
 
 abbrev pub invariant-loop-i : goal.invariant-loop-i
-invariant-loop-i l = (length l.bounds ≡ length l.initial.bounds) × ((b : Book) → RuledIn b l.rules l.kernels l.count → Walked b l.initial.bounds 1 → Walked b l.bounds l.i)
-
-abbrev pub decreases-loop-i : goal.decreases-loop-i
-decreases-loop-i l = l.count - l.i
+invariant-loop-i l = (b : Book) → RuledIn b l.rules l.kernels l.count → Walked b l.initial.bounds 1 → Walked b l.bounds l.i

@@ -2,12 +2,11 @@ use Rattle.text.specs.Numeral.{spelled}
 use Rattle.grammar.specs.Format.Reader.{result, remaining}
 use Rattle.lines.specs.Heads.{book-head}
 use Rattle.book.specs.Header.{header}
-use borrow.Author.Rules.{rules}
 use Rattle.book.proofs.header.header.Goals as goal
 
-pub line_head-a-requires : goal.line_head-a-requires
+pub invariant_of-first : goal.invariant_of-first
 unfolding spelled
-line_head-a-requires c = (search rules, book-head)
+invariant_of-first c = record { spells = book-head }
 
 pub returns : goal.returns
 unfolding header result remaining spelled

@@ -1,9 +1,11 @@
-use Rattle.book.specs.Order.{first-stands, later-stands}
 use mathlib.Core.Path.{◌∙◌}
+use Rattle.grammar.specs.Format.Parse.{is_before}
+use Rattle.book.specs.Order.{key-before}
 use Rattle.book.proofs.order.ascends.Goals as goal
 
-pub returns-then-k-eq0 : goal.returns-then-k-eq0
-returns-then-k-eq0 c = first-stands _ _ _ _ c.if-k-eq0.true
+pub returns-in-None : goal.returns-in-None
+unfolding is_before
+returns-in-None c = rw c.in-None.is
 
-pub returns : goal.returns
-returns c = c.is_before.ensures ∙ later-stands _ _ _ c.if-k-eq0.false
+pub returns-in-Some : goal.returns-in-Some
+returns-in-Some c = rw c.in-Some.is (c.lt.ensures ∙ key-before _ _)

@@ -6,9 +6,9 @@ use Rattle.book.specs.Layout.{owner_words}
 use Rattle.book.specs.Sections.{Filling}
 use Rattle.book.proofs.owners.owner_lines.Given as goal
 
-abbrev pub invariant-loop-at : goal.invariant-loop-at
-invariant-loop-at l = Filling (opening l.word) (owner_line l.letter) (λ K A. suc K) owner_words l.room
-    l.text (owner_lines l.word l.letter (rest l.text l.at)) l.initial.out l.k l.k l.p l.out
+abbrev pub invariant-loop-head : goal.invariant-loop-head
+invariant-loop-head l = Filling (opening l.head.word) (owner_line l.letter) (λ K A. suc K) owner_words l.room
+    l.source.bytes.now (owner_lines l.head.word l.letter (rest l.source.bytes.now l.at)) l.initial.out l.k l.k l.p l.out
 
-abbrev pub decreases-loop-at : goal.decreases-loop-at
-decreases-loop-at l = size (rest l.text l.p)
+abbrev pub decreases-loop-head : goal.decreases-loop-head
+decreases-loop-head l = size (rest l.source.bytes.now l.p)

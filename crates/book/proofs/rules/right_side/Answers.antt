@@ -18,4 +18,4 @@ loop-at-smaller c = filling-less _ _ _ _ _ symbols-shrink _ c.loop-at.invariant 
 pub loop-at-preserved : goal.loop-at-preserved
 unfolding symbol_words
 loop-at-preserved c = filling-turn _ _ _ _ _ symbols-shrink _ c.loop-at.invariant c.mark-a.ensures c.if-n-a.false
-    (puts_of c.symbol-x.ensures (rw c.code_of.ensures) c.put_line.ensures) refl
+    (puts_of c.symbol-x.ensures (rw c.code.ensures) c.put_line.ensures) refl

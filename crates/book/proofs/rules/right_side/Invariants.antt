@@ -8,7 +8,7 @@ use Rattle.book.proofs.rules.right_side.Given as goal
 
 abbrev pub invariant-loop-at : goal.invariant-loop-at
 invariant-loop-at l = Filling (mark space) (λ (s : Unit {0}). symbol) (λ s X. s) symbol_words MAX_RIGHT
-    l.text (symbols (rest l.text l.at)) l.initial.out tt l.m l.p l.out
+    l.source.bytes.now (symbols (rest l.source.bytes.now l.at)) l.initial.out tt l.m l.p l.out
 
 abbrev pub decreases-loop-at : goal.decreases-loop-at
-decreases-loop-at l = size (rest l.text l.p)
+decreases-loop-at l = size (rest l.source.bytes.now l.p)

@@ -4,16 +4,15 @@ use Rattle.grammar.specs.Format.Parse.{rule_lines}
 use Rattle.lines.specs.Heads.{rule-head}
 use Rattle.book.specs.Sections.{filling-start, filling-turn, filling-less, filling-done}
 use Rattle.book.specs.Lines.{rule-shrinks}
-use borrow.Author.Rules.{rules}
 use Rattle.book.proofs.rules.rule_lines.Goals as goal
 
 pub loop-head-init : goal.loop-head-init
 unfolding rule_lines
 loop-head-init c = filling-start _ _ _ _ _ (rule-shrinks _) _ _ _ _
 
-pub line_head-a-requires : goal.line_head-a-requires
+pub invariant_of-head : goal.invariant_of-head
 unfolding spelled
-line_head-a-requires c = (search rules, rule-head)
+invariant_of-head c = record { spells = rule-head }
 
 pub returns-then-n-a : goal.returns-then-n-a
 unfolding spelled

@@ -9,7 +9,7 @@ use Rattle.book.proofs.rules.rule_lines.Given as goal
 
 abbrev pub invariant-loop-head : goal.invariant-loop-head
 invariant-loop-head l = Filling (opening (word_of "rule")) rule_line (λ K r. suc K) rule_words l.room
-    l.text (rule_lines (rest l.text l.at)) l.initial.out l.k l.k l.p l.out
+    l.source.bytes.now (rule_lines (rest l.source.bytes.now l.at)) l.initial.out l.k l.k l.p l.out
 
 abbrev pub decreases-loop-head : goal.decreases-loop-head
-decreases-loop-head l = size (rest l.text l.p)
+decreases-loop-head l = size (rest l.source.bytes.now l.p)

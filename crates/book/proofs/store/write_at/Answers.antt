@@ -1,8 +1,6 @@
-use Rattle.book.specs.LayoutLaws.{writing-turn, writing-done}
+use native.Mathlib.Omega.{arith}
+use Rattle.book.specs.LayoutLaws.{part-written}
 use Rattle.book.proofs.store.write_at.Goals as goal
 
-pub loop-i-preserved : goal.loop-i-preserved
-loop-i-preserved c = writing-turn _ _ _ c.loop-i.invariant c.loop-i-test.true
-
 pub returns : goal.returns
-returns c = writing-done _ _ _ c.loop-i.invariant c.loop-i-test.false
+returns c = rw c.copy_from_slice.ensures.after (part-written c.args.place _ c.args.line.now c.args.out.now (omega arith) (omega (arith, c.requires)))

@@ -21,11 +21,11 @@ only c e A =
 left : (c : In-loop-i) (e : Expr) → Asked c.args.definitions.now c.args.line c.args.dot e → c.loop-i.i < term.nodes e
 left c e A = omega (arith, c.loop-i-test.true, A.stands.nodes_is)
 
-pub step_value-requires : goal.step_value-requires
-step_value-requires c =
+pub step_value-requires-clause-ready : goal.step_value-requires-clause-ready
+step_value-requires-clause-ready c =
     let (e, A) = c.requires.asked in
-    let at = (goal.at.step_value-requires c).After-step_at in
-    record { room = c.requires.room; ready = (rw (only at e A) (only-ready A.reads (one at e A)), omega arith) }
+    let at = (goal.at.step_value-requires-clause-ready c).After-step_at in
+    (rw (only at e A) (only-ready A.reads (one at e A)), omega arith)
 
 pub returns-then-nodes-eq1 : goal.returns-then-nodes-eq1
 returns-then-nodes-eq1 c = λ e A.
@@ -35,18 +35,12 @@ returns-then-nodes-eq1 c = λ e A.
 pub loop-i-init : goal.loop-i-init
 loop-i-init c = λ e A. running-start _ A.reads
 
-pub step_value-v-requires : goal.step_value-v-requires
-step_value-v-requires c =
+pub step_value-v-requires-clause-ready : goal.step_value-v-requires-clause-ready
+step_value-v-requires-clause-ready c =
     let (e, A) = c.requires.asked in
     let R = c.loop-i.invariant e A in
-    let l = left (goal.at.step_value-v-requires c).In-loop-i e A in
-    record {
-      room = c.requires.room;
-      ready = (
-        rw (c.step_at-step.ensures ∙ A.stands.steps_are _ l) (running-ready R l),
-        omega (arith, R.long, R.deep, l, A.stands.few),
-      );
-    }
+    let l = left (goal.at.step_value-v-requires-clause-ready c).In-loop-i e A in
+    (rw (c.step_at-step.ensures ∙ A.stands.steps_are _ l) (running-ready R l), omega (arith, R.long, R.deep, l, A.stands.few))
 
 pub overflow_sub-top : goal.overflow_sub-top
 overflow_sub-top c =

@@ -6,6 +6,3 @@ use Rattle.cells.proofs.values.value.Given as goal
 
 abbrev pub invariant-loop-i : goal.invariant-loop-i
 invariant-loop-i l = (e : Expr) → Asked l.definitions l.line l.dot e → Running (place_in (l.height - l.dot) l.inherited l.synthesized) l.dot e l.stack l.top l.i
-
-abbrev pub decreases-loop-i : goal.decreases-loop-i
-decreases-loop-i l = l.nodes - l.i

@@ -1,31 +1,38 @@
+use Rattle.book.specs.Refusals.{answer_of, number_of}
+use Rattle.compiler.specs.Answered.{answer-none, answer-some, handed_on}
 use Rattle.compiler.specs.Compiling.{asked-fronts, attributes-counted, rules_few, checked_refused, checked-formulas, checked-all}
 use native.Mathlib.Omega.{arith}
 use Rattle.compiler.proofs.compile.check.Goals as goal
 
-pub returns-then-first-ne0 : goal.returns-then-first-ne0
-returns-then-first-ne0 c = λ b h. checked_refused (c.prepare-first.ensures b h) c.if-first-ne0.true
+pub returns-in_err-prepare : goal.returns-in_err-prepare
+returns-in_err-prepare c = λ b h. rw (handed_on _ c.from_residual.result c.in_err-prepare.was c.from_residual.ensures.1) (checked_refused (c.prepare.ensures b h) (answer-some c.in_err-prepare.was))
 
 pub formulas_right-requires : goal.formulas_right-requires
 formulas_right-requires c = let (b, h) = c.requires.some in
-    let P = c.prepare-first.ensures b h in
-    let R = P.ready c.if-first-ne0.false in
+    let P = c.prepare.ensures b h in
+    let none = answer-none c.in_ok-prepare.was in
+    let R = P.ready none in
     let room = c.requires.tables_room.begins_long (rules_few R) in (
-      (b, _, asked-fronts R (P.fronts_in c.if-first-ne0.false), R.arrays_in.inherited-in, attributes-counted R),
-      omega (arith, room, c.prepare-first.auto.begins),
+      (b, _, asked-fronts R (P.fronts_in none), R.arrays_in.inherited-in, attributes-counted R),
+      omega (arith, room, c.prepare.auto.begins),
     )
 
 pub returns-then-formulas_right : goal.returns-then-formulas_right
+unfolding answer_of
 returns-then-formulas_right c = λ b h.
-    let P = c.prepare-first.ensures b h in
-    let R = P.ready c.if-first-ne0.false in
-    let H = asked-fronts R (P.fronts_in c.if-first-ne0.false) in
+    let P = c.prepare.ensures b h in
+    let none = answer-none c.in_ok-prepare.was in
+    let R = P.ready none in
+    let H = asked-fronts R (P.fronts_in none) in
     let f = c.formulas_right.ensures b _ H R.arrays_in.inherited-in (attributes-counted R) in
-    checked-all P c.if-first-ne0.false f c.if-formulas_right.true
+    checked-all P none f c.if-formulas_right.true
 
 pub returns : goal.returns
+unfolding answer_of number_of
 returns c = λ b h.
-    let P = c.prepare-first.ensures b h in
-    let R = P.ready c.if-first-ne0.false in
-    let H = asked-fronts R (P.fronts_in c.if-first-ne0.false) in
+    let P = c.prepare.ensures b h in
+    let none = answer-none c.in_ok-prepare.was in
+    let R = P.ready none in
+    let H = asked-fronts R (P.fronts_in none) in
     let f = c.formulas_right.ensures b _ H R.arrays_in.inherited-in (attributes-counted R) in
-    checked-formulas P c.if-first-ne0.false f c.if-formulas_right.false
+    checked-formulas P none f c.if-formulas_right.false

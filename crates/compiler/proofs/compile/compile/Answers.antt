@@ -1,16 +1,19 @@
-use Rattle.grammar.specs.Automaton.TestLaws.{both_true}
+use borrow.Author.Rules.{rules}
+use Rattle.grammar.specs.Conditions.Decides.{refutes}
 use Rattle.compiler.specs.States.{tables-room, actions-kept}
-use Rattle.compiler.specs.Compiling.{compiles-unread, compiles-checked, read_some}
+use Rattle.compiler.specs.Compiling.{compiles-misspelt, compiles-part, compiles-checked, read_some}
 use Rattle.compiler.proofs.compile.compile.Goals as goal
 
-pub returns-then-not-read-whole : goal.returns-then-not-read-whole
-returns-then-not-read-whole c = compiles-unread _ c.spelling-read.ensures c.complete-whole.ensures c.if-not-read-whole.true
+pub returns-in_default : goal.returns-in_default
+returns-in_default c = compiles-misspelt _ c.spelling.ensures c.in_default.is
 
-pub check-refusal-requires : goal.check-refusal-requires
-check-refusal-requires c = let (spelled, fits) = both_true _ _ c.if-not-read-whole.false in
-    let all = c.complete-whole.ensures.sound fits in
-    record { some = read_some _ c.spelling-read.ensures c.requires.lent.2 all spelled; tables_room = tables-room all (actions-kept c.spelling-read.auto.waits c.requires.tables_lent) }
+pub returns-then-not-complete : goal.returns-then-not-complete
+returns-then-not-complete c = compiles-part _ c.spelling.ensures c.in-Some.is (refutes (rw c.if-not-complete.true at c.complete.ensures))
+
+pub check-checked-requires : goal.check-checked-requires
+check-checked-requires c =
+    let all = c.complete.ensures.sound c.if-not-complete.false in
+    record { some = read_some _ c.spelling.ensures c.in-Some.is c.requires.lent.1 all; tables_room = tables-room all (actions-kept c.spelling.auto.waits c.requires.tables_lent) }
 
 pub returns : goal.returns
-returns c = let (spelled, fits) = both_true _ _ c.if-not-read-whole.false in
-    compiles-checked _ c.spelling-read.ensures c.requires.lent.2 (c.complete-whole.ensures.sound fits) spelled c.check-refusal.ensures
+returns c = compiles-checked _ c.spelling.ensures c.in-Some.is c.requires.lent.1 (c.complete.ensures.sound c.if-not-complete.false) _ c.check-checked.ensures _ (search rules)

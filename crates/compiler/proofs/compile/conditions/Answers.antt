@@ -4,6 +4,7 @@ use Rattle.grammar.specs.Data.Book.{Book as Lines}
 use Rattle.grammar.specs.Conditions.Tests.{within_limits}
 use Rattle.conditions.specs.DeclaredTests.{names_declared}
 use Rattle.conditions.specs.SoundTests.{definitions_sound}
+use Rattle.book.specs.Refusals.{answer_of, number_of}
 use Rattle.compiler.specs.Conditions.{BookKept, asked-limits, asked-names, asked-lines, asked-sound, asked-definitions, names-missing, sound-declared, sound-owned, limits-refused, names-refused, sound-refused, definitions-refused, conditions-met}
 use Rattle.compiler.proofs.compile.conditions.Goals as goal
 use Rattle.compiler.proofs.compile.conditions.Goals.{Else-not-names_declared, Else-not-sound, Else-not-within_limits}
@@ -28,6 +29,7 @@ pub within_limits-requires : goal.within_limits-requires
 within_limits-requires c = (c.requires.0, asked-limits c.requires.1)
 
 pub returns-then-not-within_limits : goal.returns-then-not-within_limits
+unfolding answer_of number_of
 returns-then-not-within_limits c = λ b h. sym (limits-refused b (sym (c.within_limits.ensures.for_all b (asked-limits h)) ∙ c.if-not-within_limits.true))
 
 pub names_declared-requires : goal.names_declared-requires
@@ -35,6 +37,7 @@ names_declared-requires c =
     let (b, h) = c.requires in (b, asked-names h (limits (goal.at.names_declared-requires c).Else-not-within_limits b h))
 
 pub returns-then-not-names_declared : goal.returns-then-not-names_declared
+unfolding answer_of number_of
 returns-then-not-names_declared c = λ b h.
     let w = limits (goal.at.returns-then-not-names_declared c).Else-not-within_limits b h in
     sym (names-refused b w (names-missing b (sym (c.names_declared.ensures.for_all b (asked-names h w)) ∙ c.if-not-names_declared.true)))
@@ -50,6 +53,7 @@ definitions_refused-requires c =
     let (b, h) = c.requires in (b, asked-lines h (limits (goal.at.definitions_refused-requires c).Else-not-within_limits b h))
 
 pub returns-then-not-sound : goal.returns-then-not-sound
+unfolding answer_of number_of
 returns-then-not-sound c = λ b h.
     let at = goal.at.returns-then-not-sound c in
     let w = limits at.Else-not-within_limits b h in
@@ -66,6 +70,7 @@ defined-requires c =
     (b, asked-definitions h w n (definitions at.Else-not-sound b h w n))
 
 pub returns-then-not-defined : goal.returns-then-not-defined
+unfolding answer_of number_of
 returns-then-not-defined c = λ b h.
     let at = goal.at.returns-then-not-defined c in
     let w = limits at.Else-not-within_limits b h in
@@ -75,6 +80,7 @@ returns-then-not-defined c = λ b h.
     (sym (c.defined.ensures.for_all b (asked-definitions h w n s)) ∙ c.if-not-defined.true))
 
 pub returns : goal.returns
+unfolding answer_of number_of
 returns c = λ b h.
     let at = goal.at.returns c in
     let w = limits at.Else-not-within_limits b h in

@@ -1,14 +1,15 @@
+use Rattle.compiler.specs.Answered.{answer-none, answer-some, handed_on}
 use Rattle.compiler.specs.Prepared.{asked-tables, prepared-refused, prepared-tables}
 use Rattle.compiler.proofs.compile.prepare.Goals as goal
 
-pub returns-then-first-ne0 : goal.returns-then-first-ne0
-returns-then-first-ne0 c = λ b h. prepared-refused h (c.conditions-first.ensures b h) c.if-first-ne0.true
+pub returns-in_err-conditions : goal.returns-in_err-conditions
+returns-in_err-conditions c = λ b h. rw (handed_on _ c.from_residual.result c.in_err-conditions.was c.from_residual.ensures.1) (prepared-refused h (c.conditions.ensures b h) (answer-some c.in_err-conditions.was))
 
-pub tables-requires : goal.tables-requires
-tables-requires c = let (b, h) = c.requires.some in
-    record { book_held = (b, asked-tables h (c.conditions-first.ensures b h) c.if-first-ne0.false); tables_room = c.requires.tables_room }
+pub tables-requires-clause-book_held : goal.tables-requires-clause-book_held
+tables-requires-clause-book_held c = let (b, h) = c.requires.some in (b, asked-tables h (c.conditions.ensures b h) (answer-none c.in_ok-conditions.was))
 
 pub returns : goal.returns
 returns c = λ b h.
-    let told = c.conditions-first.ensures b h in
-    prepared-tables h told c.if-first-ne0.false (c.tables.ensures b (asked-tables h told c.if-first-ne0.false))
+    let told = c.conditions.ensures b h in
+    let none = answer-none c.in_ok-conditions.was in
+    prepared-tables h told none (c.tables.ensures b (asked-tables h told none))

@@ -2,8 +2,8 @@ use Rattle.grammar.specs.Automaton.FirstSets.{sets_of}
 use Rattle.compiler.specs.States.{held-grammar, held_items}
 use Rattle.compiler.proofs.states.fill_items.Goals as goal
 
-pub rests-requires : goal.rests-requires
-rests-requires c = record { grammar_held = (c.requires.kernels_held.0.rules, held-grammar c.requires.kernels_held.1 c.requires.kernels_held.2); count_in_bounds = (c.requires.count_in_bounds.0, c.requires.count_in_bounds.1, c.requires.count_in_bounds.2) }
+pub rests-requires-clause-grammar_held : goal.rests-requires-clause-grammar_held
+rests-requires-clause-grammar_held c = let (b, h, e, T) = c.requires.kernels_held in (b.rules, held-grammar h e)
 
 pub fill_closures-requires : goal.fill_closures-requires
 fill_closures-requires c = let b = c.requires.kernels_held.0 in

@@ -1,9 +1,10 @@
-use mathlib.Core.Path.{sym, ◌∙◌}
-use Rattle.conditions.specs.SymbolWords.{go-low, go-high}
+use mathlib.Core.Path.{◌∙◌}
+use borrow.Author.Tests.{eq-eqb}
+use Rattle.conditions.specs.SymbolWords.{go-first, go-other}
 use Rattle.conditions.proofs.declared.go_code.Goals as goal
 
-pub returns-then-code-lt32 : goal.returns-then-code-lt32
-returns-then-code-lt32 c = c.one_to.ensures ∙ sym (go-low c.args.book c.args.code c.if-code-lt32.true)
+pub returns-then-code-eq32 : goal.returns-then-code-eq32
+returns-then-code-eq32 c = eq-eqb _ _ c.if-code-eq32.true ∙ go-first c.args.book c.args.code c.if-code-eq32.true
 
-pub returns : goal.returns
-returns c = sym (go-high c.args.book c.args.code c.if-code-lt32.false)
+pub returns-else-code-eq32 : goal.returns-else-code-eq32
+returns-else-code-eq32 c = c.right_code.ensures ∙ go-other c.args.book c.args.code c.if-code-eq32.false

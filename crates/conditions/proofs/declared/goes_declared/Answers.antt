@@ -1,22 +1,20 @@
-use native.Mathlib.Omega.{arith}
-use Rattle.grammar.specs.Conditions.Tests.{declared_go}
-use Rattle.conditions.specs.Answers.{passing-start, passing-turn, all-stop, all_end}
-use Rattle.conditions.specs.DeclaredTests.{goes_declared}
-use Rattle.conditions.specs.DeclaredLaws.{go_asked}
+use mathlib.Core.Path.{◌∙◌}
+use mathlib.Core.Bool.{◌&&◌}
+use Prim.Native.Nat.{◌+◌, ◌*◌}
+use lib.ListN.{get_or}
+use lib.Dec.{ltb}
+use borrow.Author.Tests.{tests}
+use Rattle.std.proofs.Common.{rules}
+use Rattle.conditions.specs.Chains.{all_numbers}
+use Rattle.conditions.specs.DeclaredLaws.{goes_asked}
+use Rattle.conditions.specs.DeclaredTests.{go_code}
 use Rattle.conditions.proofs.declared.goes_declared.Goals as goal
 
-pub loop-i-init : goal.loop-i-init
-loop-i-init c = passing-start
-
-pub returns-then-not-goes-i : goal.returns-then-not-goes-i
-unfolding goes_declared
-returns-then-not-goes-i c = all-stop _ (λ b. b.goes) declared_go (λ b h. h.counted.goes_are) c.loop-i.invariant (omega arith)
-    (record { for_all = λ b h. go_asked c.loop-i.i h (omega (arith, h.counted.goes_are)) c.go_code-known.ensures }) c.if-not-goes-i.true
-
-pub loop-i-preserved : goal.loop-i-preserved
-loop-i-preserved c = passing-turn c.loop-i.invariant (omega arith)
-    (record { for_all = λ b h. go_asked c.loop-i.i h (omega (arith, h.counted.goes_are)) c.go_code-known.ensures }) c.if-not-goes-i.false
-
 pub returns : goal.returns
-unfolding goes_declared
-returns c = all_end _ (λ b. b.goes) declared_go (λ b h. h.counted.goes_are) c.loop-i.invariant c.loop-i-test.false
+returns c = let a = c.args in record {
+  for_all = λ b h.
+      all_numbers (λ i. (ltb (get_or a.goes.now (3 * i) 0) a.book.states && go_code a.book (get_or a.goes.now (3 * i + 1) 0))
+      && ltb (get_or a.goes.now (3 * i + 2) 0) a.book.states) _ _ _ _ c.all.ensures.ran
+      (λ i q k. search (rules, tests)) (λ i q k. search (rules, tests))
+      ∙ goes_asked h;
+}

@@ -1,39 +1,24 @@
 use native.Mathlib.Omega.{arith}
-use Rattle.grammar.specs.Conditions.Tests.{declared_inherited}
+use borrow.Author.Tests.{tests}
+use Rattle.std.proofs.Common.{rules}
+use Rattle.std.proofs.lemmas.Iterator.{serves_from_Range}
+use Rattle.conditions.specs.Asked.{Entry, EntryOf}
 use Rattle.conditions.specs.AskedLaws.{inherited_entry, inherited-entry}
-use Rattle.conditions.specs.Answers.{passing-start, passing-turn, all-stop, all_end}
-use Rattle.conditions.specs.DeclaredTests.{inherited_line_declared, inherited_declared}
+use Rattle.conditions.specs.Answers.{answers-same}
+use Rattle.conditions.specs.Chains.{all_places}
+use Rattle.conditions.specs.DeclaredTests.{inherited_line_declared}
+use Rattle.conditions.specs.DeclaredLaws.{inherited-lines}
 use Rattle.conditions.proofs.declared.inherited_declared.Goals as goal
 
-pub loop-i-init : goal.loop-i-init
-loop-i-init c = passing-start
-
-pub inherited_line_declared-requires : goal.inherited_line_declared-requires
-inherited_line_declared-requires c = let h = c.requires in (
-  inherited_entry h.0 c.loop-i.i,
-  inherited-entry h.1 c.loop-i.i
-      (omega (arith, h.1.rules_of.counted.inherited_definitions_are)),
-)
-
-pub returns-then-not-inherited_line_declared : goal.returns-then-not-inherited_line_declared
-unfolding inherited_declared inherited_line_declared
-returns-then-not-inherited_line_declared c = all-stop _ (λ b. b.inherited_definitions) declared_inherited (λ b h. h.rules_of.counted.inherited_definitions_are) c.loop-i.invariant (omega arith)
-    (record {
-      for_all = λ b h. c.inherited_line_declared.ensures.for_all (inherited_entry b c.loop-i.i)
-          (inherited-entry h c.loop-i.i (omega (arith, h.rules_of.counted.inherited_definitions_are)));
-    })
-    c.if-not-inherited_line_declared.true
-
-pub loop-i-preserved : goal.loop-i-preserved
-unfolding inherited_line_declared
-loop-i-preserved c = passing-turn c.loop-i.invariant (omega arith)
-    (record {
-      for_all = λ b h. c.inherited_line_declared.ensures.for_all (inherited_entry b c.loop-i.i)
-          (inherited-entry h c.loop-i.i (omega (arith, h.rules_of.counted.inherited_definitions_are)));
-    })
-    c.if-not-inherited_line_declared.false
+pub all-requires-clause-callable : goal.all-requires-clause-callable
+all-requires-clause-callable c = let (b, H) = c.requires in
+    serves_from_Range (λ i q k. search (rules, tests)) (λ i l h.
+    let there : (x : Entry) × EntryOf c.args.book c.args.rules.now c.args.definitions.now i x =
+    (inherited_entry b i, inherited-entry H i (omega (arith, H.rules_of.counted.inherited_definitions_are))) in search rules)
 
 pub returns : goal.returns
-unfolding inherited_declared
-returns c = all_end _ (λ b. b.inherited_definitions) declared_inherited (λ b h. h.rules_of.counted.inherited_definitions_are) c.loop-i.invariant
-    c.loop-i-test.false
+returns c = answers-same (λ b h. inherited-lines h.rules_of.counted)
+    (all_places (λ b i. inherited_line_declared (inherited_entry b i))
+    (λ i b. EntryOf c.args.book c.args.rules.now c.args.definitions.now i (inherited_entry b i)) _
+    (λ b h i l. inherited-entry h i (omega (arith, h.rules_of.counted.inherited_definitions_are)))
+    _ _ _ c.all.ensures.ran (λ i q k. search (rules, tests)) (λ i q k. search (rules, tests)))

@@ -1,20 +1,21 @@
-use Prim.Native.Nat.{◌+◌, ◌*◌, ◌≤◌}
-use mathlib.Core.Path.{◌≡◌, sym, ◌∙◌}
-use mathlib.Core.Bool.{true}
+use mathlib.Core.Path.{◌∙◌, sym}
 use native.Mathlib.Omega.{arith}
-use lib.ListN.{length, get_or}
-use Rattle.conditions.specs.DeclaredTests.{definition_declared}
-use Rattle.conditions.specs.DeclaredLaws.{declared-place, inherited-asked, inherited-refused}
+use Rattle.conditions.specs.Answers.{and-asked, and-stop}
+use Rattle.conditions.specs.DeclaredLaws.{declared-place, position-asked, inherited-parts}
 use Rattle.conditions.proofs.declared.inherited_line_declared.Goals as goal
 
 pub bounds-rules-p : goal.bounds-rules-p
-bounds-rules-p c =
-    let is_declared : definition_declared c.args.book.inherited c.requires.0 ≡ true = sym (c.definition_declared.ensures.for_all c.requires.0 c.requires.1) ∙ c.if-definition_declared.true in
-    let place : 10 * get_or c.args.definitions.now (49 * c.args.i) 0 + 10 ≤ length c.args.rules.now = declared-place c.requires.1 c.args.book.inherited (is_declared) in
-    omega (arith, place)
+bounds-rules-p c = let (x, h) = c.requires in
+    omega (arith, declared-place h c.args.book.inherited (sym (c.definition_declared.ensures.for_all x h) ∙ c.if-definition_declared.true))
 
 pub returns-then-definition_declared : goal.returns-then-definition_declared
-returns-then-definition_declared c = record { for_all = λ x h. c.one_to.ensures ∙ inherited-asked h (sym (c.definition_declared.ensures.for_all x h) ∙ c.if-definition_declared.true) }
+returns-then-definition_declared c = record {
+  for_all = λ x h.
+      let e = c.definition_declared.ensures.for_all x h in
+      and-asked e c.if-definition_declared.true (c.one_to.ensures ∙ position-asked h (sym e ∙ c.if-definition_declared.true)) ∙ sym (inherited-parts h);
+}
 
-pub returns : goal.returns
-returns c = record { for_all = λ x h. inherited-refused h (sym (c.definition_declared.ensures.for_all x h) ∙ c.if-definition_declared.false) }
+pub returns-else-definition_declared : goal.returns-else-definition_declared
+returns-else-definition_declared c = record {
+  for_all = λ x h. and-stop _ (c.definition_declared.ensures.for_all x h) c.if-definition_declared.false ∙ sym (inherited-parts h);
+}

@@ -1,24 +1,23 @@
 use native.Mathlib.Omega.{arith}
-use Rattle.grammar.specs.Conditions.Tests.{declared_kernel}
-use Rattle.conditions.specs.Answers.{answers-where, passing-start, passing-turn, all-stop, all_end}
-use Rattle.conditions.specs.DeclaredTests.{kernel_declared, kernels_declared}
+use borrow.Author.Tests.{tests}
+use Rattle.std.proofs.Common.{rules}
+use Rattle.std.proofs.lemmas.Iterator.{serves_from_Range}
+use Rattle.grammar.specs.Data.Book.{Book as Lines}
+use Rattle.conditions.specs.Asked.{KernelOf}
+use Rattle.conditions.specs.Answers.{answers-same}
+use Rattle.conditions.specs.Chains.{all_places}
+use Rattle.conditions.specs.DeclaredLaws.{kernels-lines}
+use Rattle.conditions.specs.DeclaredTests.{kernel_declared}
 use Rattle.conditions.proofs.declared.kernels_declared.Goals as goal
 
-pub loop-i-init : goal.loop-i-init
-loop-i-init c = passing-start
-
-pub returns-then-not-kernel_declared : goal.returns-then-not-kernel_declared
-unfolding kernels_declared kernel_declared
-returns-then-not-kernel_declared c = all-stop _ (λ b. b.kernels) declared_kernel (λ b h. h.rules_of.counted.kernels_are) c.loop-i.invariant (omega arith)
-    (answers-where (λ b h. record { kernels_of = h; kernel_there = omega (arith, h.rules_of.counted.kernels_are) }) c.kernel_declared.ensures)
-    c.if-not-kernel_declared.true
-
-pub loop-i-preserved : goal.loop-i-preserved
-unfolding kernel_declared
-loop-i-preserved c = passing-turn c.loop-i.invariant (omega arith)
-    (answers-where (λ b h. record { kernels_of = h; kernel_there = omega (arith, h.rules_of.counted.kernels_are) }) c.kernel_declared.ensures)
-    c.if-not-kernel_declared.false
+pub all-requires-clause-callable : goal.all-requires-clause-callable
+all-requires-clause-callable c = let (b, H) = c.requires in
+    serves_from_Range (λ i q k. search (rules, tests)) (λ i l h.
+    let there : (b : Lines) × KernelOf c.args.book c.args.rules.now c.args.kernels.now i b =
+    (b, record { kernels_of = H; kernel_there = omega (arith, H.rules_of.counted.kernels_are) }) in search rules)
 
 pub returns : goal.returns
-unfolding kernels_declared
-returns c = all_end _ (λ b. b.kernels) declared_kernel (λ b h. h.rules_of.counted.kernels_are) c.loop-i.invariant c.loop-i-test.false
+returns c = answers-same (λ b h. kernels-lines h.rules_of.counted)
+    (all_places (λ b i. kernel_declared i b) (KernelOf c.args.book c.args.rules.now c.args.kernels.now) _
+    (λ b h i l. record { kernels_of = h; kernel_there = omega (arith, h.rules_of.counted.kernels_are) })
+    _ _ _ c.all.ensures.ran (λ i q k. search (rules, tests)) (λ i q k. search (rules, tests)))

@@ -1,32 +1,17 @@
-use mathlib.Core.Path.{sym, ◌∙◌}
-use native.Mathlib.Omega.{arith}
-use Rattle.grammar.specs.Data.Postfix.{select, postfix}
-use Rattle.grammar.specs.Conditions.Tests.{declared_place}
-use Rattle.conditions.specs.Answers.{answers-same, passing-start, passing-turn, all-stop, all_end}
-use Rattle.conditions.specs.Leaves.{of_leaf, leaves-nodes}
-use Rattle.conditions.specs.DeclaredTests.{leaves_declared}
-use Rattle.conditions.specs.DeclaredLaws.{node-asked, node-count}
+use mathlib.Core.Path.{◌∙◌}
+use borrow.Author.Tests.{tests}
+use Prim.Native.Nat.{◌+◌, ◌*◌}
+use Rattle.std.proofs.Common.{rules}
+use Rattle.conditions.specs.Chains.{all_numbers}
+use Rattle.conditions.specs.DeclaredLaws.{leaves-asked}
+use Rattle.conditions.specs.DeclaredTests.{place_code}
+use Rattle.conditions.specs.Places.{place_in}
 use Rattle.conditions.proofs.declared.leaves_declared.Goals as goal
 
-pub loop-j-init : goal.loop-j-init
-loop-j-init c = passing-start
-
-pub returns-then-not-place_declared : goal.returns-then-not-place_declared
-unfolding leaves_declared
-returns-then-not-place_declared c = answers-same (λ x h. sym (leaves-nodes (declared_place x.book x.line.rule) x.line.expression))
-    (all-stop select (λ x. postfix x.line.expression) (λ x. of_leaf (declared_place x.book x.line.rule)) (λ x h. node-count h.line_is)
-    c.loop-j.invariant (omega arith)
-    (record { for_all = λ x h. c.place_declared.ensures ∙ node-asked h c.loop-j.j (omega (arith, h.line_is.line_in.nodes_is)) })
-    c.if-not-place_declared.true)
-
-pub loop-j-preserved : goal.loop-j-preserved
-loop-j-preserved c = passing-turn c.loop-j.invariant (omega arith)
-    (record { for_all = λ x h. c.place_declared.ensures ∙ node-asked h c.loop-j.j (omega (arith, h.line_is.line_in.nodes_is)) })
-    c.if-not-place_declared.false
-
 pub returns : goal.returns
-unfolding leaves_declared
-returns c = answers-same (λ x h. sym (leaves-nodes (declared_place x.book x.line.rule) x.line.expression))
-    (all_end select (λ x. postfix x.line.expression) (λ x. of_leaf (declared_place x.book x.line.rule)) (λ x h. node-count h.line_is)
-    c.loop-j.invariant
-    c.loop-j-test.false)
+returns c = let a = c.args in record {
+  for_all = λ x h.
+      all_numbers (λ j. place_code a.book a.size (place_in a.definitions.now (49 * a.i + 4 + 3 * j))) _ _ _ _ c.all.ensures.ran (λ j q k. search (rules, tests))
+      (λ j q k. search (rules, tests))
+      ∙ leaves-asked h;
+}

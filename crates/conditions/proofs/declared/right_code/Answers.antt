@@ -5,5 +5,5 @@ use Rattle.conditions.proofs.declared.right_code.Goals as goal
 pub returns-then-code-lt32 : goal.returns-then-code-lt32
 returns-then-code-lt32 c = c.one_to.ensures ∙ sym (right_low c.args.book c.args.code c.if-code-lt32.true)
 
-pub returns : goal.returns
-returns c = c.one_to-2.ensures ∙ sym (right-high c.args.book c.args.code c.if-code-lt32.false)
+pub returns-else-code-lt32 : goal.returns-else-code-lt32
+returns-else-code-lt32 c = c.one_to-else-code-lt32.ensures ∙ sym (right-high c.args.book c.args.code c.if-code-lt32.false)

@@ -1,29 +1,22 @@
-use Prim.Native.Nat.{ℕ}
-use mathlib.Core.Path.{ap}
 use native.Mathlib.Omega.{arith}
-use Rattle.grammar.specs.Conditions.Decides.{all_below}
+use borrow.Author.Tests.{tests}
+use Rattle.std.proofs.Common.{rules}
+use Rattle.std.proofs.lemmas.Iterator.{serves_from_Range}
+use Rattle.grammar.specs.Data.Book.{Book as Lines}
+use Rattle.conditions.specs.Asked.{RuleOf}
 use Rattle.conditions.specs.AskedLaws.{rule-of}
-use Rattle.conditions.specs.Answers.{answers-where, answers-same, passing-start, passing-turn, passing-stop, passing-end}
-use Rattle.conditions.specs.DeclaredTests.{rule_declared, rules_declared}
+use Rattle.conditions.specs.Answers.{answers-same}
+use Rattle.conditions.specs.Chains.{all_places}
+use Rattle.conditions.specs.DeclaredLaws.{rules-lines}
+use Rattle.conditions.specs.DeclaredTests.{rule_declared}
 use Rattle.conditions.proofs.declared.rules_declared.Goals as goal
 
-pub loop-p-init : goal.loop-p-init
-loop-p-init c = passing-start
-
-pub rule_declared-requires : goal.rule_declared-requires
-rule_declared-requires c = let h = c.requires in
-    (h.0, rule-of c.loop-p.p h.1 (omega (arith, h.1.counted.rules_are)))
-
-pub returns-then-not-rule_declared : goal.returns-then-not-rule_declared
-unfolding rules_declared
-returns-then-not-rule_declared c = answers-same (λ b h. ap (λ (m : ℕ). all_below m (λ P. rule_declared P b)) h.counted.rules_are) (passing-stop c.loop-p.invariant (omega arith)
-    (answers-where (λ b h. rule-of c.loop-p.p h (omega (arith, h.counted.rules_are))) c.rule_declared.ensures) c.if-not-rule_declared.true)
-
-pub loop-p-preserved : goal.loop-p-preserved
-loop-p-preserved c = passing-turn c.loop-p.invariant (omega arith)
-    (answers-where (λ b h. rule-of c.loop-p.p h (omega (arith, h.counted.rules_are))) c.rule_declared.ensures) c.if-not-rule_declared.false
+pub all-requires-clause-callable : goal.all-requires-clause-callable
+all-requires-clause-callable c = let (b, H) = c.requires in
+    serves_from_Range (λ i q k. search (rules, tests)) (λ i l h.
+    let there : (b : Lines) × RuleOf c.args.book c.args.rules.now i b = (b, rule-of i H (omega (arith, H.counted.rules_are))) in search rules)
 
 pub returns : goal.returns
-unfolding rules_declared
-returns c = answers-same (λ b h. ap (λ (m : ℕ). all_below m (λ P. rule_declared P b)) h.counted.rules_are)
-    (passing-end c.loop-p.invariant c.loop-p-test.false)
+returns c = answers-same (λ b h. rules-lines h.counted)
+    (all_places (λ b i. rule_declared i b) (RuleOf c.args.book c.args.rules.now) _ (λ b h i l. rule-of i h (omega (arith, h.counted.rules_are)))
+    _ _ _ c.all.ensures.ran (λ i q k. search (rules, tests)) (λ i q k. search (rules, tests)))

@@ -11,11 +11,11 @@ owner c = c.requires.0.low c.loop-k.k c.loop-k-test.true
 pub loop-k-init : goal.loop-k-init
 loop-k-init c = (omega arith, counts_start c.requires.1)
 
-pub overflow_add-counts : goal.overflow_add-counts
-overflow_add-counts c =
+pub overflow_add-counts-in-loop-k : goal.overflow_add-counts-in-loop-k
+overflow_add-counts-in-loop-k c =
     let few : c.loop-k.k ≤ 32 = omega (arith, c.loop-k.invariant.0, c.requires.0.few) in
     let word = 32 + get_or c.args.owners.now c.loop-k.k 0 in
-    omega (arith, (counts-low (few) c.loop-k.invariant.1).low word (omega (arith, (owner (goal.at.overflow_add-counts c).In-loop-k))))
+    omega (arith, (counts-low (few) c.loop-k.invariant.1).low word (omega (arith, (owner (goal.at.overflow_add-counts-in-loop-k c).In-loop-k))))
 
 pub loop-k-preserved : goal.loop-k-preserved
 loop-k-preserved c =

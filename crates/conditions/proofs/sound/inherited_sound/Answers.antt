@@ -1,35 +1,26 @@
 use native.Mathlib.Omega.{arith}
+use borrow.Author.Tests.{tests}
+use Rattle.std.proofs.Common.{rules}
+use Rattle.std.proofs.lemmas.Iterator.{serves_from_Range}
+use Rattle.conditions.specs.Asked.{Entry, LineThere}
 use Rattle.conditions.specs.AskedLaws.{inherited_entry}
-use Rattle.conditions.specs.Answers.{passing-start, passing-turn, all-stop, all_end}
-use Rattle.conditions.specs.SoundTests.{sound_inherited, inherited_line_sound, inherited_sound}
-use Rattle.conditions.specs.SoundLines.{inherited-line-there}
+use Rattle.conditions.specs.Answers.{answers-same}
+use Rattle.conditions.specs.Chains.{all_places}
+use Rattle.conditions.specs.SoundTests.{inherited_line_sound}
+use Rattle.conditions.specs.SoundLines.{inherited-line-there, inherited-sound-lines}
 use Rattle.conditions.proofs.sound.inherited_sound.Goals as goal
 
-pub loop-i-init : goal.loop-i-init
-loop-i-init c = passing-start
-
-pub inherited_line_sound-requires : goal.inherited_line_sound-requires
-inherited_line_sound-requires c = let h = c.requires in
-    (inherited_entry h.0 c.loop-i.i, inherited-line-there h.1 c.loop-i.i (omega (arith, h.1.counted.inherited_definitions_are)))
-
-pub returns-then-not-inherited_line_sound : goal.returns-then-not-inherited_line_sound
-unfolding inherited_sound inherited_line_sound
-returns-then-not-inherited_line_sound c = all-stop _ (λ b. b.inherited_definitions) sound_inherited (λ b h. h.counted.inherited_definitions_are) c.loop-i.invariant (omega arith)
-    (record {
-      for_all = λ b h. c.inherited_line_sound.ensures.for_all (inherited_entry b c.loop-i.i)
-          (inherited-line-there h c.loop-i.i (omega (arith, h.counted.inherited_definitions_are)));
-    })
-    c.if-not-inherited_line_sound.true
-
-pub loop-i-preserved : goal.loop-i-preserved
-unfolding inherited_line_sound
-loop-i-preserved c = passing-turn c.loop-i.invariant (omega arith)
-    (record {
-      for_all = λ b h. c.inherited_line_sound.ensures.for_all (inherited_entry b c.loop-i.i)
-          (inherited-line-there h c.loop-i.i (omega (arith, h.counted.inherited_definitions_are)));
-    })
-    c.if-not-inherited_line_sound.false
+pub all-requires-clause-callable : goal.all-requires-clause-callable
+all-requires-clause-callable c = let (b, H) = c.requires in
+    let a = c.args in
+    serves_from_Range (λ i q k. search (rules, tests)) (λ i l h.
+    let there : (x : Entry) × LineThere a.book a.inherited.now a.synthesized.now a.rules.now a.definitions.now i x =
+    (inherited_entry b i, inherited-line-there H i (omega (arith, H.counted.inherited_definitions_are))) in search rules)
 
 pub returns : goal.returns
-unfolding inherited_sound
-returns c = all_end _ (λ b. b.inherited_definitions) sound_inherited (λ b h. h.counted.inherited_definitions_are) c.loop-i.invariant c.loop-i-test.false
+returns c = let a = c.args in
+    answers-same (λ b h. inherited-sound-lines h.counted)
+    (all_places (λ b i. inherited_line_sound (inherited_entry b i))
+    (λ i b. LineThere a.book a.inherited.now a.synthesized.now a.rules.now a.definitions.now i (inherited_entry b i)) _
+    (λ b h i l. inherited-line-there h i (omega (arith, h.counted.inherited_definitions_are)))
+    _ _ _ c.all.ensures.ran (λ i q k. search (rules, tests)) (λ i q k. search (rules, tests)))

@@ -1,41 +1,28 @@
+use Prim.Native.Nat.{◌+◌}
 use native.Mathlib.Omega.{arith}
+use borrow.Author.Tests.{tests}
+use Rattle.std.proofs.Common.{rules}
+use Rattle.std.proofs.lemmas.Iterator.{serves_from_Range}
+use Rattle.conditions.specs.Asked.{Entry, LineThere}
 use Rattle.conditions.specs.AskedLaws.{synthesized_entry}
-use Rattle.conditions.specs.Answers.{passing-start, passing-turn, all-stop, all_end}
-use Rattle.conditions.specs.SoundTests.{sound_synthesized, synthesized_line_sound, synthesized_sound}
-use Rattle.conditions.specs.SoundLines.{synthesized-line-there}
+use Rattle.conditions.specs.Answers.{answers-same}
+use Rattle.conditions.specs.Chains.{all_places}
+use Rattle.conditions.specs.SoundTests.{synthesized_line_sound}
+use Rattle.conditions.specs.SoundLines.{synthesized-line-there, synthesized-sound-lines}
 use Rattle.conditions.proofs.sound.synthesized_sound.Goals as goal
 
-pub loop-i-init : goal.loop-i-init
-loop-i-init c = passing-start
-
-pub synthesized_line_sound-requires : goal.synthesized_line_sound-requires
-synthesized_line_sound-requires c = let h = c.requires in
-    let n = h.1.counted in (
-      synthesized_entry h.0 c.loop-i.i,
-      synthesized-line-there h.1 c.loop-i.i n.inherited_definitions_are (omega (arith, n.synthesized_definitions_are)),
-    )
-
-pub returns-then-not-synthesized_line_sound : goal.returns-then-not-synthesized_line_sound
-unfolding synthesized_sound synthesized_line_sound
-returns-then-not-synthesized_line_sound c = all-stop _ (λ b. b.synthesized_definitions) sound_synthesized (λ b h. h.counted.synthesized_definitions_are) c.loop-i.invariant (omega arith)
-    (record {
-      for_all = λ b h.
-          c.synthesized_line_sound.ensures.for_all (synthesized_entry b c.loop-i.i)
-          (synthesized-line-there h c.loop-i.i h.counted.inherited_definitions_are (omega (arith, h.counted.synthesized_definitions_are)));
-    })
-    c.if-not-synthesized_line_sound.true
-
-pub loop-i-preserved : goal.loop-i-preserved
-unfolding synthesized_line_sound
-loop-i-preserved c = passing-turn c.loop-i.invariant (omega arith)
-    (record {
-      for_all = λ b h.
-          c.synthesized_line_sound.ensures.for_all (synthesized_entry b c.loop-i.i)
-          (synthesized-line-there h c.loop-i.i h.counted.inherited_definitions_are (omega (arith, h.counted.synthesized_definitions_are)));
-    })
-    c.if-not-synthesized_line_sound.false
+pub all-requires-clause-callable : goal.all-requires-clause-callable
+all-requires-clause-callable c = let (b, H) = c.requires in
+    let a = c.args in
+    let n = H.counted in
+    serves_from_Range (λ i q k. search (rules, tests)) (λ i l h.
+    let there : (x : Entry) × LineThere a.book a.inherited.now a.synthesized.now a.rules.now a.definitions.now (a.book.inherited_definitions + i) x =
+    (synthesized_entry b i, synthesized-line-there H i n.inherited_definitions_are (omega (arith, n.synthesized_definitions_are))) in search rules)
 
 pub returns : goal.returns
-unfolding synthesized_sound
-returns c = all_end _ (λ b. b.synthesized_definitions) sound_synthesized (λ b h. h.counted.synthesized_definitions_are) c.loop-i.invariant
-    c.loop-i-test.false
+returns c = let a = c.args in
+    answers-same (λ b h. synthesized-sound-lines h.counted)
+    (all_places (λ b i. synthesized_line_sound (synthesized_entry b i))
+    (λ i b. LineThere a.book a.inherited.now a.synthesized.now a.rules.now a.definitions.now (a.book.inherited_definitions + i) (synthesized_entry b i)) _
+    (λ b h i l. synthesized-line-there h i h.counted.inherited_definitions_are (omega (arith, h.counted.synthesized_definitions_are)))
+    _ _ _ c.all.ensures.ran (λ i q k. search (rules, tests)) (λ i q k. search (rules, tests)))

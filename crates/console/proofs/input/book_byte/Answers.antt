@@ -1,9 +1,11 @@
+use Rattle.book.specs.Refusals.{number_of}
 use Rattle.console.proofs.HoldsLaws.{book-full, book-goes-on, book-line, book-ends}
 use native.Mathlib.Omega.{arith}
 use mathlib.Core.Path.{sym, ◌∙◌}
 use Rattle.console.proofs.input.book_byte.Goals as goal
 
 pub returns-then-at-ge-MAX_TEXT : goal.returns-then-at-ge-MAX_TEXT
+unfolding number_of
 returns-then-at-ge-MAX_TEXT c = λ i h buffer. book-full h _ c.if-at-ge-MAX_TEXT.true
 
 pub returns-then-not-is_feed : goal.returns-then-not-is_feed

@@ -1,9 +1,9 @@
+use Rattle.std.proofs.Common.{arith}
 use Rattle.console.specs.Printing.{printed}
 use Rattle.console.specs.Desk.{print_answer}
 use Rattle.grammar.specs.Format.Printer.{bytes, literal}
-use native.Mathlib.Omega.{arith}
 use Rattle.console.proofs.output.put_refused.Goals as goal
 
 pub returns : goal.returns
 unfolding bytes literal print_answer
-returns c = printed c.put_last.ensures (omega arith)
+returns c = printed (rw c.number.ensures at c.put_last.ensures) (omega arith)

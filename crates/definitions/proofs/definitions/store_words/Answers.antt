@@ -8,7 +8,7 @@ use Rattle.definitions.proofs.definitions.store_words.Goals as goal
 pub returns-then-i-room : goal.returns-then-i-room
 returns-then-i-room c =
     let long : length c.words.new.line ≡ DEFINITION_WORDS = search rules in
-    stores-in c.words.ensures c.if-i-room.true c.requires.2 long
+    stores-in c.words.ensures c.if-i-room.true c.requires.1 long
 
 pub returns : goal.returns
 returns c = stores-out c.words-2.ensures c.if-i-room.false

@@ -14,41 +14,41 @@ use Rattle.definitions.proofs.expression.expression.Goals.{After-put_node}
 use Rattle.definitions.proofs.expression.expression.Goals.{In-loop-p}
 
 -- in each turn the stack has its room
-waits-room : (c : In-loop-p) → WaitsRoom c.args.text.now c.loop-p.waits
-waits-room c = omega (arith, c.loop-p.invariant.0, c.requires.1)
+waits-room : (c : In-loop-p) → WaitsRoom c.args.source.now.bytes.now c.loop-p.waits
+waits-room c = omega (arith, c.loop-p.invariant.0, c.requires.0)
 
 pub loop-p-init : goal.loop-p-init
 loop-p-init c = (search rules, search rules, record { due = true; working = working-start _ _ _ _; asks = λ h. refl })
 
 pub bounds-waits-depth : goal.bounds-waits-depth
 bounds-waits-depth c =
-    open-fits c.loop-p.invariant.2.working c.loop-p-test.true c.begun-b.ensures c.if-b.true (waits-room (goal.at.bounds-waits-depth c).In-loop-p)
+    open-fits c.loop-p.invariant.2.working c.loop-p-test.true c.begun-read.ensures c.in-Opens.is (waits-room (goal.at.bounds-waits-depth c).In-loop-p)
 
-pub loop-p-smaller-then-b : goal.loop-p-smaller-then-b
-loop-p-smaller-then-b c = begun-shorter c.loop-p.invariant.2.working c.loop-p-test.true c.begun-b.ensures
+pub loop-p-smaller-in-Opens : goal.loop-p-smaller-in-Opens
+loop-p-smaller-in-Opens c = begun-shorter c.loop-p.invariant.2.working c.loop-p-test.true c.begun-read.ensures
 
-pub loop-p-preserved-then-b : goal.loop-p-preserved-then-b
-loop-p-preserved-then-b c =
+pub loop-p-preserved-in-Opens : goal.loop-p-preserved-in-Opens
+loop-p-preserved-in-Opens c =
     let inv = c.loop-p.invariant in
     let due = inv.2.asks c.loop-p-test.true in (
       simp length-set inv.0,
       inv.1,
       record {
         due = inv.2.due;
-        working = working-open inv.2.working c.loop-p-test.true c.begun-b.ensures c.if-b.true (waits-room (goal.at.loop-p-preserved-then-b c).In-loop-p) due;
+        working = working-open inv.2.working c.loop-p-test.true c.begun-read.ensures c.in-Opens.is (waits-room (goal.at.loop-p-preserved-in-Opens c).In-loop-p) due c.waiting.ensures;
         asks = λ h. due;
       },
     )
 
 -- an operand was read, before the brackets that it ends are closed
 operand : (c : After-put_node)
-    → Working c.args.text.now c.args.line.now (scan true (rest c.args.text.now c.args.at) [] []) c.loop-p.waits c.loop-p.depth false c.begun-b.result.at
+    → Working c.args.source.now.bytes.now c.args.line.now (scan true (rest c.args.source.now.bytes.now c.args.at) [] []) c.loop-p.waits c.loop-p.depth false c.begun-read.result.at
     (c.loop-p.count + 1) c.put_node.new.line
-operand c = asked-whole c.loop-p.invariant.2 c.loop-p-test.true c.begun-b.ensures c.if-b.false c.put_node.ensures
+operand c = asked-whole c.loop-p.invariant.2 c.loop-p-test.true c.begun-read.ensures c.in-Whole.is c.words.ensures c.put_node.ensures
 
 pub close-next-requires : goal.close-next-requires
 close-next-requires c =
-    (c.requires.0, (waits-room (goal.at.close-next-requires c).In-loop-p), search rules, (_, _, operand (goal.at.close-next-requires c).After-put_node))
+    ((waits-room (goal.at.close-next-requires c).In-loop-p), search rules, (_, _, operand (goal.at.close-next-requires c).After-put_node))
 
 pub returns-then-depth-eq0 : goal.returns-then-depth-eq0
 unfolding expression_steps
@@ -60,7 +60,7 @@ pub loop-p-smaller : goal.loop-p-smaller
 loop-p-smaller c =
     omega (
       arith,
-      begun-shorter c.loop-p.invariant.2.working c.loop-p-test.true c.begun-b.ensures,
+      begun-shorter c.loop-p.invariant.2.working c.loop-p-test.true c.begun-read.ensures,
       (c.close-next.ensures _ _ (operand (goal.at.loop-p-smaller c).After-put_node)).shorter,
     )
 

@@ -10,7 +10,7 @@ use Rattle.definitions.proofs.expression.expression.Given as goal
 
 abbrev pub invariant-loop-p : goal.invariant-loop-p
 invariant-loop-p l = (length l.waits ≡ length l.initial.waits) × (length l.line ≡ DEFINITION_WORDS)
-    × Asking l.text l.initial.line (scan true (rest l.text l.at) [] []) l.waits l.depth l.p l.count l.line
+    × Asking l.source.bytes.now l.initial.line (scan true (rest l.source.bytes.now l.at) [] []) l.waits l.depth l.p l.count l.line
 
 abbrev pub decreases-loop-p : goal.decreases-loop-p
-decreases-loop-p l = size (rest l.text l.p)
+decreases-loop-p l = size (rest l.source.bytes.now l.p)

@@ -1,4 +1,4 @@
-use Prim.Native.Nat.{ℕ, ◌-◌}
+use Prim.Native.Nat.{ℕ}
 use Rattle.grammar.specs.Data.Book.{Expr}
 use Rattle.grammar.specs.Formulas.Formula.{Formula}
 use Rattle.formulas.specs.Formulas.{Asked}
@@ -8,6 +8,3 @@ use Rattle.formulas.proofs.formulas.formula_of.Given as goal
 abbrev pub invariant-loop-i : goal.invariant-loop-i
 invariant-loop-i l = (e : Expr) (f : ℕ → Formula) → Asked l.definitions l.line l.dot l.slots l.initial.table l.initial.used e f
     → Running l.dot l.slots e f l.initial.table l.initial.used l.table l.heads l.nexts l.used l.stack l.top l.i
-
-abbrev pub decreases-loop-i : goal.decreases-loop-i
-decreases-loop-i l = l.nodes - l.i

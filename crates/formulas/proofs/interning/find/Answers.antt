@@ -1,4 +1,5 @@
-use native.Mathlib.Omega.{arith}
+use Rattle.std.proofs.Common.{arith}
+use Rattle.std.proofs.lemmas.Grind.{common_steps}
 use Rattle.formulas.specs.Nodes.{shown}
 use Rattle.formulas.specs.Buckets.{hash-low, seek-start, seek-next, seek-less}
 use Rattle.formulas.proofs.interning.find.Goals as goal
@@ -9,12 +10,13 @@ offset_bounds-heads-bucket c = omega (arith, c.requires.1, hash-low (shown c.arg
 pub bounds-heads-bucket : goal.bounds-heads-bucket
 bounds-heads-bucket c = omega (arith, c.requires.1, hash-low (shown c.args.row), c.requires.0.heads_long)
 
-pub loop-next-init : goal.loop-next-init
-loop-next-init c = seek-start c.requires.0 (shown c.args.row) _ c.requires.1
+pub loop-number-init : goal.loop-number-init
+loop-number-init c = seek-start c.requires.0 (shown c.args.row) _ c.requires.1
 
-pub loop-next-smaller : goal.loop-next-smaller
-loop-next-smaller c = seek-less c.requires.0 _ (omega arith) c.loop-next.invariant
+pub loop-number-smaller : goal.loop-number-smaller
+loop-number-smaller c = rw c.in-Some.ensures.1 (seek-less c.requires.0 _ c.in-Some.ensures.0 c.loop-number.invariant)
 
-pub loop-next-preserved : goal.loop-next-preserved
-loop-next-preserved c = seek-next c.requires.0 (shown c.args.row) (omega arith) c.loop-next.invariant
-    (c.same_at.ensures.fails c.if-same_at.false)
+pub loop-number-preserved : goal.loop-number-preserved
+loop-number-preserved c =
+    rw c.in-Some.ensures.1 (seek-next c.requires.0 (shown c.args.row) c.in-Some.ensures.0 c.loop-number.invariant
+    (λ e. grind (arith, common_steps, c.row_at.ensures)))

@@ -2,8 +2,8 @@ use Rattle.formulas.specs.Nodes.{shown}
 use Rattle.formulas.specs.Buckets.{Seeking}
 use Rattle.formulas.proofs.interning.find.Given as goal
 
-abbrev pub invariant-loop-next : goal.invariant-loop-next
-invariant-loop-next l = Seeking l.table l.used (shown l.row) l.next
+abbrev pub invariant-loop-number : goal.invariant-loop-number
+invariant-loop-number l = Seeking l.table l.used (shown l.row) l.next
 
-abbrev pub decreases-loop-next : goal.decreases-loop-next
-decreases-loop-next l = l.next
+abbrev pub decreases-loop-number : goal.decreases-loop-number
+decreases-loop-number l = l.next

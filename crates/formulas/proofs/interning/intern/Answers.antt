@@ -1,4 +1,3 @@
-use mathlib.Core.Path.{◌≡◌}
 use native.Mathlib.Omega.{arith}
 use Rattle.formulas.specs.Nodes.{shown}
 use Rattle.formulas.specs.Buckets.{hash-low, added}
@@ -12,8 +11,6 @@ link-requires c = let T = c.requires.0 in
 pub returns : goal.returns
 returns c = let r = c.row_of-row in
     let h = c.hash-bucket in
-    let new = c.if-number-used.false in
-    let e : c.find-number.result ≡ c.args.used = omega (arith, c.find-number.ensures.within, new) in
     let link = c.link in
     rw (c.put_row.ensures, link.ensures.heads_after, link.ensures.nexts_after)
-    (added c.requires.0 r.result c.requires.1 (c.find-number.ensures.miss e) h.result h.ensures r.ensures)
+    (added c.requires.0 r.result c.requires.1 c.in_default.ensures h.result h.ensures r.ensures)

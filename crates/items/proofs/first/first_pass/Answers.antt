@@ -4,7 +4,7 @@ use Rattle.grammar.specs.Automaton.LeastLaws.{Fits}
 use Rattle.items.specs.FirstLoops.{first-told}
 use Rattle.items.specs.GrammarOf.{grammar_of}
 use Rattle.items.specs.Searches.{first_fits}
-use Rattle.items.specs.Turned.{descent-begins, descent-more, descent-same}
+use Rattle.items.specs.Turned.{descent-begins, descent-turn}
 use Rattle.items.proofs.first.first_pass.Goals as goal
 use Rattle.items.proofs.first.first_pass.Goals.{After-slice_known-1}
 
@@ -17,16 +17,9 @@ pub loop-p-init : goal.loop-p-init
 loop-p-init c =
     descent-begins (fits (goal.at.loop-p-init c).After-slice_known-1)
 
-pub loop-p-preserved-then-give : goal.loop-p-preserved-then-give
-loop-p-preserved-then-give c =
-    let a = c.args in
-    descent-more (fits (goal.at.loop-p-preserved-then-give c).After-slice_known-1) c.loop-p.invariant c.loop-p-test.true
-    (first-told a.rules.now a.count a.nulls (omega (arith, c.loop-p.invariant.within)) c.left.ensures
-    c.first_right-more.ensures c.give.ensures) c.if-give.true
-
 pub loop-p-preserved : goal.loop-p-preserved
 loop-p-preserved c =
     let a = c.args in
-    descent-same (fits (goal.at.loop-p-preserved c).After-slice_known-1) c.loop-p.invariant c.loop-p-test.true
+    descent-turn (fits (goal.at.loop-p-preserved c).After-slice_known-1) c.loop-p.invariant c.loop-p-test.true
     (first-told a.rules.now a.count a.nulls (omega (arith, c.loop-p.invariant.within)) c.left.ensures
-    c.first_right-more.ensures c.give.ensures) c.if-give.false
+    c.first_right-more.ensures c.give-changed.ensures)

@@ -5,6 +5,3 @@ use Rattle.items.proofs.first.first_pass.Given as goal
 
 abbrev pub invariant-loop-p : goal.invariant-loop-p
 invariant-loop-p l = Descending (first_rule (grammar_of l.rules l.count) l.nulls) l.count l.initial.firsts l.firsts l.changed l.p
-
-abbrev pub decreases-loop-p : goal.decreases-loop-p
-decreases-loop-p l = l.p

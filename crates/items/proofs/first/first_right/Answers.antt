@@ -2,7 +2,7 @@ use Rattle.items.specs.FirstLoops.{beginning, beginning-turn, beginning-stops, b
 use Rattle.items.proofs.first.first_right.Goals as goal
 
 pub loop-d-init : goal.loop-d-init
-loop-d-init c = beginning c.requires.0 (λ i. (c.shared_slice_known-2-1.given i).fits) c.size-last.ensures
+loop-d-init c = beginning c.requires.0 (λ i. (c.type_inv.firsts i).fits) c.size-d-end.ensures
 
 pub returns-then-not-null_symbol : goal.returns-then-not-null_symbol
 returns-then-not-null_symbol c = beginning-stops c.loop-d.invariant c.loop-d-test.true c.symbol-word.ensures

@@ -1,11 +1,7 @@
-use Prim.Native.Nat.{◌≤◌}
 use mathlib.Core.Path.{◌≡◌}
 use lib.ListN.{get_or}
 use Rattle.items.specs.Leads.{Leading}
 use Rattle.items.proofs.leads.fill_leads.Given as goal
 
 abbrev pub invariant-loop-rule : goal.invariant-loop-rule
-invariant-loop-rule l = (l.rule ≤ l.count) × (l.lead ≡ get_or l.leads l.rule 0) × Leading l.rules l.count l.leads l.rule
-
-abbrev pub decreases-loop-rule : goal.decreases-loop-rule
-decreases-loop-rule l = l.rule
+invariant-loop-rule l = (l.lead ≡ get_or l.leads l.rule 0) × Leading l.rules l.count l.leads l.rule

@@ -3,6 +3,3 @@ use Rattle.items.proofs.nullable.null_pass.Given as goal
 
 abbrev pub invariant-loop-p : goal.invariant-loop-p
 invariant-loop-p l = NullPassing l.rules l.count l.nulls l.found l.p
-
-abbrev pub decreases-loop-p : goal.decreases-loop-p
-decreases-loop-p l = l.p

@@ -1,10 +1,9 @@
-use native.Mathlib.Omega.{arith}
 use Rattle.items.specs.ReachLoops.{nulls-of, rests_in, rests-there, reaches-done}
 use Rattle.items.specs.Filling.{rests-turn}
 use Rattle.items.proofs.reach.fill_reaches.Goals as goal
 
-pub reach_rests-requires : goal.reach_rests-requires
-reach_rests-requires c = let S = c.requires.0 in record { rule_fits = (S.fits.rule_fits c.loop-p.p c.loop-p-test.true, c.requires.1, omega (arith, c.loop-p.invariant.rules.long, c.requires.2, c.loop-p-test.true)); p_in_bounds = rests-there S c.loop-p.p c.loop-p-test.true }
+pub reach_rests-requires-clause-p_in_bounds : goal.reach_rests-requires-clause-p_in_bounds
+reach_rests-requires-clause-p_in_bounds c = rests-there c.requires.0 c.loop-p.p c.loop-p-test.true
 
 pub loop-p-preserved : goal.loop-p-preserved
 loop-p-preserved c = let S = c.requires.0 in

@@ -1,14 +1,11 @@
-use mathlib.Core.Path.{◌∙◌}
-use native.Mathlib.Omega.{arith}
 use Rattle.grammar.specs.Automaton.FirstSets.{sets_of}
 use Rattle.grammar.specs.Automaton.ReachSets.{reach_rule}
 use Rattle.grammar.specs.Automaton.LeastLaws.{Fits}
 use Rattle.items.specs.GrammarOf.{grammar_of}
-use Rattle.items.specs.Passes.{pass-begins, turn_more, turn-same}
+use Rattle.items.specs.Passes.{pass-begins, turn}
 use Rattle.items.specs.ReachLoops.{nulls-of, rests_in, rests-there, reach-told}
 use Rattle.items.specs.Searches.{reach-fits}
 use Rattle.items.proofs.reach.reach_pass.Goals as goal
-use Rattle.items.proofs.reach.reach_pass.Goals.{else-give, then-give}
 use Rattle.items.proofs.reach.reach_pass.Goals.{After-slice_known-1}
 
 fits : (c : After-slice_known-1)
@@ -19,18 +16,13 @@ pub loop-p-init : goal.loop-p-init
 loop-p-init c =
     pass-begins (fits (goal.at.loop-p-init c).After-slice_known-1)
 
-pub reach_rest-more-requires : goal.reach_rest-more-requires
-reach_rest-more-requires c = let S = c.requires.0 in record { rule_fits = (S.fits.rule_fits c.loop-p.p c.loop-p-test.true, omega arith, c.loop-p.invariant.family.long ∙ c.requires.1); p_in_bounds = rests-there S c.loop-p.p c.loop-p-test.true }
+pub reach_rest-more-requires-clause-p_in_bounds : goal.reach_rest-more-requires-clause-p_in_bounds
+reach_rest-more-requires-clause-p_in_bounds c = rests-there c.requires.0 c.loop-p.p c.loop-p-test.true
 
 pub loop-p-preserved : goal.loop-p-preserved
 loop-p-preserved c =
     let F = fits (goal.at.loop-p-preserved c).After-slice_known-1 in
     let S = c.requires.0 in
     let h = c.loop-p-test.true in
-    let told = reach-told S h c.left.ensures
-    (c.reach_rest-more.ensures _ (nulls-of S) (rests_in S c.loop-p.p h))
-    c.give.ensures in
-    elim c.if-give.branch [
-      | then-give w ↦ rw w.changed-is (turn_more F c.loop-p.invariant h told w.if-give.true)
-      | else-give w ↦ rw w.changed-is (turn-same F c.loop-p.invariant h told w.if-give.false)
-    ]
+    turn F c.loop-p.invariant h
+    (reach-told S h c.left.ensures (c.reach_rest-more.ensures _ (nulls-of S) (rests_in S c.loop-p.p h)) c.give-changed.ensures)

@@ -1,4 +1,3 @@
-use Prim.Native.Nat.{◌-◌}
 use Rattle.grammar.specs.Automaton.FirstSets.{sets_of}
 use Rattle.grammar.specs.Automaton.ReachSets.{reach_rule}
 use Rattle.items.specs.GrammarOf.{grammar_of}
@@ -7,6 +6,3 @@ use Rattle.items.proofs.reach.reach_pass.Given as goal
 
 abbrev pub invariant-loop-p : goal.invariant-loop-p
 invariant-loop-p l = Passing (reach_rule (grammar_of l.rules l.count) (sets_of (grammar_of l.rules l.count))) l.count l.initial.reached l.reached l.changed l.p
-
-abbrev pub decreases-loop-p : goal.decreases-loop-p
-decreases-loop-p l = l.count - l.p

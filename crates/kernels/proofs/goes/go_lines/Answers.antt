@@ -1,19 +1,18 @@
 use Rattle.text.specs.Numeral.{spelled}
 use Rattle.grammar.specs.Format.Parse.{go_lines}
 use Rattle.lines.specs.Heads.{go-head}
-use Rattle.book.specs.Order.{last_key, keyed-turn}
+use Rattle.book.specs.Order.{keyed-turn}
 use Rattle.book.specs.Sections.{filling-start, filling-less, filling-done}
 use Rattle.kernels.specs.GoLines.{go-shrinks}
-use borrow.Author.Rules.{rules}
 use Rattle.kernels.proofs.goes.go_lines.Goals as goal
 
 pub loop-head-init : goal.loop-head-init
-unfolding go_lines last_key
+unfolding go_lines
 loop-head-init c = filling-start _ _ _ _ _ (go-shrinks _) _ _ _ _
 
-pub line_head-a-requires : goal.line_head-a-requires
+pub invariant_of-head : goal.invariant_of-head
 unfolding spelled
-line_head-a-requires c = (search rules, go-head)
+invariant_of-head c = record { spells = go-head }
 
 pub returns-then-n-a : goal.returns-then-n-a
 unfolding spelled

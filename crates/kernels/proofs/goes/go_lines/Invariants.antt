@@ -10,7 +10,7 @@ use Rattle.kernels.proofs.goes.go_lines.Given as goal
 
 abbrev pub invariant-loop-head : goal.invariant-loop-head
 invariant-loop-head l = Filling (opening (word_of "go")) go_line (λ before. go_key) go_words l.room
-    l.text (go_lines (rest l.text l.at)) l.initial.out (last_key l.k (key_of l.last)) l.k l.p l.out
+    l.source.bytes.now (go_lines (rest l.source.bytes.now l.at)) l.initial.out (last_key key_of l.last) l.k l.p l.out
 
 abbrev pub decreases-loop-head : goal.decreases-loop-head
-decreases-loop-head l = size (rest l.text l.p)
+decreases-loop-head l = size (rest l.source.bytes.now l.p)

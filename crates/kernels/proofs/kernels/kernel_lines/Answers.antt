@@ -1,19 +1,18 @@
 use Rattle.text.specs.Numeral.{spelled}
 use Rattle.grammar.specs.Format.Parse.{kernel_lines}
 use Rattle.lines.specs.Heads.{kernel-head}
-use Rattle.book.specs.Order.{last_key, keyed-turn}
+use Rattle.book.specs.Order.{keyed-turn}
 use Rattle.book.specs.Sections.{filling-start, filling-less, filling-done}
 use Rattle.kernels.specs.KernelLines.{kernel-shrinks}
-use borrow.Author.Rules.{rules}
 use Rattle.kernels.proofs.kernels.kernel_lines.Goals as goal
 
 pub loop-head-init : goal.loop-head-init
-unfolding kernel_lines last_key
+unfolding kernel_lines
 loop-head-init c = filling-start _ _ _ _ _ (kernel-shrinks _) _ _ _ _
 
-pub line_head-a-requires : goal.line_head-a-requires
+pub invariant_of-head : goal.invariant_of-head
 unfolding spelled
-line_head-a-requires c = (search rules, kernel-head)
+invariant_of-head c = record { spells = kernel-head }
 
 pub returns-then-n-a : goal.returns-then-n-a
 unfolding spelled

@@ -4,8 +4,8 @@ use Rattle.kernels.specs.KernelLines.{item_of}
 use Rattle.kernels.proofs.kernels.short_item.Goals as goal
 
 pub returns : goal.returns
-returns c = λ some. item_of (c.short-state.ensures.reads (omega (arith, c.if-a-eq0.false)))
-    (space-at _ _ (omega (arith, c.if-n-at.false, c.short-state.ensures.near)) c.if-text-a-ne32.false)
-    (c.short-rule.ensures.reads (omega (arith, c.if-b-eq0.false)))
-    (space-at _ _ (omega (arith, c.if-n-at.false, c.short-state.ensures.near, c.short-rule.ensures.near)) c.if-text-b-ne32.false)
-    (c.short-dot.ensures.reads some)
+returns c = item_of c.in_ok-state.ensures.reads
+    (space-at _ _ (omega (arith, c.if-n-at.false, c.in_ok-state.ensures.near)) c.if-source-a-ne32.false)
+    c.in_ok-rule.ensures.reads
+    (space-at _ _ (omega (arith, c.if-n-at.false, c.in_ok-state.ensures.near, c.in_ok-rule.ensures.near)) c.if-source-b-ne32.false)
+    c.in_ok-dot.ensures.reads

@@ -1,9 +1,10 @@
-use mathlib.Core.Path.{◌∙◌}
-use Rattle.book.specs.Order.{before-one, first-stands, later-stands}
+use Rattle.grammar.specs.Format.Parse.{is_before}
+use Rattle.book.specs.Order.{before-one}
 use Rattle.kernels.proofs.lookaheads.follows.Goals as goal
 
-pub returns-then-k-eq0 : goal.returns-then-k-eq0
-returns-then-k-eq0 c = first-stands _ _ _ _ c.if-k-eq0.true
+pub returns-in-None : goal.returns-in-None
+unfolding is_before
+returns-in-None c = rw c.in-None.is
 
-pub returns : goal.returns
-returns c = before-one _ _ ∙ later-stands _ _ _ c.if-k-eq0.false
+pub returns-in-Some : goal.returns-in-Some
+returns-in-Some c = rw c.in-Some.is (before-one _ _)

@@ -1,27 +1,32 @@
-use mathlib.Core.Path.{refl}
-use native.Mathlib.Omega.{arith}
-use Rattle.machine.specs.Moving.{told_accepted}
-use Rattle.machine.specs.Running.{rows-count, due-accept, due-shift, due-reduce}
+use Rattle.std.proofs.lemmas.Result.{err_from_is_err_and}
+use Rattle.machine.specs.Running.{due-accept, due-shift, due-reduce}
 use Rattle.machine.proofs.step.advance.Goals as goal
 
-pub shift-requires : goal.shift-requires
-shift-requires c = let (b, ks, k, R, H, F, N) = c.requires.moves_in in
-    record { stacks = c.requires.stacks.0; by_index = (b, ks, k, _, _, _, R.book_in, H, due-shift N F c.in-Shift.is) }
+pub shift-requires-clause-by_index : goal.shift-requires-clause-by_index
+shift-requires-clause-by_index c = let (b, ks, k, R, H, F, N) = c.requires.moves_in in
+    (b, ks, k, _, _, _, R.book_in, H, due-shift N F c.in-Shift.is)
 
-pub reduce-requires : goal.reduce-requires
-reduce-requires c = let (b, ks, k, R, H, F, N) = c.requires.moves_in in
-    record { stacks = c.requires.stacks; book_in = (b, ks, k, R.book_in, R.left_in, H, due-reduce N c.in-Reduce.is) }
+pub reduce-requires-clause-book_in : goal.reduce-requires-clause-book_in
+reduce-requires-clause-book_in c = let (b, ks, k, R, H, F, N) = c.requires.moves_in in
+    (b, ks, k, R.book_in, R.left_in, H, due-reduce N c.in-Reduce.is)
 
-pub overflow_cast-result : goal.overflow_cast-result
-overflow_cast-result c = let (e, l) = rows-count c.requires.moves_in.4.config_in in omega (arith, e, l)
+pub returns-in_ok-shift-in-Shift : goal.returns-in_ok-shift-in-Shift
+returns-in_ok-shift-in-Shift c = λ b ks k R H F N.
+    record { tells = (c.in_ok-shift-in-Shift.ensures b ks k _ _ _ R.book_in H (due-shift N F c.in-Shift.is)).tells }
 
-pub returns-in-Shift : goal.returns-in-Shift
-returns-in-Shift c = λ b ks k R H F N.
-    c.shift.ensures b ks k _ _ _ R.book_in H (due-shift N F c.in-Shift.is)
+pub returns-in_err-shift-in-Shift : goal.returns-in_err-shift-in-Shift
+returns-in_err-shift-in-Shift c =
+    let p = err_from_is_err_and c.from_residual.result c.from_residual.ensures.1 in
+    rw (p.1, p.2) (λ b ks k R H F N. record { tells = (c.in_err-shift-in-Shift.ensures b ks k _ _ _ R.book_in H (due-shift N F c.in-Shift.is)).tells })
 
-pub returns-in-Reduce : goal.returns-in-Reduce
-returns-in-Reduce c = λ b ks k R H F N.
-    c.reduce.ensures b ks k R.book_in R.left_in H (due-reduce N c.in-Reduce.is)
+pub returns-in_ok-reduce-in-Reduce : goal.returns-in_ok-reduce-in-Reduce
+returns-in_ok-reduce-in-Reduce c = λ b ks k R H F N.
+    record { tells = (c.in_ok-reduce-in-Reduce.ensures b ks k R.book_in R.left_in H (due-reduce N c.in-Reduce.is)).tells }
+
+pub returns-in_err-reduce-in-Reduce : goal.returns-in_err-reduce-in-Reduce
+returns-in_err-reduce-in-Reduce c =
+    let p = err_from_is_err_and c.from_residual-in_err-reduce-in-Reduce.result c.from_residual-in_err-reduce-in-Reduce.ensures.1 in
+    rw (p.1, p.2) (λ b ks k R H F N. record { tells = (c.in_err-reduce-in-Reduce.ensures b ks k R.book_in R.left_in H (due-reduce N c.in-Reduce.is)).tells })
 
 pub returns-in-Accept : goal.returns-in-Accept
-returns-in-Accept c = λ b ks k R H F N. told_accepted (due-accept N H c.in-Accept.is) refl (rows-count H.config_in).0
+returns-in-Accept c = λ b ks k R H F N. record { tells = due-accept N H c.in-Accept.is }

@@ -1,4 +1,4 @@
-use mathlib.Core.Path.{refl, ◌∙◌}
+use mathlib.Core.Path.{refl}
 use native.Mathlib.Omega.{arith}
 use Rattle.machine.specs.RunningLaws.{run-low, run-moves, run-facing, run-asked, run-set, run_none, run-due, run-stepped}
 use Rattle.machine.proofs.step.step.Goals as goal
@@ -17,7 +17,7 @@ bounds-actions-state c = let (b, ks, R, M, U) = c.requires.run_in in
 
 pub returns-in_default : goal.returns-in_default
 returns-in_default c = λ b ks R M U.
-    run_none R M U c.word-state.ensures c.number-kind.ensures c.action_of-action.ensures c.in_default.is refl refl
+    run_none R M U c.word-state.ensures c.number-kind.ensures c.action_of-action.ensures c.in_default.is
 
 pub set_top-requires : goal.set_top-requires
 set_top-requires c = let L = c.requires.rooms in
@@ -38,23 +38,19 @@ pub overflow_add-at : goal.overflow_add-at
 overflow_add-at c = let (b, ks, R, M, U) = c.requires.run_in in
     omega (arith, (run-low R M U).position_low)
 
-pub advance-requires : goal.advance-requires
-advance-requires c = let L = c.requires.rooms in
-    let (b, ks, R, M, U) = c.requires.run_in in
+pub advance-requires-clause-moves_in : goal.advance-requires-clause-moves_in
+advance-requires-clause-moves_in c = let (b, ks, R, M, U) = c.requires.run_in in
     let s = c.word-state.ensures in
     let k = c.number-kind.ensures in
-    let Q = run-set R M U s k c.set_top.ensures in record {
-      stacks = (L.stacks, c.set_top.auto.inherited ∙ L.cells_long);
-      moves_in = (
-        b,
-        ks,
-        U.at,
-        run-moves R M U,
-        Q.poised,
-        run-facing R M U s k c.number.ensures,
-        run-due R M U s k c.action_of-action.ensures c.in-Due.is c.number.ensures Q,
-      );
-    }
+    let Q = run-set R M U s k c.set_top.ensures in (
+      b,
+      ks,
+      U.at,
+      run-moves R M U,
+      Q.poised,
+      run-facing R M U s k c.number.ensures,
+      run-due R M U s k c.action_of-action.ensures c.in-Due.is c.number.ensures Q,
+    )
 
 pub returns : goal.returns
 returns c = λ b ks R M U.

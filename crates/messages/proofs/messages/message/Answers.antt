@@ -1,9 +1,13 @@
 use mathlib.Core.Path.{◌∙◌}
-use Rattle.grammar.specs.Evaluator.Machine.{evaluate}
-use Rattle.grammar.specs.Engine.{tables_of}
+use Rattle.messages.specs.Pages.{rows_end, page-cleared}
 use Rattle.messages.proofs.messages.message.Goals as goal
 
-pub clear_behind-requires : goal.clear_behind-requires
-clear_behind-requires c = let (b, t) = c.requires.some in
-    let (m, rows, slots) = c.requires.message in
-    ((evaluate b (tables_of b) m.list, c.message_run-outcome.ensures b t m), c.message_run-outcome.auto.rows ∙ rows)
+pub slice_bounds-fill-count : goal.slice_bounds-fill-count
+slice_bounds-fill-count c = rows_end _ _ _ (c.in_ok-count.ensures c.requires.some.0 c.requires.some.1 c.requires.message.0)
+
+pub slice_bounds-fill-start : goal.slice_bounds-fill-start
+slice_bounds-fill-start c = rows_end _ _ _ (c.in_ok-count.ensures c.requires.some.0 c.requires.some.1 c.requires.message.0)
+
+pub returns : goal.returns
+returns c = λ b t m.
+    page-cleared _ _ _ (c.message_run.auto.rows ∙ c.requires.message.1) (c.fill.ensures.after (λ y e. e)) (c.in_ok-count.ensures b t m)

@@ -5,4 +5,4 @@ pub loop-i-init : goal.loop-i-init
 loop-i-init c = packing-start _ _
 
 pub loop-i-preserved : goal.loop-i-preserved
-loop-i-preserved c = packing-turn c.loop-i.invariant c.loop-i-test.true c.requires c.word.ensures
+loop-i-preserved c = packing-turn c.loop-i.invariant c.loop-i-test.true c.requires c.from_le_bytes.ensures

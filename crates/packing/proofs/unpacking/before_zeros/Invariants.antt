@@ -1,10 +1,9 @@
-use Prim.Native.Nat.{◌≤◌}
-use lib.ListN.{length}
-use Rattle.packing.specs.Words.{Zeros}
+use Rattle.std.proofs.Common.{length}
+use Rattle.packing.specs.UnpackingLoops.{Front}
 use Rattle.packing.proofs.unpacking.before_zeros.Given as goal
 
-abbrev pub invariant-loop-end : goal.invariant-loop-end
-invariant-loop-end l = (l.end ≤ length l.words) × Zeros l.words l.end (length l.words)
+abbrev pub invariant-loop-front : goal.invariant-loop-front
+invariant-loop-front l = Front l.words l.rest
 
-abbrev pub decreases-loop-end : goal.decreases-loop-end
-decreases-loop-end l = l.end
+abbrev pub decreases-loop-front : goal.decreases-loop-front
+decreases-loop-front l = length l.rest

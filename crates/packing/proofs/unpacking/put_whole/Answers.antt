@@ -1,7 +1,6 @@
-use Rattle.packing.specs.Words.{bytes_of}
-use Rattle.packing.specs.PlacedLaws.{placed-four}
+use Rattle.std.proofs.Common.{◌∙◌}
+use Rattle.packing.specs.PlacedLaws.{placed-word}
 use Rattle.packing.proofs.unpacking.put_whole.Goals as goal
 
 pub returns : goal.returns
-unfolding bytes_of
-returns c = placed-four c.args.text.now c.args.at c.requires _ _ _ _
+returns c = placed-word c.args.text.now c.copy_from_slice.new.self c.args.at c.args.word (c.copy_from_slice.ensures.after ∙ c.to_le_bytes.ensures)

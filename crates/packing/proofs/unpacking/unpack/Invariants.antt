@@ -1,4 +1,4 @@
-use Prim.Native.Nat.{◌-◌, ◌*◌, ◌≤◌}
+use Prim.Native.Nat.{◌*◌, ◌≤◌}
 use mathlib.Core.Path.{◌≡◌}
 use lib.ListN.{length}
 use Rattle.packing.specs.Words.{Copied}
@@ -6,6 +6,3 @@ use Rattle.packing.proofs.unpacking.unpack.Given as goal
 
 abbrev pub invariant-loop-k : goal.invariant-loop-k
 invariant-loop-k l = (16 * l.k ≤ length l.initial.text) × (length l.text ≡ length l.initial.text) × Copied l.words (4 * l.k) l.text
-
-abbrev pub decreases-loop-k : goal.decreases-loop-k
-decreases-loop-k l = length l.initial.text - 16 * l.k

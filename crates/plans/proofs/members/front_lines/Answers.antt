@@ -1,24 +1,18 @@
 use mathlib.Core.Path.{◌≡◌}
 use native.Mathlib.Omega.{arith}
-use borrow.Author.Rules.{rules}
 use Rattle.plans.specs.Found.{fronts-free}
 use Rattle.plans.proofs.members.front_lines.Goals as goal
 
 pub returns-then-front_free : goal.returns-then-front_free
 returns-then-front_free c = λ b F R begins owned masks L C H e N T P M.
-    fronts-free b F R _ C H P (c.front_free.ensures c.if-front_free.true) (λ i. (c.shared_slice_known-3-1.given i).fits) e M
+    fronts-free b F R _ C H P (c.front_free.ensures c.if-front_free.true) (λ i. (c.type_inv.closures i).fits) e M
 
 pub loop-i-preserved : goal.loop-i-preserved
-loop-i-preserved c = let at = c.loop-i in (
-  omega (arith, c.loop-i-test.true),
-  search rules,
-  λ b F R begins owned masks L C H e N T M.
-      c.front_line.ensures b F R begins owned masks L C H (omega (arith, c.loop-i-test.true, e)) N T
-      (at.invariant.2 b F R begins owned masks L C H e N T M),
-)
+loop-i-preserved c = λ b F R begins owned masks L C H e N T M.
+    c.front_line.ensures b F R begins owned masks L C H (omega (arith, c.loop-i-test.true, e)) N T
+    (c.loop-i.invariant b F R begins owned masks L C H e N T M)
 
 pub returns : goal.returns
 returns c = λ b F R begins owned masks L C H e N T P M.
-    let at = c.loop-i in
-    let end : at.i ≡ c.args.lines = omega (arith, at.invariant.0, c.loop-i-test.false) in
-    rw end at (at.invariant.2 b F R begins owned masks L C H e N T M)
+    let end : c.loop-i.i ≡ c.args.lines = omega arith in
+    rw end at (c.loop-i.invariant b F R begins owned masks L C H e N T M)

@@ -1,7 +1,6 @@
-use Prim.Native.Nat.{ℕ, ◌-◌, ◌≤◌}
+use Prim.Native.Nat.{ℕ}
 use mathlib.Core.Path.{◌≡◌}
 use mathlib.Core.List.{List}
-use lib.ListN.{length}
 use Rattle.grammar.specs.Data.Book.{Book}
 use Rattle.grammar.specs.Automaton.FirstSets.{Sets}
 use Rattle.grammar.specs.Formulas.FormulaCheck as grammar
@@ -12,10 +11,6 @@ use Rattle.plans.specs.Found.{FrontsFound}
 use Rattle.plans.proofs.members.front_lines.Given as goal
 
 abbrev pub invariant-loop-i : goal.invariant-loop-i
-invariant-loop-i l = (l.i ≤ l.lines) × (length l.found ≡ length l.initial.found)
-    × ((b : Book) (F : Sets) (R begins owned masks L : List ℕ) → CheckHeld b l.definitions l.rules owned masks → LooksIn b.rules l.rules L l.closures l.first
+invariant-loop-i l = (b : Book) (F : Sets) (R begins owned masks L : List ℕ) → CheckHeld b l.definitions l.rules owned masks → LooksIn b.rules l.rules L l.closures l.first
     → l.lines ≡ grammar.definitions b → SuffixesIn b.rules F l.nullables begins → ReachesIn b.rules F R l.reaches
-    → FrontsFound b F R l.terminal L 0 l.initial.found → FrontsFound b F R l.terminal L l.i l.found)
-
-abbrev pub decreases-loop-i : goal.decreases-loop-i
-decreases-loop-i l = l.lines - l.i
+    → FrontsFound b F R l.terminal L 0 l.initial.found → FrontsFound b F R l.terminal L l.i l.found

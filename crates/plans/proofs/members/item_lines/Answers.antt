@@ -18,9 +18,9 @@ returns-then-word-place c =
     let at = c.loop-line in
     record {
       line = at.line;
-      adding = at.invariant.1;
-      high = at.invariant.0;
-      each = at.invariant.2 b rules owned masks H e;
+      adding = at.invariant.0;
+      high = omega (arith, c.loop-line.auto.line-end);
+      each = at.invariant.1 b rules owned masks H e;
       ended = λ l z.
           let m : at.line < grammar.definitions b = omega (arith, l, e) in
           c.if-word-place.true (omega (arith, place_is H m c.word.ensures c.word-in-loop-line.ensures, z, c.word-in-loop-line.ensures, position_low H m));
@@ -30,11 +30,10 @@ pub loop-line-preserved : goal.loop-line-preserved
 loop-line-preserved c =
     let few : c.loop-line.line < 128 = omega (arith, (there (goal.at.loop-line-preserved c).In-loop-line), c.requires.0.4.premises.definitions_limit) in
     let at = c.loop-line in (
-      omega (arith, c.loop-line-test.true),
-      adding-more at.invariant.1 (few) c.add.ensures,
+      adding-more at.invariant.0 few c.add.ensures,
       λ b rules owned masks H e.
           let m : at.line < grammar.definitions b = omega (arith, c.loop-line-test.true, e) in
-          each_more b (at.invariant.2 b rules owned masks H e)
+          each_more b (at.invariant.1 b rules owned masks H e)
           (omega (arith, place_is H m c.word.ensures c.word-in-loop-line.ensures, c.word-in-loop-line.ensures, position_low H m, c.if-word-place.false)),
     )
 
@@ -44,8 +43,8 @@ returns c =
     let at = c.loop-line in
     record {
       line = at.line;
-      adding = at.invariant.1;
-      high = at.invariant.0;
-      each = at.invariant.2 b rules owned masks H e;
+      adding = at.invariant.0;
+      high = omega (arith, c.loop-line.auto.line-end);
+      each = at.invariant.1 b rules owned masks H e;
       ended = λ l z. absurd (omega (arith, l, c.loop-line-test.false));
     }

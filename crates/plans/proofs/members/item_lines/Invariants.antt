@@ -1,4 +1,4 @@
-use Prim.Native.Nat.{ℕ, ◌-◌, ◌<◌, ◌≤◌}
+use Prim.Native.Nat.{ℕ, ◌<◌, ◌≤◌}
 use mathlib.Core.Path.{◌≡◌}
 use mathlib.Core.List.{List}
 use Rattle.grammar.specs.Data.Book.{Book}
@@ -9,9 +9,6 @@ use Rattle.plans.specs.DefinitionLines.{item_at}
 use Rattle.plans.proofs.members.item_lines.Given as goal
 
 abbrev pub invariant-loop-line : goal.invariant-loop-line
-invariant-loop-line l = (l.line ≤ l.lines) × Adding l.first l.line l.initial.found l.found
+invariant-loop-line l = Adding l.first l.line l.initial.found l.found
     × ((b : Book) (rules owned masks : List ℕ) → CheckHeld b l.definitions rules owned masks → l.lines ≡ grammar.definitions b
     → (d : ℕ) → l.first ≤ d → d < l.line → item_at b d ≡ l.place)
-
-abbrev pub decreases-loop-line : goal.decreases-loop-line
-decreases-loop-line l = l.lines - l.line

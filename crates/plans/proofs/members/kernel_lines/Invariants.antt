@@ -16,11 +16,8 @@ use Rattle.plans.specs.Found.{FoundIn}
 use Rattle.plans.proofs.members.kernel_lines.Given as goal
 
 abbrev pub invariant-loop-i : goal.invariant-loop-i
-invariant-loop-i l = (l.from ≤ l.i) × (l.i ≤ l.to) × (length l.found ≡ length l.initial.found)
+invariant-loop-i l = (l.from ≤ l.i)
     × ((b : Book) (F : Sets) (R begins rules owned masks : List ℕ) (items : List Core) → Ordered b → CheckHeld b l.definitions rules owned masks
     → l.lines ≡ grammar.definitions b → ItemLinesIn b l.kernels → l.to ≤ length b.kernels → SuffixesIn b.rules F l.nullables begins
     → ReachesIn b.rules F R l.reaches → PlacesIn b 0 l.places → FoundIn b F R l.terminal items l.initial.found
     → FoundIn b F R l.terminal (of_kernels (slice l.i l.to b.kernels) ++ items) l.found)
-
-abbrev pub decreases-loop-i : goal.decreases-loop-i
-decreases-loop-i l = l.i

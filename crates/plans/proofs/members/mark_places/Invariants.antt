@@ -9,9 +9,5 @@ use Rattle.plans.specs.Places.{PlacesIn}
 use Rattle.plans.proofs.members.mark_places.Given as goal
 
 abbrev pub invariant-loop-i : goal.invariant-loop-i
-invariant-loop-i l = (l.i ≤ l.lines) × (length l.places ≡ length l.initial.places)
-    × ((b : Book) (owned masks : List ℕ) → CheckHeld b l.definitions l.rules owned masks → l.lines ≡ grammar.definitions b
-    → 32 + 9 * length b.rules ≤ length l.initial.places → ((k : ℕ) → get_or l.initial.places k 0 ≡ 0) → PlacesIn b l.i l.places)
-
-abbrev pub decreases-loop-i : goal.decreases-loop-i
-decreases-loop-i l = l.i
+invariant-loop-i l = (b : Book) (owned masks : List ℕ) → CheckHeld b l.definitions l.rules owned masks → l.lines ≡ grammar.definitions b
+    → 32 + 9 * length b.rules ≤ length l.initial.places → ((k : ℕ) → get_or l.initial.places k 0 ≡ 0) → PlacesIn b l.i l.places

@@ -4,8 +4,8 @@ use Rattle.plans.specs.PlansLaws.{plan-empty}
 use Rattle.plans.specs.MemoryLaws.{plans-check, told-known, told-empty}
 use Rattle.plans.proofs.memory.planned.Goals as goal
 
-pub returns-then-known-ne0 : goal.returns-then-known-ne0
-returns-then-known-ne0 c = λ b H s M. told-known c.requires.1 M s c.if-known-ne0.true
+pub returns-in-Some : goal.returns-in-Some
+returns-in-Some c = λ b H s M. told-known c.requires.1 M s (omega (arith, c.in-Some.ensures))
 
 pub returns-then-found-eq0 : goal.returns-then-found-eq0
 returns-then-found-eq0 c = λ b H l M.

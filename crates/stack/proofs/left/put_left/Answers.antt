@@ -53,7 +53,7 @@ bounds-table-word c =
 pub push_node-requires : goal.push_node-requires
 push_node-requires c = let A = c.requires.left_asked.3 in
     let R = c.requires.stacks in
-    let long = c.values-2-1.given in
+    let long = c.node_values.auto.values in
     let putting = left-putting (left-asked A c.word-size.ensures c.word-owner.ensures) long in
     record { stacks = (R.0, putting); reducing = left-reducing A c.word-size.ensures c.word-owner.ensures R.0 R.1 }
 

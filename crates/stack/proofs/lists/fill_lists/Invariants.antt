@@ -1,10 +1,7 @@
-use Prim.Native.Nat.{ℕ, ◌-◌, ◌≤◌}
+use Prim.Native.Nat.{ℕ}
 use mathlib.Core.List.{List}
 use Rattle.stack.specs.Lists.{Listable, ListsBelow}
 use Rattle.stack.proofs.lists.fill_lists.Given as goal
 
 abbrev pub invariant-loop-i : goal.invariant-loop-i
-invariant-loop-i l = (l.i ≤ l.count) × ((room : ℕ) → (os : List ℕ) → Listable room os l.owners l.count → ListsBelow os l.i l.lists)
-
-abbrev pub decreases-loop-i : goal.decreases-loop-i
-decreases-loop-i l = l.count - l.i
+invariant-loop-i l = (room : ℕ) → (os : List ℕ) → Listable room os l.owners l.count → ListsBelow os l.i l.lists

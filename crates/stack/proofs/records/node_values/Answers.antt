@@ -1,7 +1,7 @@
 use Prim.Native.Nat.{◌+◌, ◌<◌}
-use mathlib.Core.Path.{◌≡◌, ◌∙◌}
+use mathlib.Core.Path.{◌≡◌}
 use native.Mathlib.Omega.{arith}
-use lib.ListN.{get_or, length-set}
+use lib.ListN.{get_or}
 use Rattle.stack.specs.Spans.{line_count}
 use Rattle.stack.specs.LeftLines.{line_in, lines-few, left-none, left-turn, left_end}
 use Rattle.stack.specs.NodeValues.{LineOf}
@@ -18,7 +18,7 @@ line_is : (c : In-loop-i) → c.word-first.result + c.loop-i.i ≡ get_or c.args
 line_is c = omega (arith, c.word-first.ensures)
 
 pub loop-i-init : goal.loop-i-init
-loop-i-init c = (omega arith, c.requires.room.2, λ b A. left-none A _)
+loop-i-init c = λ b A. left-none A _
 
 pub value-requires : goal.value-requires
 value-requires c =
@@ -28,18 +28,17 @@ value-requires c =
 
 pub bounds-values-i : goal.bounds-values-i
 bounds-values-i c =
-    omega (arith, (room (goal.at.bounds-values-i c).In-loop-i), c.loop-i.invariant.1)
+    omega (arith, (room (goal.at.bounds-values-i c).In-loop-i), c.loop-i.auto.values, c.requires.room.2)
 
 pub loop-i-preserved : goal.loop-i-preserved
 loop-i-preserved c =
     let here = (goal.at.loop-i-preserved c).In-loop-i in
-    let at = c.loop-i in (
-      omega (arith, (turn here)),
-      length-set at.values at.i c.value.result ∙ at.invariant.1,
-      λ b A. left-turn A at.values (turn here) (omega (arith, (room here), at.invariant.1)) (line_is here) (at.invariant.2 b A) c.value.ensures,
-    )
+    let at = c.loop-i in
+    λ b A.
+    left-turn A at.values (turn here) (omega (arith, (room here), at.auto.values, c.requires.room.2)) (line_is here) (at.invariant b A)
+    c.value.ensures
 
 pub returns : goal.returns
 returns c = let end : c.loop-i.i ≡ line_count c.args.spans.now c.args.rule =
-    omega (arith, c.loop-i.invariant.0, c.loop-i-test.false, c.word.ensures, c.word-first.ensures) in
-    λ b A. left_end A c.loop-i.values (rw end at (c.loop-i.invariant.2 b A))
+    omega (arith, c.loop-i.auto.i-end, c.loop-i-test.false, c.word.ensures, c.word-first.ensures) in
+    λ b A. left_end A c.loop-i.values (rw end at (c.loop-i.invariant b A))

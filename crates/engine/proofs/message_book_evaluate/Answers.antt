@@ -1,0 +1,11 @@
+use Rattle.book.specs.Refusals.{answer_of}
+use Rattle.attempts.specs.Evaluations.{count_of}
+use Rattle.engine.proofs.message_book_evaluate.Goals as goal
+
+pub returns-in-Ok : goal.returns-in-Ok
+unfolding answer_of count_of
+returns-in-Ok c = c.in-Ok.ensures
+
+pub returns-in-Err : goal.returns-in-Err
+unfolding answer_of count_of
+returns-in-Err c = rw c.number.ensures c.in-Err.ensures

@@ -5,6 +5,7 @@ pub mod EnterLaws
 pub mod Given
 pub mod Givers
 pub mod OneFormula
+pub mod Over
 pub mod PassLaws
 pub mod PassesLaws
 pub mod Progress

@@ -125,6 +125,9 @@ module _ {b : Book} {definitions rules owned masks : List ℕ} (H : CheckHeld b 
         same-room : length nexts' ≡ length nexts
         same-room = omega (arith, F.grown.long, F.table.table_long, R.table_in.table_long)
 
+        pub formed-room : (length new ≡ length table) × (length heads' ≡ length heads) × (length nexts' ≡ length nexts)
+        formed-room = (F.grown.long, omega (arith, F.table.heads_long, R.table_in.heads_long), same-room)
+
         pub formed-progress : ProgressIn slots (set done d true) words (set marks d 1) new heads' nexts' (record p { used = more; count = p.count + 1 })
         formed-progress = record {
           table_in = F.table;

@@ -12,10 +12,13 @@ ghost use Rattle.grammar.specs.Formulas.Passes as fixpoint;
 ghost use Rattle.grammar.specs.Formulas.Passes.{visits};
 ghost use Rattle.formulas.specs.Meaning.{Means};
 ghost use Rattle.attributes.specs.Skips.{Skips};
-ghost use Rattle.attributes.specs.Checking.{member_in, member_of, CheckHeld};
-ghost use Rattle.agreement.specs.Progress.{ProgressIn, Reached, Room};
+ghost use Rattle.attributes.specs.Checking.{member_in, member_of};
+ghost use Rattle.agreement.specs.Over.{CheckOver, ProgressOver, ReachedOver, RoomOver, RoomKept};
+ghost use Rattle.agreement.specs.Progress.{ProgressIn, Reached};
 
 use super::alike::alike;
+use super::parts::Parts;
+use super::work::Work;
 use attributes::due::due;
 use attributes::skips::skip;
 use formulas::formulas::formula_of;
@@ -53,89 +56,72 @@ fn enter(slots: &mut [u32], attribute: u32, number: u32, p: Progress) -> Option<
 
 // One definition: nothing if it is done or not due, else its formula is interned and entered.
 fn visit(
-    definitions: &[u32],
+    parts: &Parts<'_>,
     line: usize,
     wanted: u32,
-    masks: &[u32],
-    rules: &[u32],
-    owned: &[u32],
-    slots: &mut [u32],
-    done: &mut [u8],
-    table: &mut [u32],
-    heads: &mut [u32],
-    nexts: &mut [u32],
+    work: &mut Work<'_>,
     p: Progress,
 ) -> Option<Progress>
-    requires { ((b : Book) × (s : Slots) × (d : List Bool) × CheckHeld b definitions.now rules.now owned.now masks.now
+    requires { ((b : Book) × (s : Slots) × (d : List Bool) × CheckOver b parts.now
         × (line < grammar.definitions b)
-        × ProgressIn s d slots.old done.old table.old heads.old nexts.old p)
-        × (MAX_NODES * suc line ≤ length nexts.old) }
-    ensures { (b : Book) (s : Slots) (d : List Bool)
-        → CheckHeld b definitions.now rules.now owned.now masks.now
+        × ProgressOver s d work.old p)
+        × (MAX_NODES * suc line ≤ length work.old.nodes.nexts.now) }
+    ensures room { RoomKept work.old work.new }
+    ensures reached { (b : Book) (s : Slots) (d : List Bool)
+        → CheckOver b parts.now
         → line < grammar.definitions b
-        → ProgressIn s d slots.old done.old table.old heads.old nexts.old p
-        → Reached slots.new done.new table.new heads.new nexts.new result (grammar.visit b (member_in masks.now wanted) line (progress s d)) }
+        → ProgressOver s d work.old p
+        → ReachedOver work.new result (grammar.visit b (member_in parts.now.masks.now wanted) line (progress s d)) }
 {
-    if done[line] != 0 {
+    if work.done[line] != 0 {
         return Some(p);
     }
-    if !due(definitions, line, wanted, masks, rules, owned, p.known) {
+    let definitions = parts.definitions;
+    if !due(
+        definitions,
+        line,
+        wanted,
+        parts.masks,
+        parts.rules,
+        parts.owned,
+        p.known,
+    ) {
         return Some(p);
     }
     let dot = definitions[49 * line + 1] - 1;
     let attribute = definitions[49 * line + 2];
-    let r = formula_of(definitions, line, dot, slots, table, heads, nexts, p.used);
-    done[line] = 1;
+    let r = formula_of(definitions, line, dot, &work.slots, &mut work.nodes, p.used);
+    work.done[line] = 1;
     let formed = Progress {
         used: r.used,
         count: p.count + 1,
         ..p
     };
-    enter(slots, attribute, r.number, formed)
+    enter(&mut work.slots, attribute, r.number, formed)
 }
 
 // One pass over the definitions whose items have a terminal that is wanted, each found by `skips` from the one before, up to a split.
 fn pass(
-    definitions: &[u32],
-    lines: usize,
+    parts: &Parts<'_>,
     wanted: u32,
     skips: &[u8],
-    masks: &[u32],
-    rules: &[u32],
-    owned: &[u32],
-    slots: &mut [u32],
-    done: &mut [u8],
-    table: &mut [u32],
-    heads: &mut [u32],
-    nexts: &mut [u32],
+    work: &mut Work<'_>,
     mut p: Progress,
 ) -> Option<Progress>
-    requires { ((b : Book) × (s : Slots) × (d : List Bool) × CheckHeld b definitions.now rules.now owned.now masks.now
-        × (lines ≡ grammar.definitions b)
-        × ProgressIn s d slots.old done.old table.old heads.old nexts.old p)
-        × Skips definitions.now masks.now wanted lines skips.now × (MAX_NODES * lines ≤ length nexts.old) }
-    ensures { (b : Book) (s : Slots) (d : List Bool)
-        → CheckHeld b definitions.now rules.now owned.now masks.now
-        → lines ≡ grammar.definitions b
-        → ProgressIn s d slots.old done.old table.old heads.old nexts.old p
-        → Reached slots.new done.new table.new heads.new nexts.new result (visits (grammar.visit b (member_in masks.now wanted)) lines (progress s d)) }
+    requires { ((b : Book) × (s : Slots) × (d : List Bool) × CheckOver b parts.now
+        × (parts.now.lines ≡ grammar.definitions b)
+        × ProgressOver s d work.old p)
+        × Skips parts.now.definitions.now parts.now.masks.now wanted parts.now.lines skips.now × (MAX_NODES * parts.now.lines ≤ length work.old.nodes.nexts.now) }
+    ensures room { RoomKept work.old work.new }
+    ensures reached { (b : Book) (s : Slots) (d : List Bool)
+        → CheckOver b parts.now
+        → parts.now.lines ≡ grammar.definitions b
+        → ProgressOver s d work.old p
+        → ReachedOver work.new result (visits (grammar.visit b (member_in parts.now.masks.now wanted)) parts.now.lines (progress s d)) }
 {
     let mut i = skips[0] as usize;
-    while i < lines {
-        p = visit(
-            definitions,
-            i,
-            wanted,
-            masks,
-            rules,
-            owned,
-            slots,
-            done,
-            table,
-            heads,
-            nexts,
-            p,
-        )?;
+    while i < parts.lines {
+        p = visit(parts, i, wanted, work, p)?;
         i = skips[i + 1] as usize;
     }
     Some(p)
@@ -143,45 +129,24 @@ fn pass(
 
 // Passes until one does nothing more, or two formulas of one attribute differ.
 fn passes(
-    definitions: &[u32],
-    lines: usize,
+    parts: &Parts<'_>,
     wanted: u32,
     skips: &[u8],
-    masks: &[u32],
-    rules: &[u32],
-    owned: &[u32],
-    slots: &mut [u32],
-    done: &mut [u8],
-    table: &mut [u32],
-    heads: &mut [u32],
-    nexts: &mut [u32],
+    work: &mut Work<'_>,
     mut p: Progress,
 ) -> bool
-    requires { ((b : Book) × (s : Slots) × (d : List Bool) × CheckHeld b definitions.now rules.now owned.now masks.now
-        × (lines ≡ grammar.definitions b)
-        × ProgressIn s d slots.old done.old table.old heads.old nexts.old p)
-        × Skips definitions.now masks.now wanted lines skips.now × (MAX_NODES * lines ≤ length nexts.old) }
-    ensures { (b : Book) (s : Slots) (d : List Bool)
-        → CheckHeld b definitions.now rules.now owned.now masks.now
-        → lines ≡ grammar.definitions b
-        → ProgressIn s d slots.old done.old table.old heads.old nexts.old p
-        → result ≡ unsplit (fixpoint.passes (grammar.visit b (member_in masks.now wanted)) advance (grammar.definitions b) (progress s d)) }
+    requires { ((b : Book) × (s : Slots) × (d : List Bool) × CheckOver b parts.now
+        × (parts.now.lines ≡ grammar.definitions b)
+        × ProgressOver s d work.old p)
+        × Skips parts.now.definitions.now parts.now.masks.now wanted parts.now.lines skips.now × (MAX_NODES * parts.now.lines ≤ length work.old.nodes.nexts.now) }
+    ensures room { RoomKept work.old work.new }
+    ensures answer { (b : Book) (s : Slots) (d : List Bool)
+        → CheckOver b parts.now
+        → parts.now.lines ≡ grammar.definitions b
+        → ProgressOver s d work.old p
+        → result ≡ unsplit (fixpoint.passes (grammar.visit b (member_in parts.now.masks.now wanted)) advance (grammar.definitions b) (progress s d)) }
 {
-    while let Some(next) = pass(
-        definitions,
-        lines,
-        wanted,
-        skips,
-        masks,
-        rules,
-        owned,
-        slots,
-        done,
-        table,
-        heads,
-        nexts,
-        p,
-    ) {
+    while let Some(next) = pass(parts, wanted, skips, work, p) {
         if next.count == p.count {
             return true;
         }
@@ -191,144 +156,67 @@ fn passes(
 }
 
 // 10, of the items whose sets have a terminal that is wanted.
-fn check(
-    definitions: &[u32],
-    lines: usize,
-    wanted: u32,
-    masks: &[u32],
-    rules: &[u32],
-    owned: &[u32],
-    slots: &mut [u32],
-    done: &mut [u8],
-    table: &mut [u32],
-    heads: &mut [u32],
-    nexts: &mut [u32],
-) -> bool
-    requires { ((b : Book) × CheckHeld b definitions.now rules.now owned.now masks.now × (lines ≡ grammar.definitions b))
-        × Room lines slots.old done.old table.old heads.old nexts.old }
-    ensures { (b : Book) → CheckHeld b definitions.now rules.now owned.now masks.now
-        → lines ≡ grammar.definitions b → result ≡ grammar.check b (member_in masks.now wanted) }
+fn check(parts: &Parts<'_>, wanted: u32, work: &mut Work<'_>) -> bool
+    requires { ((b : Book) × CheckOver b parts.now × (parts.now.lines ≡ grammar.definitions b))
+        × RoomOver parts.now.lines work.old }
+    ensures room { RoomKept work.old work.new }
+    ensures answer { (b : Book) → CheckOver b parts.now
+        → parts.now.lines ≡ grammar.definitions b → result ≡ grammar.check b (member_in parts.now.masks.now wanted) }
 {
     let mut skips = [0u8; 129];
-    skip(definitions, lines, masks, wanted, &mut skips);
-    slots.fill(0);
-    done.fill(0);
+    skip(
+        parts.definitions,
+        parts.lines,
+        parts.masks,
+        wanted,
+        &mut skips,
+    );
+    work.slots.fill(0);
+    work.done.fill(0);
     // A table of no nodes; its rows need not be cleared.
-    heads.fill(0);
+    work.nodes.heads.fill(0);
     let p = Progress {
         used: 0,
         known: 0,
         count: 0,
     };
-    passes(
-        definitions,
-        lines,
-        wanted,
-        &skips,
-        masks,
-        rules,
-        owned,
-        slots,
-        done,
-        table,
-        heads,
-        nexts,
-        p,
-    )
+    passes(parts, wanted, &skips, work, p)
 }
 
 // 10, of the partial states of one state: of those with the same items, the first is checked.
-fn parts_right(
-    definitions: &[u32],
-    lines: usize,
-    terminals: u32,
-    masks: &[u32],
-    rules: &[u32],
-    owned: &[u32],
-    slots: &mut [u32],
-    done: &mut [u8],
-    table: &mut [u32],
-    heads: &mut [u32],
-    nexts: &mut [u32],
-) -> bool
-    requires { ((b : Book) × CheckHeld b definitions.now rules.now owned.now masks.now × (lines ≡ grammar.definitions b))
-        × (terminals < 32) × Room lines slots.old done.old table.old heads.old nexts.old }
-    ensures { (b : Book) → CheckHeld b definitions.now rules.now owned.now masks.now
-        → lines ≡ grammar.definitions b → terminals ≡ b.terminals
-        → result ≡ all_below (suc b.terminals) (λ a. grammar.check b (member_of masks.now a)) }
+fn parts_right(parts: &Parts<'_>, work: &mut Work<'_>) -> bool
+    requires { ((b : Book) × CheckOver b parts.now × (parts.now.lines ≡ grammar.definitions b))
+        × (parts.now.terminals < 32) × RoomOver parts.now.lines work.old }
+    ensures room { RoomKept work.old work.new }
+    ensures answer { (b : Book) → CheckOver b parts.now
+        → parts.now.lines ≡ grammar.definitions b → parts.now.terminals ≡ b.terminals
+        → result ≡ all_below (suc b.terminals) (λ a. grammar.check b (member_of parts.now.masks.now a)) }
 {
     let mut right = 0u32;
-    for a in 0..terminals + 1 {
+    for a in 0..parts.terminals + 1 {
         if sets::has(right, a) {
             continue;
         }
-        if !check(
-            definitions,
-            lines,
-            sets::single(a),
-            masks,
-            rules,
-            owned,
-            slots,
-            done,
-            table,
-            heads,
-            nexts,
-        ) {
+        if !check(parts, sets::single(a), work) {
             return false;
         }
-        let more = alike(definitions, lines, a, masks);
+        let more = alike(parts.definitions, parts.lines, a, parts.masks);
         right = sets::union(right, more);
     }
     true
 }
 
 // 10, of the partial states of one state: if all of its items together give one formula, so do those of each partial state.
-pub fn check_state(
-    definitions: &[u32],
-    lines: usize,
-    terminals: u32,
-    masks: &[u32],
-    rules: &[u32],
-    owned: &[u32],
-    slots: &mut [u32],
-    done: &mut [u8],
-    table: &mut [u32],
-    heads: &mut [u32],
-    nexts: &mut [u32],
-) -> bool
-    requires { ((b : Book) × CheckHeld b definitions.now rules.now owned.now masks.now × (lines ≡ grammar.definitions b))
-        × (terminals < 32) × Room lines slots.old done.old table.old heads.old nexts.old }
-    ensures { (b : Book) → CheckHeld b definitions.now rules.now owned.now masks.now
-        → lines ≡ grammar.definitions b → terminals ≡ b.terminals
-        → result ≡ all_below (suc b.terminals) (λ a. grammar.check b (member_of masks.now a)) }
+pub fn check_state(parts: &Parts<'_>, work: &mut Work<'_>) -> bool
+    requires { ((b : Book) × CheckOver b parts.now × (parts.now.lines ≡ grammar.definitions b))
+        × (parts.now.terminals < 32) × RoomOver parts.now.lines work.old }
+    ensures room { RoomKept work.old work.new }
+    ensures answer { (b : Book) → CheckOver b parts.now
+        → parts.now.lines ≡ grammar.definitions b → parts.now.terminals ≡ b.terminals
+        → result ≡ all_below (suc b.terminals) (λ a. grammar.check b (member_of parts.now.masks.now a)) }
 {
-    if check(
-        definitions,
-        lines,
-        ALL,
-        masks,
-        rules,
-        owned,
-        slots,
-        done,
-        table,
-        heads,
-        nexts,
-    ) {
+    if check(parts, ALL, work) {
         return true;
     }
-    parts_right(
-        definitions,
-        lines,
-        terminals,
-        masks,
-        rules,
-        owned,
-        slots,
-        done,
-        table,
-        heads,
-        nexts,
-    )
+    parts_right(parts, work)
 }

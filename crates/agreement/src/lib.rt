@@ -5,4 +5,6 @@ pub mod alike;
 pub mod check;
 pub mod givers;
 pub mod one_formula;
+pub mod parts;
 pub mod single;
+pub mod work;

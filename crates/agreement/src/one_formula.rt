@@ -4,139 +4,73 @@ ghost use Rattle.std.specs.Prelude.{◌≡◌, List, ℕ, ◌*◌, ◌<◌, ◌�
 ghost use Rattle.grammar.specs.Limits.{MAX_INHERITED};
 ghost use Rattle.grammar.specs.Conditions.Decides.{all_below};
 ghost use Rattle.grammar.specs.Data.Book.{Book};
-ghost use Rattle.grammar.specs.Formulas.Slots.{attributes};
 ghost use Rattle.grammar.specs.Formulas.FormulaCheck as grammar;
 ghost use Rattle.book.specs.Held.{OwnersIn};
-ghost use Rattle.attributes.specs.Owned.{OwnedIn};
-ghost use Rattle.agreement.specs.Progress.{NodesRoom, Room};
+ghost use Rattle.agreement.specs.Progress.{NodesRoom};
 ghost use Rattle.agreement.specs.Given.{GivenIn};
 ghost use Rattle.agreement.specs.OneFormula.{FrontsHeld, state_right, formulas_right};
+ghost use Rattle.agreement.specs.Over.{FrontsOver, OwnedOver, GivenOver, RoomOver, RoomKept};
 
 use super::check::check_state;
+use super::parts::{AllStates, Parts};
 use super::single::single;
+use super::work::Work;
 use attributes::masks::masks;
 use attributes::owned::owned;
+use formulas::table::Nodes;
 
 // 10, of the partial states of one state: nothing if each attribute is given once there, else their items, then the check.
-fn state_right(
-    rules: &[u32],
-    count: u32,
-    definitions: &[u32],
-    lines: u32,
-    owned: &[u32],
-    given: &[u32],
-    leaders: u64,
-    kernels: &[u32],
-    bounds: &[u32],
-    closures: &[u32],
-    fronts: &[u64],
-    nullables: &[u32],
-    reaches: &[u32],
-    terminals: u32,
-    state: usize,
-    sets: &mut [u32],
-    slots: &mut [u32],
-    done: &mut [u8],
-    table: &mut [u32],
-    heads: &mut [u32],
-    nexts: &mut [u32],
-) -> bool
-    requires { ((b : Book) × (begins : List ℕ) × (states : ℕ) × FrontsHeld b rules.now count definitions.now lines kernels.now bounds.now
-        closures.now fronts.now nullables.now begins reaches.now terminals states × OwnedIn b.inherited_owners (attributes b) owned.now
-        × GivenIn b (grammar.definitions b) given.now leaders × (state < states))
-        × (9 * count ≤ length sets.old) × Room lines slots.old done.old table.old heads.old nexts.old }
-    ensures { (b : Book) (begins : List ℕ) (states : ℕ) → FrontsHeld b rules.now count definitions.now lines
-        kernels.now bounds.now closures.now fronts.now nullables.now begins reaches.now
-        terminals states → OwnedIn b.inherited_owners (attributes b) owned.now → GivenIn b (grammar.definitions b) given.now leaders
-        → state < states → result ≡ state_right b state }
+fn state_right(all: &AllStates<'_>, state: usize, sets: &mut [u32], work: &mut Work<'_>) -> bool
+    requires { ((b : Book) × (begins : List ℕ) × FrontsOver b begins all.now × OwnedOver b all.now × GivenOver b all.now
+        × (state < all.now.states))
+        × (9 * all.now.count ≤ length sets.old) × RoomOver all.now.lines work.old }
+    ensures room { RoomKept work.old work.new }
+    ensures answer { (b : Book) (begins : List ℕ) → FrontsOver b begins all.now → OwnedOver b all.now → GivenOver b all.now
+        → state < all.now.states → result ≡ state_right b state }
 {
-    if single(kernels, bounds, fronts, state, given, leaders) {
+    if single(
+        all.kernels,
+        all.bounds,
+        all.fronts,
+        state,
+        all.given,
+        all.leaders,
+    ) {
         return true;
     }
     masks(
-        definitions,
-        lines as usize,
-        rules,
-        kernels,
-        bounds,
-        closures,
-        nullables,
-        reaches,
+        all.definitions,
+        all.lines as usize,
+        all.rules,
+        all.kernels,
+        all.bounds,
+        all.closures,
+        all.nullables,
+        all.reaches,
         state,
         sets,
     );
-    check_state(
-        definitions,
-        lines as usize,
-        terminals,
-        sets,
-        rules,
-        owned,
-        slots,
-        done,
-        table,
-        heads,
-        nexts,
-    )
+    let parts = Parts {
+        definitions: all.definitions,
+        lines: all.lines as usize,
+        rules: all.rules,
+        owned: all.owned,
+        masks: sets,
+        terminals: all.terminals,
+    };
+    check_state(&parts, work)
 }
 
 // 10, of all states.
-fn states_right(
-    rules: &[u32],
-    count: u32,
-    definitions: &[u32],
-    lines: u32,
-    owned: &[u32],
-    given: &[u32],
-    leaders: u64,
-    kernels: &[u32],
-    bounds: &[u32],
-    closures: &[u32],
-    fronts: &[u64],
-    nullables: &[u32],
-    reaches: &[u32],
-    terminals: u32,
-    states: u32,
-    sets: &mut [u32],
-    slots: &mut [u32],
-    done: &mut [u8],
-    table: &mut [u32],
-    heads: &mut [u32],
-    nexts: &mut [u32],
-) -> bool
-    requires { ((b : Book) × (begins : List ℕ) × FrontsHeld b rules.now count definitions.now lines kernels.now bounds.now closures.now
-        fronts.now nullables.now begins reaches.now terminals states × OwnedIn b.inherited_owners (attributes b) owned.now
-        × GivenIn b (grammar.definitions b) given.now leaders)
-        × (9 * count ≤ length sets.old) × Room lines slots.old done.old table.old heads.old nexts.old }
-    ensures { (b : Book) (begins : List ℕ) → FrontsHeld b rules.now count definitions.now lines kernels.now
-        bounds.now closures.now fronts.now nullables.now begins reaches.now terminals states
-        → OwnedIn b.inherited_owners (attributes b) owned.now → GivenIn b (grammar.definitions b) given.now leaders
+fn states_right(all: &AllStates<'_>, sets: &mut [u32], work: &mut Work<'_>) -> bool
+    requires { ((b : Book) × (begins : List ℕ) × FrontsOver b begins all.now × OwnedOver b all.now × GivenOver b all.now)
+        × (9 * all.now.count ≤ length sets.old) × RoomOver all.now.lines work.old }
+    ensures room { RoomKept work.old work.new }
+    ensures answer { (b : Book) (begins : List ℕ) → FrontsOver b begins all.now → OwnedOver b all.now → GivenOver b all.now
         → result ≡ all_below b.states (state_right b) }
 {
-    for state in 0..states as usize {
-        if !state_right(
-            rules,
-            count,
-            definitions,
-            lines,
-            owned,
-            given,
-            leaders,
-            kernels,
-            bounds,
-            closures,
-            fronts,
-            nullables,
-            reaches,
-            terminals,
-            state,
-            sets,
-            slots,
-            done,
-            table,
-            heads,
-            nexts,
-        ) {
+    for state in 0..all.states as usize {
+        if !state_right(all, state, sets, work) {
             return false;
         }
     }
@@ -175,15 +109,13 @@ pub fn one_formula(
     let mut own = [0u32; 32];
     owned(owners, attributes as usize, &mut own);
     let mut sets = [0u32; 576];
-    let mut slots = [0u32; 16];
-    let mut done = [0u8; 128];
     let mut heads = [0u32; 64];
-    states_right(
+    let all = AllStates {
         rules,
         count,
         definitions,
         lines,
-        &own,
+        owned: &own,
         given,
         leaders,
         kernels,
@@ -194,11 +126,16 @@ pub fn one_formula(
         reaches,
         terminals,
         states,
-        &mut sets,
-        &mut slots,
-        &mut done,
-        table,
-        &mut heads,
+    };
+    let nodes = Nodes {
+        rows: table,
+        heads: &mut heads,
         nexts,
-    )
+    };
+    let mut work = Work {
+        slots: [0; 16],
+        done: [0; 128],
+        nodes,
+    };
+    states_right(&all, &mut sets, &mut work)
 }

@@ -1,5 +1,6 @@
 // A message under a stored book, by arrays that have room for the book.
-// `short` and `long` are one function but for the sizes: no array's length can be computed from a const parameter, and one for each array is no plainer.
+// `short` and `long` are one function but for the sizes: an array's length cannot be computed from a const parameter, and a parameter for each is no plainer.
+// `long` is called in two places, so that compilers keep its frame apart from that of short books.
 ghost use Rattle.std.specs.Prelude.{◌≡◌, ◌≤◌, length, IfSome};
 ghost use Rattle.grammar.specs.Limits.{BOOK_WORDS};
 ghost use Rattle.grammar.specs.Engine.{evaluate_words};
@@ -14,6 +15,8 @@ use attempts::rooms::{
 };
 use book::refusal::Refusal;
 use book::{Book, Room};
+use compiler::book_lines::BookLines;
+use compiler::tables::Tables;
 use definitions::definitions::WORDS;
 use packing::unpacking::{text_length, unpack};
 
@@ -37,22 +40,32 @@ fn short(words: &[u32], n: usize, tokens: &[u32], rows: &mut [u32]) -> Option<Re
     let mut fronts = [0u64; SHORT_STATES];
     let mut table = [255u8; 64 * SHORT_STATES];
     let mut actions = [0u8; 32 * SHORT_STATES];
+    let mut inherited = [0u32; Book::MAX_INHERITED as usize];
+    let mut synthesized = [0u32; Book::MAX_SYNTHESIZED as usize];
+    let mut lines = BookLines {
+        inherited: &mut inherited,
+        synthesized: &mut synthesized,
+        rules: &mut rules,
+        definitions: &mut definitions,
+        kernels: &mut kernels,
+        goes: &mut goes,
+    };
+    let mut tables = Tables {
+        nullables: &mut nullables,
+        begins: &mut begins,
+        reaches: &mut reaches,
+        bounds: &mut bounds,
+        closures: &mut closures,
+        fronts: &mut fronts,
+        table: &mut table,
+        actions: &mut actions,
+    };
     attempt(
         &mut text,
         n,
         short_room(),
-        &mut rules,
-        &mut definitions,
-        &mut kernels,
-        &mut goes,
-        &mut nullables,
-        &mut begins,
-        &mut reaches,
-        &mut bounds,
-        &mut closures,
-        &mut fronts,
-        &mut table,
-        &mut actions,
+        &mut lines,
+        &mut tables,
         tokens,
         rows,
     )
@@ -77,22 +90,32 @@ fn long(words: &[u32], n: usize, tokens: &[u32], rows: &mut [u32]) -> Result<u32
     let mut reaches = [0u32; 9 * Book::MAX_RULES as usize];
     let mut rules = [0u32; 10 * Book::MAX_RULES as usize];
     let mut definitions = [0u32; WORDS * Book::MAX_DEFINITIONS as usize];
+    let mut inherited = [0u32; Book::MAX_INHERITED as usize];
+    let mut synthesized = [0u32; Book::MAX_SYNTHESIZED as usize];
+    let mut lines = BookLines {
+        inherited: &mut inherited,
+        synthesized: &mut synthesized,
+        rules: &mut rules,
+        definitions: &mut definitions,
+        kernels: &mut kernels,
+        goes: &mut goes,
+    };
+    let mut tables = Tables {
+        nullables: &mut nullables,
+        begins: &mut begins,
+        reaches: &mut reaches,
+        bounds: &mut bounds,
+        closures: &mut closures,
+        fronts: &mut fronts,
+        table: &mut table,
+        actions: &mut actions,
+    };
     let Some(answer) = attempt(
         &mut text,
         n,
         Room::full(),
-        &mut rules,
-        &mut definitions,
-        &mut kernels,
-        &mut goes,
-        &mut nullables,
-        &mut begins,
-        &mut reaches,
-        &mut bounds,
-        &mut closures,
-        &mut fronts,
-        &mut table,
-        &mut actions,
+        &mut lines,
+        &mut tables,
         tokens,
         rows,
     ) else {

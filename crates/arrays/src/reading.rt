@@ -1,5 +1,6 @@
 // The refusal of a text, by arrays that have room for its book.
-// `short` and `long` are one function but for the sizes: no array's length can be computed from a const parameter, and one for each array is no plainer.
+// `short` and `long` are one function but for the sizes: an array's length cannot be computed from a const parameter, and a parameter for each is no plainer.
+// `long` is called in two places, so that compilers keep its frame apart from that of short books.
 ghost use Rattle.std.specs.Prelude.{◌≡◌, ◌≤◌, length, IfSome};
 ghost use Rattle.grammar.specs.Limits.{MAX_TEXT, BOOK_WORDS};
 ghost use Rattle.grammar.specs.Refusal.{refusal};
@@ -8,9 +9,14 @@ ghost use Rattle.attempts.specs.Rooms.{SHORT_TEXT};
 
 use super::SHORT_TEXT;
 use attempts::reading::attempt;
-use attempts::rooms::{SHORT_GOES, SHORT_KERNELS, SHORT_RULES, SHORT_STATES, short_room};
+use attempts::rooms::{
+    SHORT_DEFINITIONS, SHORT_GOES, SHORT_KERNELS, SHORT_RULES, SHORT_STATES, short_room,
+};
 use book::refusal::Refusal;
 use book::{Book, Room};
+use compiler::book_lines::BookLines;
+use compiler::tables::Tables;
+use definitions::definitions::WORDS;
 
 // By arrays for a short book.
 fn short(text: &[u8], words: &mut [u32]) -> Option<Result<(), Refusal>>
@@ -28,22 +34,27 @@ fn short(text: &[u8], words: &mut [u32]) -> Option<Result<(), Refusal>>
     let mut fronts = [0u64; SHORT_STATES];
     let mut table = [255u8; 64 * SHORT_STATES];
     let mut actions = [0u8; 32 * SHORT_STATES];
-    attempt(
-        text,
-        short_room(),
-        &mut rules,
-        &mut kernels,
-        &mut goes,
-        &mut nullables,
-        &mut begins,
-        &mut reaches,
-        &mut bounds,
-        &mut closures,
-        &mut fronts,
-        &mut table,
-        &mut actions,
-        words,
-    )
+    let mut inherited = [0u32; Book::MAX_INHERITED as usize];
+    let mut synthesized = [0u32; Book::MAX_SYNTHESIZED as usize];
+    let mut lines = BookLines {
+        inherited: &mut inherited,
+        synthesized: &mut synthesized,
+        rules: &mut rules,
+        definitions: &mut words[..WORDS * SHORT_DEFINITIONS],
+        kernels: &mut kernels,
+        goes: &mut goes,
+    };
+    let mut tables = Tables {
+        nullables: &mut nullables,
+        begins: &mut begins,
+        reaches: &mut reaches,
+        bounds: &mut bounds,
+        closures: &mut closures,
+        fronts: &mut fronts,
+        table: &mut table,
+        actions: &mut actions,
+    };
+    attempt(text, short_room(), &mut lines, &mut tables)
 }
 
 // By arrays for any book. What is used first is made last.
@@ -62,22 +73,27 @@ fn long(text: &[u8], words: &mut [u32]) -> Result<(), Refusal>
     let mut begins = [0u32; 9 * Book::MAX_RULES as usize];
     let mut reaches = [0u32; 9 * Book::MAX_RULES as usize];
     let mut rules = [0u32; 10 * Book::MAX_RULES as usize];
-    let Some(answer) = attempt(
-        text,
-        Room::full(),
-        &mut rules,
-        &mut kernels,
-        &mut goes,
-        &mut nullables,
-        &mut begins,
-        &mut reaches,
-        &mut bounds,
-        &mut closures,
-        &mut fronts,
-        &mut table,
-        &mut actions,
-        words,
-    ) else {
+    let mut inherited = [0u32; Book::MAX_INHERITED as usize];
+    let mut synthesized = [0u32; Book::MAX_SYNTHESIZED as usize];
+    let mut lines = BookLines {
+        inherited: &mut inherited,
+        synthesized: &mut synthesized,
+        rules: &mut rules,
+        definitions: &mut words[..WORDS * Book::MAX_DEFINITIONS as usize],
+        kernels: &mut kernels,
+        goes: &mut goes,
+    };
+    let mut tables = Tables {
+        nullables: &mut nullables,
+        begins: &mut begins,
+        reaches: &mut reaches,
+        bounds: &mut bounds,
+        closures: &mut closures,
+        fronts: &mut fronts,
+        table: &mut table,
+        actions: &mut actions,
+    };
+    let Some(answer) = attempt(text, Room::full(), &mut lines, &mut tables) else {
         unreachable!()
     };
     answer

@@ -11,6 +11,8 @@ use Rattle.book.specs.declared.refusal.Refusal.{Refusal}
 use Rattle.book.specs.declared.refusal.Refusal.TheVariants.{Stored}
 use Rattle.book.specs.Rooms.{full_room}
 use Rattle.conditions.specs.AskedLaws.{counted}
+use Rattle.compiler.specs.declared.book_lines.BookLines.{BookLines}
+use Rattle.compiler.specs.declared.tables.Tables.{Tables}
 use Rattle.compiler.specs.States.{states-enough}
 use Rattle.compiler.specs.Compiling.{Compiles}
 use Rattle.messages.specs.Pages.{Paged}
@@ -25,6 +27,12 @@ pub record Read (room : Room) (n : ℕ) (text : List ℕ) (compiled : Result Boo
   pub found : Found words text n
   pub compiles : Compiles room (take n text) (Some compiled) inherited synthesized rules definitions kernels goes nullables reaches bounds closures
       table actions
+
+-- the same, in the arrays that are lent
+abbrev pub ReadIn : Room → ℕ → List ℕ → Result Book Refusal → BookLines → Tables → Type 0
+ReadIn room n text compiled l t =
+    Read room n text compiled l.inherited.now l.synthesized.now l.rules.now l.definitions.now l.kernels.now l.goes.now t.nullables.now
+    t.reaches.now t.bounds.now t.closures.now t.table.now t.actions.now
 
 -- the answer to a message under the book in such words
 pub record Responds (text : List ℕ) (n : ℕ) (tokens : List ℕ) (lent : ℕ) (answer : Result ℕ Refusal) (rows : List ℕ) : Type 0 where

@@ -1,39 +1,27 @@
 // A text by arrays of a room.
-ghost use Rattle.std.specs.Prelude.{◌≡◌, ◌*◌, ◌≤◌, length, take};
-ghost use Rattle.grammar.specs.Limits.{MAX_TEXT, BOOK_WORDS};
+ghost use Rattle.std.specs.Prelude.{◌*◌, ◌≤◌, length};
+ghost use Rattle.grammar.specs.Limits.{MAX_TEXT};
 ghost use Rattle.definitions.specs.Expressions.{WaitsRoom};
-ghost use Rattle.attempts.specs.Rooms.{ArraysLent};
+ghost use Rattle.attempts.specs.Rooms.{OwnersLent, ArraysIn};
 ghost use Rattle.attempts.specs.Readings.{Attempted};
 
+use book::Room;
 use book::refusal::Refusal;
-use book::{Book, Room};
+use compiler::book_lines::BookLines;
 use compiler::compile::compile;
-use definitions::definitions::WORDS;
+use compiler::tables::Tables;
 use text::classes;
 use text::source::Source;
 
-// The first of 2 to 10 that applies to a text, by arrays of the caller, where they have room for what the text has. What they hold is not looked at again; the
-// words have room for definitions.
+// The first of 2 to 10 that applies to a text, by arrays of the caller, where they have room for what the text has. What they hold is not looked at again.
 pub fn attempt(
     text: &[u8],
     room: Room,
-    rules: &mut [u32],
-    kernels: &mut [u32],
-    goes: &mut [u32],
-    nullables: &mut [u32],
-    begins: &mut [u32],
-    reaches: &mut [u32],
-    bounds: &mut [u32],
-    closures: &mut [u32],
-    fronts: &mut [u64],
-    table: &mut [u8],
-    actions: &mut [u8],
-    words: &mut [u32],
+    lines: &mut BookLines<'_>,
+    tables: &mut Tables<'_>,
 ) -> Option<Result<(), Refusal>>
-    requires { (length text.now ≤ MAX_TEXT) × (length words.old ≡ BOOK_WORDS)
-        × WaitsRoom text.now actions.old × (32 * room.states ≤ length actions.old)
-        × ArraysLent room rules.old (take (49 * room.definitions) words.old) kernels.old goes.old nullables.old begins.old
-        reaches.old bounds.old closures.old fronts.old table.old }
+    requires { (length text.now ≤ MAX_TEXT) × WaitsRoom text.now tables.old.actions.now × (32 * room.states ≤ length tables.old.actions.now)
+        × OwnersLent lines.old × ArraysIn room lines.old tables.old }
     ensures { Attempted room text.now result }
 {
     let classes = classes();
@@ -41,26 +29,6 @@ pub fn attempt(
         classes: &classes,
         bytes: text,
     };
-    let size = WORDS * room.definitions;
-    let mut inherited = [0u32; Book::MAX_INHERITED as usize];
-    let mut synthesized = [0u32; Book::MAX_SYNTHESIZED as usize];
-    let compiled = compile(
-        &source,
-        room,
-        &mut inherited,
-        &mut synthesized,
-        rules,
-        &mut words[..size],
-        kernels,
-        goes,
-        nullables,
-        begins,
-        reaches,
-        bounds,
-        closures,
-        fronts,
-        table,
-        actions,
-    )?;
+    let compiled = compile(&source, room, lines, tables)?;
     Some(compiled.map(|_| ()))
 }

@@ -97,6 +97,7 @@ pub fn owner_lines(source: &Source<'_>, at: usize, kind: Kind, out: &mut [u32]) 
     let letter = kind.letter();
     let room = kind.limit();
     let mut p = at;
+    // The text tells how many there are: a reader's position goes on, and the count is part of the answer.
     let mut k: u32 = 0;
     loop {
         let a = line_head(source, p, &head);

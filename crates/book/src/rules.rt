@@ -26,6 +26,7 @@ fn right_side(source: &Source<'_>, at: usize, out: &mut [u32]) -> Section
 {
     let n = source.bytes.len();
     let mut p = at;
+    // The text tells how many there are: a reader's position goes on, and the count is part of the answer.
     let mut m: u32 = 0;
     loop {
         let a = source.mark(p, text::SPACE);
@@ -104,6 +105,7 @@ pub fn rule_lines(source: &Source<'_>, at: usize, room: usize, out: &mut [u32]) 
         bytes: b"(rule ",
     };
     let mut p = at;
+    // The text tells how many there are: a reader's position goes on, and the count is part of the answer.
     let mut k: u32 = 0;
     loop {
         let a = line_head(source, p, &head);

@@ -1,4 +1,4 @@
-// Numbers of one to three digits, as nearly all are, read by their bytes.
+// Numbers of one to three digits, as nearly all are, read by their bytes: 48 is the digit 0, and 528 and 5328 are what it adds to two and to three digits.
 ghost use Rattle.std.specs.Prelude.{◌+◌, ◌≤◌, IfSome, length};
 ghost use Rattle.book.specs.Short.{Brief};
 

@@ -11,7 +11,7 @@ pub enum Symbol {
 }
 
 impl Symbol {
-    // In one word: tK is K, nK is 32 + K; 64 is a symbol that no book declares.
+    // In one word, as lines in arrays and stored books have it: tK is K, nK is 32 + K; 64 is a symbol that no book declares.
     pub fn code(self) -> u32
         ensures { result ≡ symbol_code (symbol_read self) }
     {

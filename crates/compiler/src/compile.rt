@@ -7,17 +7,26 @@ ghost use Rattle.grammar.specs.Formulas.FormulaCheck as grammar;
 ghost use Rattle.definitions.specs.Expressions.{WaitsRoom};
 ghost use Rattle.book.specs.Held.{OwnersIn};
 ghost use Rattle.book.specs.Refusals.{number_of, answer_of};
-ghost use Rattle.book.specs.Spelling.{arrays, Roomy};
+ghost use Rattle.book.specs.Spelling.{Roomy};
 ghost use Rattle.conditions.specs.Answers.{Some};
 ghost use Rattle.conditions.specs.Asked.{DefinitionsOf};
 ghost use Rattle.agreement.specs.Given.{GivenIn};
-ghost use Rattle.agreement.specs.OneFormula.{FrontsHeld, formulas_right};
-ghost use Rattle.compiler.specs.States.{TablesRoom, TablesLent};
-ghost use Rattle.compiler.specs.Conditions.{BookKept, definitions_refusal, conditions_refusal};
-ghost use Rattle.compiler.specs.Prepared.{Prepared};
-ghost use Rattle.compiler.specs.Compiling.{Checked, Compiles};
+ghost use Rattle.agreement.specs.OneFormula.{formulas_right};
+ghost use Rattle.compiler.specs.Conditions.{definitions_refusal, conditions_refusal};
+ghost use Rattle.compiler.specs.InArrays.{
+  arrays_of,
+  KeptIn,
+  RoomIn,
+  LentIn,
+  PreparedIn,
+  CheckedIn,
+  CompilesIn,
+  FrontsOf,
+};
 
-use super::states::tables;
+use super::book_lines::BookLines;
+use super::states::fill_tables;
+use super::tables::Tables;
 use agreement::givers::fill_givers;
 use agreement::one_formula::one_formula;
 use agreement::single::all_single;
@@ -55,266 +64,137 @@ fn definitions_refused(book: Book, rules: &[u32], definitions: &[u32]) -> Refusa
 }
 
 // The first of 3, 4, 5 and 6 that applies. Nearly all books meet 4 and 5, which are asked of the definitions at once.
-fn conditions(
-    book: Book,
-    inherited: &[u32],
-    synthesized: &[u32],
-    rules: &[u32],
-    definitions: &[u32],
-    kernels: &[u32],
-    goes: &[u32],
-) -> Result<(), Refusal>
-    requires { Some (BookKept book inherited.now synthesized.now rules.now definitions.now kernels.now goes.now) }
-    ensures { (b : Lines) → BookKept book inherited.now synthesized.now rules.now definitions.now
-        kernels.now goes.now b → answer_of result ≡ conditions_refusal b }
+fn conditions(book: Book, lines: &BookLines<'_>) -> Result<(), Refusal>
+    requires { Some (KeptIn book lines.now) }
+    ensures { (b : Lines) → KeptIn book lines.now b → answer_of result ≡ conditions_refusal b }
 {
-    if !within_limits(book, inherited, synthesized, rules, definitions, kernels) {
+    if !within_limits(
+        book,
+        lines.inherited,
+        lines.synthesized,
+        lines.rules,
+        lines.definitions,
+        lines.kernels,
+    ) {
         return Err(Refusal::Limit);
     }
     if !names_declared(
         book,
-        inherited,
-        synthesized,
-        rules,
-        definitions,
-        kernels,
-        goes,
+        lines.inherited,
+        lines.synthesized,
+        lines.rules,
+        lines.definitions,
+        lines.kernels,
+        lines.goes,
     ) {
         return Err(Refusal::Name);
     }
-    if !sound(book, inherited, synthesized, rules, definitions) {
-        return Err(definitions_refused(book, rules, definitions));
+    if !sound(
+        book,
+        lines.inherited,
+        lines.synthesized,
+        lines.rules,
+        lines.definitions,
+    ) {
+        return Err(definitions_refused(book, lines.rules, lines.definitions));
     }
-    if !defined(book, inherited, synthesized, rules) {
+    if !defined(book, lines.inherited, lines.synthesized, lines.rules) {
         return Err(Refusal::Undefined);
     }
     Ok(())
 }
 
 // Fills the tables of a book, up to the first of 3 to 9 that applies.
-fn prepare(
-    book: Book,
-    inherited: &[u32],
-    synthesized: &[u32],
-    rules: &[u32],
-    definitions: &[u32],
-    kernels: &[u32],
-    goes: &[u32],
-    nullables: &mut [u32],
-    begins: &mut [u32],
-    reaches: &mut [u32],
-    bounds: &mut [u32],
-    closures: &mut [u32],
-    fronts: &mut [u64],
-    table: &mut [u8],
-    actions: &mut [u8],
-) -> Result<(), Refusal>
-    requires some { Some (BookKept book inherited.now synthesized.now rules.now definitions.now kernels.now goes.now) }
-    requires tables_room { TablesRoom book.rules book.states nullables.old begins.old reaches.old bounds.old closures.old fronts.old table.old
-        actions.old }
-    ensures { (b : Lines) → BookKept book inherited.now synthesized.now rules.now definitions.now
-        kernels.now goes.now b
-        → Prepared (answer_of result) book inherited.now synthesized.now rules.now definitions.now kernels.now
-        goes.now nullables.new reaches.new bounds.new closures.new
-        fronts.new table.new actions.new b }
+fn prepare(book: Book, lines: &BookLines<'_>, tables: &mut Tables<'_>) -> Result<(), Refusal>
+    requires some { Some (KeptIn book lines.now) }
+    requires tables_room { RoomIn book tables.old }
+    ensures as_long { length tables.new.begins.now ≡ length tables.old.begins.now }
+    ensures prepared { (b : Lines) → KeptIn book lines.now b → PreparedIn (answer_of result) book lines.now tables.new b }
 {
-    conditions(
-        book,
-        inherited,
-        synthesized,
-        rules,
-        definitions,
-        kernels,
-        goes,
-    )?;
-    tables(
-        rules,
-        book.rules,
-        kernels,
-        book.kernels,
-        goes,
-        book.goes,
-        book.terminals,
-        book.states,
-        nullables,
-        begins,
-        reaches,
-        bounds,
-        closures,
-        fronts,
-        table,
-        actions,
-    )
+    conditions(book, lines)?;
+    fill_tables(book, lines, tables)
 }
 
 // Whether each attribute has one formula in every partial state, by room for NODES nodes of formulas, which are made here alone: a table of four words for each.
 fn formulas_in<const WORDS: usize, const NODES: usize>(
     book: Book,
-    inherited: &[u32],
-    rules: &[u32],
-    definitions: &[u32],
-    kernels: &[u32],
-    bounds: &[u32],
-    closures: &[u32],
-    fronts: &[u64],
-    nullables: &[u32],
-    reaches: &[u32],
-    given: &[u32],
+    lines: &BookLines<'_>,
+    tables: &Tables<'_>,
     leaders: u64,
 ) -> bool
-    requires held { (b : Lines) × (begins : List ℕ) × FrontsHeld b rules.now book.rules definitions.now book.inherited_definitions kernels.now
-        bounds.now closures.now fronts.now nullables.now begins reaches.now book.terminals book.states
-        × OwnersIn MAX_INHERITED b.inherited_owners inherited.now × (book.inherited ≡ length b.inherited_owners)
-        × GivenIn b (grammar.definitions b) given.now leaders }
+    requires held { (b : Lines) × (begins : List ℕ) × FrontsOf b book lines.now tables.now begins
+        × OwnersIn MAX_INHERITED b.inherited_owners lines.now.inherited.now × (book.inherited ≡ length b.inherited_owners)
+        × GivenIn b (grammar.definitions b) tables.now.begins.now leaders }
     requires room { (WORDS ≡ 4 * NODES) × (NODES < 2 ^ 32) × (MAX_NODES * book.inherited_definitions ≤ NODES) }
-    ensures { (b : Lines) (begins : List ℕ) → FrontsHeld b rules.now book.rules definitions.now
-        book.inherited_definitions kernels.now bounds.now closures.now fronts.now
-        nullables.now begins reaches.now book.terminals book.states
-        → OwnersIn MAX_INHERITED b.inherited_owners inherited.now → book.inherited ≡ length b.inherited_owners
-        → GivenIn b (grammar.definitions b) given.now leaders → result ≡ formulas_right b }
+    ensures { (b : Lines) (begins : List ℕ) → FrontsOf b book lines.now tables.now begins
+        → OwnersIn MAX_INHERITED b.inherited_owners lines.now.inherited.now → book.inherited ≡ length b.inherited_owners
+        → GivenIn b (grammar.definitions b) tables.now.begins.now leaders → result ≡ formulas_right b }
 {
     let mut table = [0u32; WORDS];
     let mut nexts = [0u32; NODES];
     one_formula(
-        inherited,
+        lines.inherited,
         book.inherited,
-        rules,
+        lines.rules,
         book.rules,
-        definitions,
+        lines.definitions,
         book.inherited_definitions,
-        kernels,
-        bounds,
-        closures,
-        fronts,
-        nullables,
-        reaches,
+        lines.kernels,
+        tables.bounds,
+        tables.closures,
+        tables.fronts,
+        tables.nullables,
+        tables.reaches,
         book.terminals,
         book.states,
-        given,
+        tables.begins,
         leaders,
         &mut table,
         &mut nexts,
     )
 }
 
-// Whether each attribute has one formula in every partial state (10): most books give each once, and have nothing to compare. `given` is room for what
-// definitions give. Where formulas are compared there is room for their nodes, 15 of each definition; most books have few.
-fn formulas_right(
-    book: Book,
-    inherited: &[u32],
-    rules: &[u32],
-    definitions: &[u32],
-    kernels: &[u32],
-    bounds: &[u32],
-    closures: &[u32],
-    fronts: &[u64],
-    nullables: &[u32],
-    reaches: &[u32],
-    given: &mut [u32],
-) -> bool
-    requires { ((b : Lines) × (begins : List ℕ) × FrontsHeld b rules.now book.rules definitions.now book.inherited_definitions kernels.now
-        bounds.now closures.now fronts.now nullables.now begins reaches.now book.terminals book.states
-        × OwnersIn MAX_INHERITED b.inherited_owners inherited.now × (book.inherited ≡ length b.inherited_owners))
-        × (9 * book.rules ≤ length given.old) }
-    ensures { (b : Lines) (begins : List ℕ) → FrontsHeld b rules.now book.rules definitions.now
-        book.inherited_definitions kernels.now bounds.now closures.now fronts.now
-        nullables.now begins reaches.now book.terminals book.states
-        → OwnersIn MAX_INHERITED b.inherited_owners inherited.now → book.inherited ≡ length b.inherited_owners → result ≡ formulas_right b }
+// Whether each attribute has one formula in every partial state (10): most books give each once, and have nothing to compare. What definitions give stands in
+// `begins`. Where formulas are compared there is room for their nodes, 15 of each definition; most books have few.
+fn formulas_right(book: Book, lines: &BookLines<'_>, tables: &Tables<'_>, leaders: u64) -> bool
+    requires { (b : Lines) × (begins : List ℕ) × FrontsOf b book lines.now tables.now begins
+        × OwnersIn MAX_INHERITED b.inherited_owners lines.now.inherited.now × (book.inherited ≡ length b.inherited_owners)
+        × GivenIn b (grammar.definitions b) tables.now.begins.now leaders }
+    ensures { (b : Lines) (begins : List ℕ) → FrontsOf b book lines.now tables.now begins
+        → OwnersIn MAX_INHERITED b.inherited_owners lines.now.inherited.now → book.inherited ≡ length b.inherited_owners
+        → GivenIn b (grammar.definitions b) tables.now.begins.now leaders → result ≡ formulas_right b }
 {
-    let leaders = fill_givers(book.rules, definitions, book.inherited_definitions, given);
-    if all_single(kernels, bounds, fronts, book.states, given, leaders) {
+    if all_single(
+        lines.kernels,
+        tables.bounds,
+        tables.fronts,
+        book.states,
+        tables.begins,
+        leaders,
+    ) {
         return true;
     }
     if book.inherited_definitions <= FEW {
-        return formulas_in::<FEW_WORDS, FEW_NODES>(
-            book,
-            inherited,
-            rules,
-            definitions,
-            kernels,
-            bounds,
-            closures,
-            fronts,
-            nullables,
-            reaches,
-            given,
-            leaders,
-        );
+        return formulas_in::<FEW_WORDS, FEW_NODES>(book, lines, tables, leaders);
     }
-    formulas_in::<MOST_WORDS, MOST_NODES>(
-        book,
-        inherited,
-        rules,
-        definitions,
-        kernels,
-        bounds,
-        closures,
-        fronts,
-        nullables,
-        reaches,
-        given,
-        leaders,
-    )
+    formulas_in::<MOST_WORDS, MOST_NODES>(book, lines, tables, leaders)
 }
 
 // Fills the tables of a book, up to the first of 3 to 10 that applies. What begins the rests of rules is not asked for after the closures:
 // its array is lent for what definitions give.
-fn check(
-    book: Book,
-    inherited: &[u32],
-    synthesized: &[u32],
-    rules: &[u32],
-    definitions: &[u32],
-    kernels: &[u32],
-    goes: &[u32],
-    nullables: &mut [u32],
-    begins: &mut [u32],
-    reaches: &mut [u32],
-    bounds: &mut [u32],
-    closures: &mut [u32],
-    fronts: &mut [u64],
-    table: &mut [u8],
-    actions: &mut [u8],
-) -> Result<(), Refusal>
-    requires some { Some (BookKept book inherited.now synthesized.now rules.now definitions.now kernels.now goes.now) }
-    requires tables_room { TablesRoom book.rules book.states nullables.old begins.old reaches.old bounds.old closures.old fronts.old table.old
-        actions.old }
-    ensures { (b : Lines) → BookKept book inherited.now synthesized.now rules.now definitions.now
-        kernels.now goes.now b
-        → Checked (answer_of result) book inherited.now synthesized.now rules.now definitions.now kernels.now
-        goes.now nullables.new reaches.new bounds.new closures.new
-        table.new actions.new b }
+fn check(book: Book, lines: &BookLines<'_>, tables: &mut Tables<'_>) -> Result<(), Refusal>
+    requires some { Some (KeptIn book lines.now) }
+    requires tables_room { RoomIn book tables.old }
+    ensures { (b : Lines) → KeptIn book lines.now b → CheckedIn (answer_of result) book lines.now tables.new b }
 {
-    prepare(
-        book,
-        inherited,
-        synthesized,
-        rules,
-        definitions,
-        kernels,
-        goes,
-        nullables,
-        begins,
-        reaches,
-        bounds,
-        closures,
-        fronts,
-        table,
-        actions,
-    )?;
-    if formulas_right(
-        book,
-        inherited,
-        rules,
-        definitions,
-        kernels,
-        bounds,
-        closures,
-        fronts,
-        nullables,
-        reaches,
-        begins,
-    ) {
+    prepare(book, lines, tables)?;
+    let leaders = fill_givers(
+        book.rules,
+        lines.definitions,
+        book.inherited_definitions,
+        tables.begins,
+    );
+    if formulas_right(book, lines, tables, leaders) {
         return Ok(());
     }
     Err(Refusal::Formulas)
@@ -326,60 +206,29 @@ fn check(
 pub fn compile(
     source: &Source<'_>,
     room: Room,
-    inherited: &mut [u32],
-    synthesized: &mut [u32],
-    rules: &mut [u32],
-    definitions: &mut [u32],
-    kernels: &mut [u32],
-    goes: &mut [u32],
-    nullables: &mut [u32],
-    begins: &mut [u32],
-    reaches: &mut [u32],
-    bounds: &mut [u32],
-    closures: &mut [u32],
-    fronts: &mut [u64],
-    table: &mut [u8],
-    actions: &mut [u8],
+    lines: &mut BookLines<'_>,
+    tables: &mut Tables<'_>,
 ) -> Option<Result<Book, Refusal>>
-    requires lent { WaitsRoom source.now.bytes.now actions.old
-        × Roomy room (arrays inherited.old synthesized.old rules.old definitions.old kernels.old goes.old) }
-    requires tables_lent { TablesLent room nullables.old begins.old reaches.old bounds.old closures.old fronts.old table.old actions.old }
-    ensures { Compiles room source.now.bytes.now result inherited.new synthesized.new
-        rules.new definitions.new kernels.new goes.new nullables.new reaches.new
-        bounds.new closures.new table.new actions.new }
+    requires lent { WaitsRoom source.now.bytes.now tables.old.actions.now × Roomy room (arrays_of lines.old) }
+    requires tables_lent { LentIn room tables.old }
+    ensures { CompilesIn room source.now.bytes.now result lines.new tables.new }
 {
     let Some(book) = spelling(
         source,
-        actions,
+        tables.actions,
         room,
-        inherited,
-        synthesized,
-        rules,
-        definitions,
-        kernels,
-        goes,
+        lines.inherited,
+        lines.synthesized,
+        lines.rules,
+        lines.definitions,
+        lines.kernels,
+        lines.goes,
     ) else {
         return Some(Err(Refusal::Spelling));
     };
     if !complete(room, book) {
         return None;
     }
-    let checked = check(
-        book,
-        inherited,
-        synthesized,
-        rules,
-        definitions,
-        kernels,
-        goes,
-        nullables,
-        begins,
-        reaches,
-        bounds,
-        closures,
-        fronts,
-        table,
-        actions,
-    );
+    let checked = check(book, lines, tables);
     Some(checked.map(|()| book))
 }

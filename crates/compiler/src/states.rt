@@ -1,7 +1,7 @@
 // The arrays of a book's states, and the first of 7, 8 and 9 that applies.
 // A contract asks that the arrays hold some book, and says what it says of every book that they hold.
 ghost use Rattle.std.specs.Prelude.{◌≡◌, ◌*◌, ◌≤◌, length};
-ghost use Rattle.grammar.specs.Data.Book.{Book};
+ghost use Rattle.grammar.specs.Data.Book.{Book as Lines};
 ghost use Rattle.grammar.specs.Automaton.FirstSets.{sets_of};
 ghost use Rattle.book.specs.Held.{GoesIn};
 ghost use Rattle.book.specs.Refusals.{answer_of};
@@ -9,13 +9,17 @@ ghost use Rattle.items.specs.Arrays.{BoundsIn, ClosuresIn, GoTableIn};
 ghost use Rattle.items.specs.Closures.{Blank};
 ghost use Rattle.automaton.specs.Fronts.{FrontsIn};
 ghost use Rattle.automaton.specs.GoTable.{Unset};
-ghost use Rattle.compiler.specs.States.{KernelsHeld, BookHeld, ItemsFilled, TablesRoom, Tabled, goes_right};
+ghost use Rattle.compiler.specs.States.{KernelsHeld, ItemsFilled, goes_right};
+ghost use Rattle.compiler.specs.InArrays.{HeldIn, RoomIn, TabledIn};
 
+use super::book_lines::BookLines;
+use super::tables::Tables;
 use automaton::actions::fill_actions;
 use automaton::go_rules::go_rules;
 use automaton::go_table::go_table;
 use automaton::kernel_rules::kernel_rules;
 use automaton::lefts::fill_fronts;
+use book::Book;
 use book::refusal::Refusal;
 use items::closures::fill_closures;
 use items::rests::rests;
@@ -32,11 +36,11 @@ fn fill_items(
     reaches: &mut [u32],
     closures: &mut [u32],
 )
-    requires kernels_held { (b : Book) × KernelsHeld b rules.now kernels.now states × (count ≡ length b.rules)
+    requires kernels_held { (b : Lines) × KernelsHeld b rules.now kernels.now states × (count ≡ length b.rules)
         × BoundsIn b.kernels b.states bounds.now }
     requires count_in_bounds { (9 * count ≤ length nullables.old) × (9 * count ≤ length begins.old) × (9 * count ≤ length reaches.old)
         × Blank states closures.old }
-    ensures { (b : Book) → KernelsHeld b rules.now kernels.now states → count ≡ length b.rules
+    ensures { (b : Lines) → KernelsHeld b rules.now kernels.now states → count ≡ length b.rules
         → BoundsIn b.kernels b.states bounds.now
         → ItemsFilled b nullables.new begins.new reaches.new closures.new }
 {
@@ -58,10 +62,10 @@ fn moves(
     fronts: &[u64],
     table: &mut [u8],
 ) -> bool
-    requires { ((b : Book) × KernelsHeld b rules.now kernels.now states × GoesIn b.goes goes.now × (lines ≡ length b.goes)
+    requires { ((b : Lines) × KernelsHeld b rules.now kernels.now states × GoesIn b.goes goes.now × (lines ≡ length b.goes)
         × BoundsIn b.kernels b.states bounds.now × ClosuresIn b (sets_of b.rules) closures.now
         × FrontsIn b rules.now closures.now fronts.now) × Unset states table.old }
-    ensures { (b : Book) → KernelsHeld b rules.now kernels.now states → GoesIn b.goes goes.now
+    ensures { (b : Lines) → KernelsHeld b rules.now kernels.now states → GoesIn b.goes goes.now
         → lines ≡ length b.goes → BoundsIn b.kernels b.states bounds.now → ClosuresIn b (sets_of b.rules) closures.now
         → FrontsIn b rules.now closures.now fronts.now → (result ≡ goes_right b) × GoTableIn b table.new }
 {
@@ -71,46 +75,75 @@ fn moves(
     )
 }
 
-// Fills the arrays, up to the first of 7, 8 and 9 that applies.
-pub fn tables(
-    rules: &[u32],
-    count: u32,
-    kernels: &[u32],
-    items: u32,
-    goes: &[u32],
-    lines: u32,
-    terminals: u32,
-    states: u32,
-    nullables: &mut [u32],
-    begins: &mut [u32],
-    reaches: &mut [u32],
-    bounds: &mut [u32],
-    closures: &mut [u32],
-    fronts: &mut [u64],
-    table: &mut [u8],
-    actions: &mut [u8],
+// Fills the tables of a book, up to the first of 7, 8 and 9 that applies.
+pub fn fill_tables(
+    book: Book,
+    lines: &BookLines<'_>,
+    tables: &mut Tables<'_>,
 ) -> Result<(), Refusal>
-    requires book_held { (b : Book) × BookHeld b rules.now count kernels.now items goes.now lines terminals states }
-    requires tables_room { TablesRoom count states nullables.old begins.old reaches.old bounds.old closures.old fronts.old table.old
-        actions.old }
-    ensures { (b : Book) → BookHeld b rules.now count kernels.now items goes.now lines terminals states
-        → Tabled b (answer_of result) rules.now nullables.new begins.new reaches.new bounds.new
-        closures.new fronts.new table.new actions.new }
+    requires book_held { (b : Lines) × HeldIn book lines.now b }
+    requires tables_room { RoomIn book tables.old }
+    ensures as_long { length tables.new.begins.now ≡ length tables.old.begins.now }
+    ensures tabled { (b : Lines) → HeldIn book lines.now b → TabledIn b (answer_of result) lines.now tables.new }
 {
-    if !kernel_rules(rules, kernels, items, states, bounds) {
+    // Each has a name of its own, for a step reads some while it fills others.
+    let nullables = &mut *tables.nullables;
+    let begins = &mut *tables.begins;
+    let reaches = &mut *tables.reaches;
+    let bounds = &mut *tables.bounds;
+    let closures = &mut *tables.closures;
+    let fronts = &mut *tables.fronts;
+    let table = &mut *tables.table;
+    let actions = &mut *tables.actions;
+    if !kernel_rules(
+        lines.rules,
+        lines.kernels,
+        book.kernels,
+        book.states,
+        bounds,
+    ) {
         return Err(Refusal::Kernel);
     }
     fill_items(
-        rules, count, kernels, states, bounds, nullables, begins, reaches, closures,
+        lines.rules,
+        book.rules,
+        lines.kernels,
+        book.states,
+        bounds,
+        nullables,
+        begins,
+        reaches,
+        closures,
     );
-    fill_fronts(rules, count as usize, closures, states as usize, fronts);
+    fill_fronts(
+        lines.rules,
+        book.rules as usize,
+        closures,
+        book.states as usize,
+        fronts,
+    );
     if !moves(
-        rules, kernels, goes, lines, states, bounds, closures, fronts, table,
+        lines.rules,
+        lines.kernels,
+        lines.goes,
+        book.goes,
+        book.states,
+        bounds,
+        closures,
+        fronts,
+        table,
     ) {
         return Err(Refusal::Go);
     }
     if !fill_actions(
-        rules, kernels, bounds, closures, fronts, terminals, states, actions,
+        lines.rules,
+        lines.kernels,
+        bounds,
+        closures,
+        fronts,
+        book.terminals,
+        book.states,
+        actions,
     ) {
         return Err(Refusal::Conflict);
     }

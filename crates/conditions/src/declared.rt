@@ -122,6 +122,7 @@ fn inherited_line_declared(book: Book, rules: &[u32], definitions: &[u32], i: us
         && one_to(rules[10 * p + 1], definitions[49 * i + 1])
 }
 
+// The lines of inherited attributes, which name a position too; those of synthesized ones stand behind them and name none.
 fn inherited_declared(book: Book, rules: &[u32], definitions: &[u32]) -> bool
     requires { Some (DefinitionsOf book rules.now definitions.now) }
     ensures { Answers (DefinitionsOf book rules.now definitions.now) inherited_declared result }

@@ -45,7 +45,7 @@ fn rights_due(rules: &[u32], counts: &[u8], count: usize) -> usize
     n
 }
 
-// How many are due at their left sides.
+// How many are due at their left sides: a rule has one, and no list of them to go over.
 fn lefts_due(rules: &[u32], counts: &[u8], count: usize) -> usize
     requires { LowRules rules.now count × LowCounts counts.now }
     ensures { result ≡ sum count (left_due rules.now counts.now) }

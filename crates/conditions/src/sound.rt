@@ -1,6 +1,7 @@
 // Conditions 4 and 5 of the definitions in one walk, since nearly every book meets both: what they mention is declared; attributes belong to their
 // symbols, values are those of terminals, and an inherited attribute is defined from what stands left of it.
-// The book is within its limits, and its owners and right symbols are declared.
+// The book is within its limits, and its owners and right symbols are declared. What is asked of the two kinds differs: an inherited attribute's line names a
+// position too, and belongs to the symbol there, so each kind has its functions.
 ghost use Rattle.std.specs.Prelude.{◌≡◌, true, ◌&&◌};
 ghost use Rattle.conditions.specs.Answers.{Some, Answers};
 ghost use Rattle.conditions.specs.Asked.{PlaceThere, LineThere, LeavesThere, InheritedThere, SynthesizedThere, NamedBook};

@@ -186,6 +186,7 @@ fn definition_lines(
     let n = source.bytes.len();
     let head = head_for(kind);
     let mut p = at;
+    // The text tells how many there are: a reader's position goes on, and the count is part of the answer.
     let mut k: u32 = 0;
     let mut last = None;
     loop {

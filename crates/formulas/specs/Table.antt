@@ -3,6 +3,7 @@
 -- Assumes nothing.
 use Rattle.std.specs.Prelude.{ℕ, zero, suc, ◌+◌, ◌*◌, ◌%◌, ◌^◌, ◌<◌, ◌≤◌, ◌≡◌, true, false, Option, Some, None, List, [], ◌∷◌, eqb, length, get_or, set}
 use Rattle.formulas.specs.declared.nodes.Node.{Node}
+use Rattle.formulas.specs.declared.table.Nodes.{Nodes}
 use Rattle.formulas.specs.Nodes.{row_of}
 
 abbrev pub HEADS : ℕ
@@ -36,6 +37,10 @@ pub record Table (table heads nexts : List ℕ) (used : ℕ) : Type 0 where
   pub once : (i j : ℕ) → i < used → j < used → row_at table i ≡ row_at table j → i ≡ j
   pub heads_are : (h : ℕ) → h < HEADS → get_or heads h 0 ≡ last_with (hash_at table) h used
   pub nexts_are : (i : ℕ) → i < used → get_or nexts i 0 ≡ last_with (hash_at table) (hash_at table i) i
+
+-- in the arrays of nodes
+abbrev pub TableIn : Nodes → ℕ → Type 0
+TableIn n used = Table n.rows.now n.heads.now n.nexts.now used
 
 -- a table with more rows: the old ones are as they were, and its room is
 pub record Grown (old : List ℕ) (used : ℕ) (new : List ℕ) (count : ℕ) : Type 0 where

@@ -2,7 +2,7 @@
 ghost use Rattle.std.specs.Prelude.{◌≡◌, ℕ, ◌+◌, ◌*◌, ◌<◌, ◌≤◌, length};
 ghost use Rattle.grammar.specs.Data.Book.{Expr};
 ghost use Rattle.grammar.specs.Formulas.Formula.{Formula};
-ghost use Rattle.formulas.specs.Table.{Table};
+ghost use Rattle.formulas.specs.Table.{TableIn};
 ghost use Rattle.formulas.specs.PostfixLaws.{Ready};
 ghost use Rattle.formulas.specs.Steps.{step_of};
 ghost use Rattle.formulas.specs.Formulas.{own_for, operand_for, Safe, Numbered, Asked, Formed};
@@ -10,6 +10,7 @@ ghost use Rattle.formulas.specs.Formulas.{own_for, operand_for, Safe, Numbered, 
 use super::interning::{Interned, intern};
 use super::nodes::{Leaf, Node, Stack};
 use super::steps::{Step, operands, step_at};
+use super::table::Nodes;
 use book::Book;
 
 // What a step puts on the stack: the number of a formula, or a node that is still to be interned.
@@ -49,19 +50,13 @@ fn operand_of(step: Step, dot: u32, slots: &[u32], stack: &[u32], top: usize) ->
 }
 
 // The number of an operand; a node is interned.
-fn number_of(
-    operand: Operand,
-    table: &mut [u32],
-    heads: &mut [u32],
-    nexts: &mut [u32],
-    used: u32,
-) -> Interned
-    requires { Table table.old heads.old nexts.old used × (used < length nexts.old) }
-    ensures { Numbered operand table.old used table.new heads.new nexts.new result.number result.used }
+fn number_of(operand: Operand, nodes: &mut Nodes<'_>, used: u32) -> Interned
+    requires { TableIn nodes.old used × (used < length nodes.old.nexts.now) }
+    ensures { Numbered operand nodes.old.rows.now used nodes.new.rows.now nodes.new.heads.now nodes.new.nexts.now result.number result.used }
 {
     match operand {
         Operand::Known(number) => Interned { number, used },
-        Operand::New(node) => intern(table, heads, nexts, used, node),
+        Operand::New(node) => intern(nodes, used, node),
     }
 }
 
@@ -71,24 +66,22 @@ pub fn formula_of(
     line: usize,
     dot: u32,
     slots: &[u32],
-    table: &mut [u32],
-    heads: &mut [u32],
-    nexts: &mut [u32],
+    nodes: &mut Nodes<'_>,
     mut used: u32,
 ) -> Interned
-    requires table { Table table.old heads.old nexts.old used }
-    requires by_index { (e : Expr) × (f : ℕ → Formula) × Asked definitions.now line dot slots.now table.old used e f }
-    ensures { (e : Expr) (f : ℕ → Formula) → Asked definitions.now line dot slots.now table.old used e f
-        → Formed dot e f table.old used table.new heads.new nexts.new result.number result.used }
+    requires table { TableIn nodes.old used }
+    requires by_index { (e : Expr) × (f : ℕ → Formula) × Asked definitions.now line dot slots.now nodes.old.rows.now used e f }
+    ensures { (e : Expr) (f : ℕ → Formula) → Asked definitions.now line dot slots.now nodes.old.rows.now used e f
+        → Formed dot e f nodes.old.rows.now used nodes.new.rows.now nodes.new.heads.now nodes.new.nexts.now result.number result.used }
 {
     let first = 49 * line;
-    let nodes = definitions[first + 3] as usize;
+    let steps = definitions[first + 3] as usize;
     let mut stack = [0u32; Book::MAX_NODES as usize + 1];
     let mut top: usize = 0;
-    for i in 0..nodes {
+    for i in 0..steps {
         let step = step_at(definitions, first + 4 + 3 * i);
         let operand = operand_of(step, dot, slots, &stack, top);
-        let r = number_of(operand, table, heads, nexts, used);
+        let r = number_of(operand, nodes, used);
         used = r.used;
         top -= operands(step);
         stack[top] = r.number;

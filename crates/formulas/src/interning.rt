@@ -2,9 +2,10 @@
 // each hash, and of `nexts`, one for each row, is one more than the number of the next row with that hash, or 0.
 ghost use Rattle.std.specs.Prelude.{◌≡◌, ◌+◌, ◌*◌, ◌^◌, ◌<◌, ◌≤◌, length, get_or, set};
 ghost use Rattle.formulas.specs.Nodes.{shown};
-ghost use Rattle.formulas.specs.Table.{HEADS, row_at, hash_of, stored, Table, Added, Found};
+ghost use Rattle.formulas.specs.Table.{HEADS, row_at, hash_of, stored, TableIn, Added, Found};
 
 use super::nodes::{Node, Row, row_of};
+use super::table::Nodes;
 
 // The number of a node, and how many nodes the table has then.
 #[derive(Clone, Copy)]
@@ -35,24 +36,17 @@ fn row_at(table: &[u32], i: usize) -> Row
 }
 
 // The number of the row, if it is in the table.
-fn find(
-    table: &[u32],
-    heads: &[u32],
-    nexts: &[u32],
-    used: u32,
-    bucket: usize,
-    row: Row,
-) -> Option<u32>
-    requires { Table table.now heads.now nexts.now used × (bucket ≡ hash_of (shown row)) }
-    ensures { Found table.now used (shown row) result }
+fn find(nodes: &Nodes<'_>, used: u32, bucket: usize, row: Row) -> Option<u32>
+    requires { TableIn nodes.now used × (bucket ≡ hash_of (shown row)) }
+    ensures { Found nodes.now.rows.now used (shown row) result }
 {
-    let mut next = heads[bucket];
+    let mut next = nodes.heads[bucket];
     while let Some(number) = next.checked_sub(1) {
         let i = number as usize;
-        if row_at(table, i) == row {
+        if row_at(nodes.rows, i) == row {
             return Some(number);
         }
-        next = nexts[i];
+        next = nodes.nexts[i];
     }
     None
 }
@@ -77,23 +71,17 @@ fn link(heads: &mut [u32], nexts: &mut [u32], number: u32, bucket: usize)
 }
 
 // The number of the node; a node that is not in the table becomes its last.
-pub fn intern(
-    table: &mut [u32],
-    heads: &mut [u32],
-    nexts: &mut [u32],
-    used: u32,
-    node: Node,
-) -> Interned
-    requires { Table table.old heads.old nexts.old used × (used < length nexts.old) }
-    ensures { Added node table.old used table.new heads.new nexts.new result.number result.used }
+pub fn intern(nodes: &mut Nodes<'_>, used: u32, node: Node) -> Interned
+    requires { TableIn nodes.old used × (used < length nodes.old.nexts.now) }
+    ensures { Added node nodes.old.rows.now used nodes.new.rows.now nodes.new.heads.now nodes.new.nexts.now result.number result.used }
 {
     let row = row_of(node);
     let bucket = hash(row);
-    if let Some(number) = find(table, heads, nexts, used, bucket, row) {
+    if let Some(number) = find(nodes, used, bucket, row) {
         return Interned { number, used };
     }
-    put_row(table, used as usize, row);
-    link(heads, nexts, used, bucket);
+    put_row(nodes.rows, used as usize, row);
+    link(nodes.heads, nodes.nexts, used, bucket);
     Interned {
         number: used,
         used: used + 1,

@@ -5,3 +5,4 @@ pub mod formulas;
 pub mod interning;
 pub mod nodes;
 pub mod steps;
+pub mod table;

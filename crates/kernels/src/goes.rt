@@ -138,6 +138,7 @@ pub fn go_lines(source: &Source<'_>, at: usize, room: usize, out: &mut [u32]) ->
         bytes: b"(go ",
     };
     let mut p = at;
+    // The text tells how many there are: a reader's position goes on, and the count is part of the answer.
     let mut k: u32 = 0;
     let mut last = None;
     loop {

@@ -1,5 +1,6 @@
 pub mod Moving
 pub mod MovingLaws
+pub mod Programs
 pub mod ReduceMove
 pub mod Running
 pub mod RunningLaws

@@ -1,5 +1,5 @@
 -- What a move over the arrays asks, and what it tells: the next configuration, or the answer with which the run stops. Assumes nothing.
-use Rattle.std.specs.Prelude.{ℕ, ◌+◌, ◌*◌, ◌≡◌, List, length, Result, MatchResult, Option, MatchOption}
+use Rattle.std.specs.Prelude.{ℕ, ◌≡◌, List, Result, MatchResult, Option, MatchOption}
 use Rattle.grammar.specs.Data.Book.{Book}
 use Rattle.grammar.specs.Evaluator.Tree.{Token}
 use Rattle.grammar.specs.Evaluator.Machine.{Config, refused, accepted, stop, step}
@@ -9,13 +9,7 @@ use Rattle.book.specs.Refusals.{number_of}
 use Rattle.plans.specs.Plans.{PlansHeld}
 use Rattle.stack.specs.declared.top.Top.{Top}
 use Rattle.stack.specs.Page.{RowsIn}
-use Rattle.stack.specs.Pushes.{Stacks}
 use Rattle.stack.specs.Standing.{BookIn, Message, ConfigIn, CellIn, rows_of, GoesOn}
-
--- the arrays that moves change, as they are lent
-pub record Rooms (states inherited synthesized starts rows : List ℕ) : Type 0 where
-  pub stacks : Stacks states synthesized starts rows
-  pub cells_long : length inherited ≡ 16 * length starts + 16
 
 -- a book that is taken, in the arrays that moves read
 pub record Driven (b : Book) (rules definitions : List ℕ) (lines : ℕ)

@@ -1,6 +1,6 @@
 -- The moves of a run come to the machine's answer: from the start, move by move, to the move that stops. Assumes that the book is taken.
 use Rattle.std.specs.Prelude.{ℕ, ◌+◌, ◌*◌, ◌-◌, ◌≤◌, ◌<◌, ◌≡◌, refl, List, [], length, get_or, set, Result, Ok, Err, MatchResult, IsOkAnd, IsErrAnd, Option, Some, None, MatchOption}
-use Rattle.std.proofs.Common.{◌∙◌, arith, get_or-set_same}
+use Rattle.std.proofs.Common.{arith, get_or-set_same}
 use Rattle.grammar.specs.Data.Book.{Book}
 use Rattle.grammar.specs.Evaluator.Tree.{Token}
 use Rattle.grammar.specs.Evaluator.Machine.{Tables, Frame, Config, Answer, refused, accepted, more, stop, start, step, evaluate}
@@ -18,7 +18,7 @@ use Rattle.stack.specs.declared.action.Action.TheVariants.{Due}
 use Rattle.stack.specs.declared.action.Action.TheVariants as action
 use Rattle.stack.specs.declared.top.Top.{Top}
 use Rattle.stack.specs.Action.{action_at}
-use Rattle.machine.specs.Moving.{Rooms, Poised, Told}
+use Rattle.machine.specs.Moving.{Poised, Told}
 use Rattle.machine.specs.Running.{RunIn, MovesIn, Facing, facing-of, TopLow, top-low, rows-count, Names, names-action, due-none}
 use Rattle.machine.specs.Setting.{TopAsked, TopSet, config-asked, config-set, config-cell}
 use Rattle.stack.specs.Page.{RowsIn, no_rows}
@@ -177,34 +177,9 @@ module _ {b : Book} {ks : List Token} {rules definitions : List ℕ} {lines : �
         pub run-due : Names b U.at (Due due)
         run-due = rw due-is at run-names
 
-        pub run-stepped : {m : Result (Option Top) Refusal} {states' synthesized' starts' rows' : List ℕ}
+        pub run-stepped : {m : Result (Option Top) Refusal} {states' cells' synthesized' starts' rows' : List ℕ}
             → ((b : Book) (ks : List Token) (c : Config) → MovesIn b rules definitions spans down up table
             → Poised b ks c states inherited' synthesized starts rows top → Facing b c state kind value → Names b c (Due due)
-            → Told b ks c states' inherited' synthesized' starts' rows' m)
-            → Stepped b ks top states' inherited' synthesized' starts' rows' slots' lists' m
+            → Told b ks c states' cells' synthesized' starts' rows' m)
+            → Stepped b ks top states' cells' synthesized' starts' rows' slots' lists' m
         run-stepped moved = stepped U Q.plans_in (moved b ks U.at run-moves Q.poised (run-facing value_is) run-due)
-
--- the arrays as they are lent, after a step
-pub record RoomsLeft (room bytes : ℕ) (states inherited synthesized starts rows slots lists : List ℕ) : Type 0 where
-  pub rooms : Rooms states inherited synthesized starts rows
-  pub slots_long : length slots ≡ room
-  pub lists_long : length lists ≡ bytes
-
-pub rooms-kept : {room bytes : ℕ} {states inherited synthesized starts rows slots lists : List ℕ}
-    {states' inherited' synthesized' starts' rows' slots' lists' : List ℕ} → RoomsLeft room bytes states inherited synthesized starts rows slots lists
-    → length states' ≡ length states → length inherited' ≡ length inherited → length synthesized' ≡ length synthesized → length starts' ≡ length starts
-    → length rows' ≡ length rows → length slots' ≡ length slots → length lists' ≡ length lists
-    → RoomsLeft room bytes states' inherited' synthesized' starts' rows' slots' lists'
-rooms-kept R a b c d e g h = record {
-  rooms = record {
-    stacks = record {
-      starts_long = d ∙ R.rooms.stacks.starts_long;
-      states_long = omega (arith, R.rooms.stacks.states_long);
-      synthesized_long = omega (arith, R.rooms.stacks.synthesized_long);
-      rows_long = e ∙ R.rooms.stacks.rows_long;
-    };
-    cells_long = omega (arith, R.rooms.cells_long);
-  };
-  slots_long = g ∙ R.slots_long;
-  lists_long = h ∙ R.lists_long;
-}

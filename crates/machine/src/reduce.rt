@@ -1,65 +1,41 @@
 // The reduce. The contract asks that the arrays hold some book and a configuration of its machine, and says its statement of all that they hold.
-ghost use Rattle.std.specs.Prelude.{◌≡◌, List, ◌+◌, ◌*◌, length};
+ghost use Rattle.std.specs.Prelude.{List};
 ghost use Rattle.grammar.specs.Data.Book.{Book as Lines};
 ghost use Rattle.grammar.specs.Evaluator.Tree.{Token};
 ghost use Rattle.grammar.specs.Evaluator.Machine.{Config};
-ghost use Rattle.stack.specs.Pushes.{Stacks};
-ghost use Rattle.stack.specs.Standing.{BookIn, LeftIn};
-ghost use Rattle.machine.specs.Moving.{Poised, Moved};
+ghost use Rattle.stack.specs.Programs.{RoomOver, BookOver, LeftOver};
+ghost use Rattle.machine.specs.Programs.{PoisedOver, MovedOver};
 ghost use Rattle.machine.specs.ReduceMove.{Reduces};
 
 use book::Book;
 use book::refusal::Refusal;
 use items::words::word;
+use plans::program::Program;
 use stack::left::put_left;
+use stack::stacks::Stacks;
 use stack::top::Top;
 
 // The left side of a rule in the place of its right side. Of an empty rule it is one symbol more.
 pub fn reduce(
     top: Top,
     rule: u32,
-    rules: &[u32],
-    definitions: &[u32],
-    spans: &[u32],
-    down: &[u32],
-    up: &[u32],
-    table: &[u8],
-    states: &mut [u32],
-    inherited: &[u32],
-    synthesized: &mut [u32],
-    starts: &mut [u32],
+    program: &Program<'_>,
+    stacks: &mut Stacks,
     rows: &mut [u32],
 ) -> Result<Top, Refusal>
-    requires stacks { Stacks states.old synthesized.old starts.old rows.old × (length inherited.now ≡ 16 * length starts.old + 16) }
-    requires book_in { (b : Lines) × (ks : List Token) × (c : Config) × BookIn b rules.now definitions.now table.now
-        × LeftIn b definitions.now spans.now down.now up.now
-        × Poised b ks c states.old inherited.now synthesized.old starts.old rows.old top × Reduces b c rule }
-    ensures { (b : Lines) (ks : List Token) (c : Config) → BookIn b rules.now definitions.now table.now
-        → LeftIn b definitions.now spans.now down.now up.now
-        → Poised b ks c states.old inherited.now synthesized.old starts.old rows.old top
-        → Reduces b c rule
-        → Moved b ks c states.new inherited.now synthesized.new starts.new rows.new result }
+    requires room { RoomOver stacks.old rows.old }
+    requires book_in { (b : Lines) × (ks : List Token) × (c : Config) × BookOver b program.now × LeftOver b program.now
+        × PoisedOver b ks c stacks.old rows.old top × Reduces b c rule }
+    ensures { (b : Lines) (ks : List Token) (c : Config) → BookOver b program.now → LeftOver b program.now
+        → PoisedOver b ks c stacks.old rows.old top → Reduces b c rule
+        → MovedOver b ks c stacks.new rows.new result }
 {
     if top.rows == Book::MAX_ROWS {
         return Err(Refusal::TooMany);
     }
-    let below = top.depth - word(rules, 10 * rule as usize + 1);
+    let below = top.depth - word(program.rules, 10 * rule as usize + 1);
     if below == Book::MAX_STACK {
         return Err(Refusal::TooDeep);
     }
-    Ok(put_left(
-        top,
-        rule,
-        rules,
-        definitions,
-        spans,
-        down,
-        up,
-        table,
-        states,
-        inherited,
-        synthesized,
-        starts,
-        rows,
-    ))
+    Ok(put_left(top, rule, program, stacks, rows))
 }

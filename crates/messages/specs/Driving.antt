@@ -2,7 +2,6 @@
 use Rattle.std.specs.Prelude.{ℕ, ◌+◌, ◌*◌, ◌≤◌, ◌≡◌, List, ◌++◌, length, take, drop, replicate}
 use Rattle.std.proofs.Math.Option.{some}
 use Rattle.std.proofs.Common.{ap, subst, ◌∙◌, arith, length-take-le}
-use Rattle.grammar.specs.Limits.{PAGE_WORDS, MAX_STACK}
 use Rattle.grammar.specs.Data.Book.{Book as Lines}
 use Rattle.grammar.specs.Evaluator.Tree.{Token}
 use Rattle.grammar.specs.Engine.{tokens_of}
@@ -13,7 +12,7 @@ use Rattle.attributes.specs.FormulasHeld.{held-check, rules-low}
 use Rattle.plans.specs.Places.{PlacesIn}
 use Rattle.plans.specs.Plans.{PlansIn, NoneNoted, NoneListed}
 use Rattle.plans.specs.PlansLaws.{plans-none, none-noted}
-use Rattle.machine.specs.Moving.{Rooms, Driven}
+use Rattle.machine.specs.Moving.{Driven}
 use Rattle.machine.specs.Running.{RunIn}
 use Rattle.stack.specs.Standing.{Message as Tokens}
 use Rattle.compiler.specs.Compiling.{asked-formulas}
@@ -73,16 +72,3 @@ module _ {numbers : Book} {inherited synthesized rules definitions kernels goes 
   -- words for the places of its definitions
   pub places-room : 32 + 9 * length b.rules ≤ 608
   places-room = omega (arith, rules-low (asked-formulas h.ready))
-
--- the stacks as they are before the first move
-pub run_room : {rows : List ℕ} → length rows ≡ PAGE_WORDS
-    → Rooms (replicate (MAX_STACK + 1) 0) (replicate (16 * MAX_STACK + 16) 0) (replicate (33 * MAX_STACK) 0) (replicate MAX_STACK 0) rows
-run_room e = record {
-  stacks = record {
-    starts_long = zeros MAX_STACK;
-    states_long = omega (arith, zeros MAX_STACK, zeros (MAX_STACK + 1));
-    synthesized_long = omega (arith, zeros MAX_STACK, zeros (33 * MAX_STACK));
-    rows_long = e;
-  };
-  cells_long = omega (arith, zeros MAX_STACK, zeros (16 * MAX_STACK + 16));
-}

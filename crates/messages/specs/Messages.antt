@@ -10,6 +10,8 @@ use Rattle.grammar.specs.Refusal.{Sound}
 use Rattle.grammar.specs.Evaluator.Tree.{Token, TokensOf, no_tokens, and_tokens}
 use Rattle.grammar.specs.Engine.{tokens_of, kinds_in}
 use Rattle.book.specs.declared.Book.{Book}
+use Rattle.compiler.specs.declared.book_lines.BookLines.{BookLines}
+use Rattle.compiler.specs.declared.tables.Tables.{Tables}
 use Rattle.compiler.specs.Prepared.{BookReady}
 
 -- the arrays hold a book that is taken, and its tables
@@ -18,6 +20,12 @@ pub record TakenBook (numbers : Book) (inherited synthesized rules definitions k
   pub ready : BookReady numbers inherited synthesized rules definitions kernels goes nullables reaches bounds closures table actions b
   pub spelled : Spelled b
   pub sound : Sound b
+
+-- the same, in the arrays that are lent
+abbrev pub TakenIn : Book → BookLines → Tables → Lines → Type 0
+TakenIn numbers l t b =
+    TakenBook numbers l.inherited.now l.synthesized.now l.rules.now l.definitions.now l.kernels.now l.goes.now t.nullables.now t.reaches.now
+    t.bounds.now t.closures.now t.table.now t.actions.now b
 
 -- the numbers are tokens of T terminals, not too many
 pub record Message (T : ℕ) (tokens : List ℕ) : Type 0 where

@@ -16,3 +16,4 @@ pub mod Planning
 pub mod PlanningLaws
 pub mod Plans
 pub mod PlansLaws
+pub mod Programs

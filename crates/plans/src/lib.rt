@@ -4,3 +4,5 @@
 pub mod members;
 pub mod memory;
 pub mod planning;
+pub mod program;
+pub mod slots;

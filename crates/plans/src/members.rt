@@ -21,8 +21,9 @@ ghost use Rattle.plans.specs.Lines.{LinesIn};
 ghost use Rattle.plans.specs.LinesAdded.{Added};
 ghost use Rattle.plans.specs.Places.{PlacesIn, FrontFree};
 ghost use Rattle.plans.specs.Found.{FoundIn, FrontsFound, ItemLines};
-ghost use Rattle.plans.specs.Plans.{PlansHeld};
+ghost use Rattle.plans.specs.Programs.{CheckOver, PlansOver};
 
+use super::program::Program;
 use attributes::masks::{front_set, reach_with};
 use items::words::word;
 use sets::ALL;
@@ -58,10 +59,11 @@ pub fn mark_places(definitions: &[u32], lines: usize, rules: &[u32], places: &mu
 }
 
 // True only if a closure, from word `first` on, has nothing of a nonterminal whose rules have a definition of their first symbol: the bits are gathered,
-// with no way out of the loop.
+// with no way out of the loop. The words have 32 bits: a slice tells it, a slice in a struct does not.
 fn front_free(closures: &[u32], first: usize, places: &[u32]) -> bool
     requires { (first + 32 ≤ length closures.now) × (32 ≤ length places.now) }
-    ensures { result ≡ true → FrontFree closures.now first places.now 32 }
+    ensures free { result ≡ true → FrontFree closures.now first places.now 32 }
+    ensures words { (i : ℕ) → get_or closures.now i 0 < 4294967296 }
 {
     let mut bits = 0u32;
     for i in 0..32 {
@@ -80,31 +82,29 @@ fn add(found: &mut [u64], line: usize)
 }
 
 // The definition in a line, if its item has the dot in front and reaches the terminal.
-fn front_line(
-    definitions: &[u32],
-    line: usize,
-    rules: &[u32],
-    closures: &[u32],
-    first: usize,
-    nullables: &[u32],
-    reaches: &[u32],
-    terminal: u32,
-    found: &mut [u64],
-)
-    requires { ((b : Book) × (owned : List ℕ) × (masks : List ℕ) × (L : List ℕ) × CheckHeld b definitions.now rules.now owned masks
-        × LooksIn b.rules rules.now L closures.now first × (line < grammar.definitions b)
-        × MarksRoom b.rules nullables.now reaches.now nullables.now) × (first + 32 ≤ length closures.now) × (terminal < 32)
-        × (length found.old ≡ 2) }
-    ensures { (b : Book) (F : Sets) (R begins owned masks L : List ℕ) → CheckHeld b definitions.now rules.now owned masks
-        → LooksIn b.rules rules.now L closures.now first → line < grammar.definitions b
-        → SuffixesIn b.rules F nullables.now begins → ReachesIn b.rules F R reaches.now
+fn front_line(program: &Program<'_>, line: usize, first: usize, terminal: u32, found: &mut [u64])
+    requires { ((b : Book) × (masks : List ℕ) × (L : List ℕ) × CheckOver b program.now masks
+        × LooksIn b.rules program.now.rules.now L program.now.closures.now first × (line < grammar.definitions b)
+        × MarksRoom b.rules program.now.nullables.now program.now.reaches.now program.now.nullables.now)
+        × (first + 32 ≤ length program.now.closures.now) × (terminal < 32) × (length found.old ≡ 2) }
+    ensures { (b : Book) (F : Sets) (R begins masks L : List ℕ) → CheckOver b program.now masks
+        → LooksIn b.rules program.now.rules.now L program.now.closures.now first → line < grammar.definitions b
+        → SuffixesIn b.rules F program.now.nullables.now begins → ReachesIn b.rules F R program.now.reaches.now
         → FrontsFound b F R terminal L line found.old → FrontsFound b F R terminal L (line + 1) found.new }
 {
+    let definitions = program.definitions;
     if word(definitions, 49 * line + 1) != 1 {
         return;
     }
     let rule = word(definitions, 49 * line);
-    let set = front_set(rules, closures, first, nullables, reaches, rule);
+    let set = front_set(
+        program.rules,
+        program.closures,
+        first,
+        program.nullables,
+        program.reaches,
+        rule,
+    );
     if !sets::has(set, terminal) {
         return;
     }
@@ -112,42 +112,21 @@ fn front_line(
 }
 
 // The definitions whose items have the dot in front and reach the terminal, where none is found before.
-fn front_lines(
-    definitions: &[u32],
-    lines: usize,
-    rules: &[u32],
-    closures: &[u32],
-    first: usize,
-    nullables: &[u32],
-    reaches: &[u32],
-    places: &[u32],
-    terminal: u32,
-    found: &mut [u64],
-)
-    requires { ((b : Book) × (owned : List ℕ) × (masks : List ℕ) × (L : List ℕ) × CheckHeld b definitions.now rules.now owned masks
-        × LooksIn b.rules rules.now L closures.now first × (lines ≡ grammar.definitions b)
-        × MarksRoom b.rules nullables.now reaches.now nullables.now × PlacesIn b 0 places.now) × (first + 32 ≤ length closures.now) × (terminal < 32)
-        × (length found.old ≡ 2) }
-    ensures { (b : Book) (F : Sets) (R begins owned masks L : List ℕ) → CheckHeld b definitions.now rules.now owned masks
-        → LooksIn b.rules rules.now L closures.now first → lines ≡ grammar.definitions b
-        → SuffixesIn b.rules F nullables.now begins → ReachesIn b.rules F R reaches.now → PlacesIn b 0 places.now
-        → FrontsFound b F R terminal L 0 found.old → FrontsFound b F R terminal L lines found.new }
+fn front_lines(program: &Program<'_>, first: usize, terminal: u32, found: &mut [u64])
+    requires { ((b : Book) × (masks : List ℕ) × (L : List ℕ) × CheckOver b program.now masks
+        × LooksIn b.rules program.now.rules.now L program.now.closures.now first × (program.now.lines ≡ grammar.definitions b)
+        × MarksRoom b.rules program.now.nullables.now program.now.reaches.now program.now.nullables.now × PlacesIn b 0 program.now.places.now)
+        × (first + 32 ≤ length program.now.closures.now) × (terminal < 32) × (length found.old ≡ 2) }
+    ensures { (b : Book) (F : Sets) (R begins masks L : List ℕ) → CheckOver b program.now masks
+        → LooksIn b.rules program.now.rules.now L program.now.closures.now first → program.now.lines ≡ grammar.definitions b
+        → SuffixesIn b.rules F program.now.nullables.now begins → ReachesIn b.rules F R program.now.reaches.now → PlacesIn b 0 program.now.places.now
+        → FrontsFound b F R terminal L 0 found.old → FrontsFound b F R terminal L program.now.lines found.new }
 {
-    if front_free(closures, first, places) {
+    if front_free(program.closures, first, program.places) {
         return;
     }
-    for i in 0..lines {
-        front_line(
-            definitions,
-            i,
-            rules,
-            closures,
-            first,
-            nullables,
-            reaches,
-            terminal,
-            found,
-        );
+    for i in 0..program.lines as usize {
+        front_line(program, i, first, terminal, found);
     }
 }
 
@@ -167,122 +146,70 @@ fn item_lines(definitions: &[u32], lines: usize, place: usize, first: usize, fou
 }
 
 // The definitions of the item of kernel line i, if it reaches the terminal.
-fn kernel_line(
-    definitions: &[u32],
-    lines: usize,
-    kernels: &[u32],
-    i: usize,
-    nullables: &[u32],
-    reaches: &[u32],
-    places: &[u32],
-    terminal: u32,
-    found: &mut [u64],
-)
-    requires { ((b : Book) × (rules : List ℕ) × (owned : List ℕ) × (masks : List ℕ) × CheckHeld b definitions.now rules owned masks
-        × (lines ≡ grammar.definitions b) × ItemLinesIn b kernels.now × (i < length b.kernels)
-        × MarksRoom b.rules nullables.now reaches.now nullables.now × PlacesIn b 0 places.now) × (terminal < 32) × (length found.old ≡ 2) }
-    ensures { (b : Book) (F : Sets) (R begins rules owned masks : List ℕ) (items : List Core) → Ordered b
-        → CheckHeld b definitions.now rules owned masks → lines ≡ grammar.definitions b → ItemLinesIn b kernels.now
-        → i < length b.kernels → SuffixesIn b.rules F nullables.now begins → ReachesIn b.rules F R reaches.now
-        → PlacesIn b 0 places.now → FoundIn b F R terminal items found.old
+fn kernel_line(program: &Program<'_>, i: usize, terminal: u32, found: &mut [u64])
+    requires { ((b : Book) × (masks : List ℕ) × CheckOver b program.now masks
+        × (program.now.lines ≡ grammar.definitions b) × ItemLinesIn b program.now.kernels.now × (i < length b.kernels)
+        × MarksRoom b.rules program.now.nullables.now program.now.reaches.now program.now.nullables.now × PlacesIn b 0 program.now.places.now)
+        × (terminal < 32) × (length found.old ≡ 2) }
+    ensures { (b : Book) (F : Sets) (R begins masks : List ℕ) (items : List Core) → Ordered b
+        → CheckOver b program.now masks → program.now.lines ≡ grammar.definitions b
+        → ItemLinesIn b program.now.kernels.now → i < length b.kernels
+        → SuffixesIn b.rules F program.now.nullables.now begins → ReachesIn b.rules F R program.now.reaches.now
+        → PlacesIn b 0 program.now.places.now → FoundIn b F R terminal items found.old
         → FoundIn b F R terminal (item_of b.kernels i ∷ items) found.new }
 {
+    let kernels = program.kernels;
     let rule = word(kernels, 5 * i + 1);
     let dot = word(kernels, 5 * i + 2);
-    let Some(first) = word(places, 32 + 9 * rule + dot).checked_sub(1) else {
+    let Some(first) = word(program.places, 32 + 9 * rule + dot).checked_sub(1) else {
         return;
     };
-    let reach = reach_with(nullables, reaches, rule, dot, kernels[5 * i + 4]);
+    let reach = reach_with(
+        program.nullables,
+        program.reaches,
+        rule,
+        dot,
+        kernels[5 * i + 4],
+    );
     if !sets::has(reach, terminal) {
         return;
     }
-    item_lines(definitions, lines, 9 * rule + dot, first, found);
+    item_lines(
+        program.definitions,
+        program.lines as usize,
+        9 * rule + dot,
+        first,
+        found,
+    );
 }
 
 // Those of the kernel lines from `from` up to `to`, the last line first.
-fn kernel_lines(
-    definitions: &[u32],
-    lines: usize,
-    kernels: &[u32],
-    from: usize,
-    to: usize,
-    nullables: &[u32],
-    reaches: &[u32],
-    places: &[u32],
-    terminal: u32,
-    found: &mut [u64],
-)
-    requires { ((b : Book) × (rules : List ℕ) × (owned : List ℕ) × (masks : List ℕ) × CheckHeld b definitions.now rules owned masks
-        × (lines ≡ grammar.definitions b) × ItemLinesIn b kernels.now × (to ≤ length b.kernels)
-        × MarksRoom b.rules nullables.now reaches.now nullables.now × PlacesIn b 0 places.now) × (from ≤ to) × (terminal < 32)
-        × (length found.old ≡ 2) }
-    ensures { (b : Book) (F : Sets) (R begins rules owned masks : List ℕ) (items : List Core) → Ordered b
-        → CheckHeld b definitions.now rules owned masks → lines ≡ grammar.definitions b → ItemLinesIn b kernels.now
-        → to ≤ length b.kernels → SuffixesIn b.rules F nullables.now begins → ReachesIn b.rules F R reaches.now
-        → PlacesIn b 0 places.now → FoundIn b F R terminal items found.old
+fn kernel_lines(program: &Program<'_>, from: usize, to: usize, terminal: u32, found: &mut [u64])
+    requires { ((b : Book) × (masks : List ℕ) × CheckOver b program.now masks
+        × (program.now.lines ≡ grammar.definitions b) × ItemLinesIn b program.now.kernels.now × (to ≤ length b.kernels)
+        × MarksRoom b.rules program.now.nullables.now program.now.reaches.now program.now.nullables.now × PlacesIn b 0 program.now.places.now)
+        × (from ≤ to) × (terminal < 32) × (length found.old ≡ 2) }
+    ensures { (b : Book) (F : Sets) (R begins masks : List ℕ) (items : List Core) → Ordered b
+        → CheckOver b program.now masks → program.now.lines ≡ grammar.definitions b
+        → ItemLinesIn b program.now.kernels.now → to ≤ length b.kernels
+        → SuffixesIn b.rules F program.now.nullables.now begins → ReachesIn b.rules F R program.now.reaches.now
+        → PlacesIn b 0 program.now.places.now → FoundIn b F R terminal items found.old
         → FoundIn b F R terminal (of_kernels (slice from to b.kernels) ++ items) found.new }
 {
     for i in (from..to).rev() {
-        kernel_line(
-            definitions,
-            lines,
-            kernels,
-            i,
-            nullables,
-            reaches,
-            places,
-            terminal,
-            found,
-        );
+        kernel_line(program, i, terminal, found);
     }
 }
 
 // The definitions whose items are in the partial state of a state and a terminal, where none is found before.
-pub fn members(
-    definitions: &[u32],
-    lines: u32,
-    rules: &[u32],
-    kernels: &[u32],
-    bounds: &[u32],
-    closures: &[u32],
-    nullables: &[u32],
-    reaches: &[u32],
-    places: &[u32],
-    state: usize,
-    terminal: u32,
-    found: &mut [u64],
-)
-    requires { ((b : Book) × (owned : List ℕ) × PlansHeld b rules.now definitions.now lines owned kernels.now bounds.now closures.now
-        nullables.now reaches.now places.now × (state < b.states)) × (terminal < 32) × (found.old ≡ 0 ∷ 0 ∷ []) }
-    ensures { (b : Book) (owned : List ℕ) → PlansHeld b rules.now definitions.now lines owned kernels.now
-        bounds.now closures.now nullables.now reaches.now places.now
-        → state < b.states
+pub fn members(program: &Program<'_>, state: usize, terminal: u32, found: &mut [u64])
+    requires { ((b : Book) × PlansOver b program.now × (state < b.states)) × (terminal < 32) × (found.old ≡ 0 ∷ 0 ∷ []) }
+    ensures { (b : Book) → PlansOver b program.now → state < b.states
         → LinesIn b (listed (partial_at b (sets_of b.rules) (reach_sets b.rules (sets_of b.rules)) state terminal)) found.new }
 {
-    front_lines(
-        definitions,
-        lines as usize,
-        rules,
-        closures,
-        32 * state,
-        nullables,
-        reaches,
-        places,
-        terminal,
-        found,
-    );
+    let bounds = program.bounds;
+    front_lines(program, 32 * state, terminal, found);
     let from = word(bounds, state);
     let to = word(bounds, state + 1);
-    kernel_lines(
-        definitions,
-        lines as usize,
-        kernels,
-        from,
-        to,
-        nullables,
-        reaches,
-        places,
-        terminal,
-        found,
-    );
+    kernel_lines(program, from, to, terminal, found);
 }

@@ -6,13 +6,14 @@ ghost use Rattle.grammar.specs.Formulas.FormulaCheck as grammar;
 ghost use Rattle.grammar.specs.Formulas.FormulaCheck.{dot_of, line_at};
 ghost use Rattle.grammar.specs.Formulas.Passes as fixpoint;
 ghost use Rattle.grammar.specs.Formulas.Passes.{visits};
-ghost use Rattle.attributes.specs.Checking.{CheckHeld};
 ghost use Rattle.plans.specs.Planning as specs;
 ghost use Rattle.plans.specs.Planning.{Planning, known_in, plan_line};
 ghost use Rattle.plans.specs.PlanRows.{PlanningIn, Elsewhere, PlanRow};
 ghost use Rattle.plans.specs.Lines.{LinesIn};
+ghost use Rattle.plans.specs.Programs.{CheckOver};
 ghost use Rattle.plans.specs.LinesWalk.{Walking, visited};
 
+use super::program::Program;
 use attributes::due::ready;
 use automaton::lefts::{behind, least};
 use items::words::word;
@@ -25,30 +26,28 @@ pub struct Progress {
 }
 
 // One definition of an item of the partial state: it is planned if its attribute is not set and it is ready.
-fn visit(
-    definitions: &[u32],
-    line: usize,
-    rules: &[u32],
-    owned: &[u32],
-    row: &mut [u8],
-    from: usize,
-    p: Progress,
-) -> Progress
-    requires { (b : Book) × (member : ℕ → ℕ → Bool) × (masks : List ℕ) × (s : Planning) × CheckHeld b definitions.now rules.now owned.now masks
+fn visit(program: &Program<'_>, line: usize, row: &mut [u8], from: usize, p: Progress) -> Progress
+    requires { (b : Book) × (member : ℕ → ℕ → Bool) × (masks : List ℕ) × (s : Planning) × CheckOver b program.now masks
         × (line < grammar.definitions b) × (member (line_at b line).rule (dot_of (line_at b line)) ≡ true)
         × PlanningIn b member s row.old from p.known p.count }
     ensures { ((b : Book) (member : ℕ → ℕ → Bool) (masks : List ℕ) (s : Planning)
-        → CheckHeld b definitions.now rules.now owned.now masks
+        → CheckOver b program.now masks
         → line < grammar.definitions b → member (line_at b line).rule (dot_of (line_at b line)) ≡ true
         → PlanningIn b member s row.old from p.known p.count
         → PlanningIn b member (plan_line b member line s) row.new from result.known result.count)
         × Elsewhere from (from + 16) row.old row.new }
 {
-    let attribute = definitions[49 * line + 2];
+    let attribute = program.definitions[49 * line + 2];
     if sets::has(p.known, attribute) {
         return p;
     }
-    if !ready(definitions, line, rules, owned, p.known) {
+    if !ready(
+        program.definitions,
+        line,
+        program.rules,
+        program.owned,
+        p.known,
+    ) {
         return p;
     }
     row[from + p.count] = line as u8;
@@ -60,19 +59,17 @@ fn visit(
 
 // The lines among 64, from line `base` on, that are bits of a number: from each to the next one that is there, so the lines are no range.
 fn half(
-    definitions: &[u32],
+    program: &Program<'_>,
     base: usize,
     bits: u64,
-    rules: &[u32],
-    owned: &[u32],
     row: &mut [u8],
     from: usize,
     mut p: Progress,
 ) -> Progress
-    requires { (b : Book) × (member : ℕ → ℕ → Bool) × (masks : List ℕ) × (s : Planning) × CheckHeld b definitions.now rules.now owned.now masks
+    requires { (b : Book) × (member : ℕ → ℕ → Bool) × (masks : List ℕ) × (s : Planning) × CheckOver b program.now masks
         × Walking b member (base + 64) bits base s row.old from p.known p.count }
     ensures { ((b : Book) (member : ℕ → ℕ → Bool) (masks : List ℕ) (s : Planning)
-        → CheckHeld b definitions.now rules.now owned.now masks
+        → CheckOver b program.now masks
         → Walking b member (base + 64) bits base s row.old from p.known p.count
         → PlanningIn b member (visited b member (base + 64) s) row.new from result.known result.count)
         × Elsewhere from (from + 16) row.old row.new }
@@ -82,7 +79,7 @@ fn half(
     while rest != 0 {
         let gap = least(rest);
         line += gap as usize;
-        p = visit(definitions, line, rules, owned, row, from, p);
+        p = visit(program, line, row, from, p);
         rest = behind(rest, gap);
         line += 1;
     }
@@ -90,48 +87,38 @@ fn half(
 }
 
 // One pass over the definitions whose items are in the partial state.
-fn pass(
-    definitions: &[u32],
-    found: &[u64],
-    rules: &[u32],
-    owned: &[u32],
-    row: &mut [u8],
-    from: usize,
-    p: Progress,
-) -> Progress
-    requires { (b : Book) × (member : ℕ → ℕ → Bool) × (masks : List ℕ) × (s : Planning) × CheckHeld b definitions.now rules.now owned.now masks
+fn pass(program: &Program<'_>, found: &[u64], row: &mut [u8], from: usize, p: Progress) -> Progress
+    requires { (b : Book) × (member : ℕ → ℕ → Bool) × (masks : List ℕ) × (s : Planning) × CheckOver b program.now masks
         × LinesIn b member found.now × PlanningIn b member s row.old from p.known p.count }
     ensures { ((b : Book) (member : ℕ → ℕ → Bool) (masks : List ℕ) (s : Planning)
-        → CheckHeld b definitions.now rules.now owned.now masks → LinesIn b member found.now
+        → CheckOver b program.now masks → LinesIn b member found.now
         → PlanningIn b member s row.old from p.known p.count
         → PlanningIn b member (visits (plan_line b member) (grammar.definitions b) s) row.new from result.known result.count)
         × Elsewhere from (from + 16) row.old row.new }
 {
-    let q = half(definitions, 0, found[0], rules, owned, row, from, p);
-    half(definitions, 64, found[1], rules, owned, row, from, q)
+    let q = half(program, 0, found[0], row, from, p);
+    half(program, 64, found[1], row, from, q)
 }
 
 // Passes until one plans nothing more: how far the plan is then.
 fn passes(
-    definitions: &[u32],
+    program: &Program<'_>,
     found: &[u64],
-    rules: &[u32],
-    owned: &[u32],
     row: &mut [u8],
     from: usize,
     mut p: Progress,
 ) -> Progress
-    requires { (b : Book) × (member : ℕ → ℕ → Bool) × (masks : List ℕ) × (s : Planning) × CheckHeld b definitions.now rules.now owned.now masks
+    requires { (b : Book) × (member : ℕ → ℕ → Bool) × (masks : List ℕ) × (s : Planning) × CheckOver b program.now masks
         × LinesIn b member found.now × PlanningIn b member s row.old from p.known p.count }
     ensures { ((b : Book) (member : ℕ → ℕ → Bool) (masks : List ℕ) (s : Planning)
-        → CheckHeld b definitions.now rules.now owned.now masks → LinesIn b member found.now
+        → CheckOver b program.now masks → LinesIn b member found.now
         → PlanningIn b member s row.old from p.known p.count
         → PlanningIn b member (fixpoint.passes (plan_line b member) known_in (grammar.definitions b) s) row.new from result.known result.count)
         × Elsewhere from (from + 16) row.old row.new }
 {
     loop {
         let before = p.count;
-        p = pass(definitions, found, rules, owned, row, from, p);
+        p = pass(program, found, row, from, p);
         if p.count == before {
             return p;
         }
@@ -139,21 +126,14 @@ fn passes(
 }
 
 // The plan of the partial state whose items' definitions are the lines found, one byte a line from byte `from` of a row on: how many lines it has.
-pub fn plan(
-    definitions: &[u32],
-    found: &[u64],
-    rules: &[u32],
-    owned: &[u32],
-    row: &mut [u8],
-    from: usize,
-) -> usize
-    requires { ((b : Book) × (member : ℕ → ℕ → Bool) × (masks : List ℕ) × CheckHeld b definitions.now rules.now owned.now masks
+pub fn plan(program: &Program<'_>, found: &[u64], row: &mut [u8], from: usize) -> usize
+    requires { ((b : Book) × (member : ℕ → ℕ → Bool) × (masks : List ℕ) × CheckOver b program.now masks
         × LinesIn b member found.now) × (from + 16 ≤ length row.old) }
     ensures { ((b : Book) (member : ℕ → ℕ → Bool) (masks : List ℕ)
-        → CheckHeld b definitions.now rules.now owned.now masks
+        → CheckOver b program.now masks
         → LinesIn b member found.now → PlanRow (specs.plan b member) row.new from result)
         × Elsewhere from (from + 16) row.old row.new }
 {
     let p = Progress { known: 0, count: 0 };
-    passes(definitions, found, rules, owned, row, from, p).count
+    passes(program, found, row, from, p).count
 }

@@ -6,6 +6,7 @@ pub mod Lists
 pub mod NodeValues
 pub mod Page
 pub mod Path
+pub mod Programs
 pub mod Pushes
 pub mod PutValues
 pub mod Records

@@ -8,4 +8,5 @@ pub mod pushes;
 pub mod records;
 pub mod rows;
 pub mod spans;
+pub mod stacks;
 pub mod top;

@@ -1,4 +1,4 @@
-// Records of the synthesized stack: a token's value, or the values of a rule's left side.
+// Records of symbols: a token's value, or the values of a rule's left side.
 ghost use Rattle.std.specs.Prelude.{◌≡◌, ◌+◌, ◌*◌, ◌-◌, ◌<◌, ◌≤◌, length, replicate, set};
 ghost use Rattle.grammar.specs.Limits.{MAX_OWNED};
 ghost use Rattle.grammar.specs.Data.Book.{Book};
@@ -7,86 +7,93 @@ ghost use Rattle.stack.specs.NodeValues.{NodeAsked, NodeValues};
 ghost use Rattle.stack.specs.Records.{Stored};
 ghost use Rattle.stack.specs.PutValues.{Putting, lines_put, left_record};
 
+use super::stacks::Stacks;
 use cells::values::value;
 use items::words::word;
+use plans::program::Program;
 
 // The record of symbol `height` has no values.
-fn clear_record(synthesized: &mut [u32], height: usize)
-    requires { 33 * height + 33 ≤ length synthesized.old }
-    ensures { Stored (33 * height) (replicate 33 0) synthesized.old 33 synthesized.new }
+fn clear_record(records: &mut [u32], height: usize)
+    requires { 33 * height + 33 ≤ length records.old }
+    ensures { Stored (33 * height) (replicate 33 0) records.old 33 records.new }
 {
     let place = 33 * height;
-    synthesized[place..place + 33].fill(0);
+    records[place..place + 33].fill(0);
 }
 
 // The record of symbol `height` is that of a token.
-pub fn token_record(synthesized: &mut [u32], height: usize, value: u32)
-    requires { 33 * height + 33 ≤ length synthesized.old }
-    ensures { Stored (33 * height) (set (replicate 33 0) 0 value) synthesized.old 33 synthesized.new }
+pub fn token_record(records: &mut [u32], height: usize, value: u32)
+    requires { 33 * height + 33 ≤ length records.old }
+    ensures { Stored (33 * height) (set (replicate 33 0) 0 value) records.old 33 records.new }
 {
-    clear_record(synthesized, height);
-    synthesized[33 * height] = value;
+    clear_record(records, height);
+    records[33 * height] = value;
 }
 
 // The synthesized values of a rule's left side, whose right side are the top `size` symbols of `height`: one for each line of the rule, in their order.
-pub fn node_values<'a>(
-    definitions: &[u32],
-    spans: &[u32],
+pub fn node_values(
+    program: &Program<'_>,
     rule: usize,
     size: u32,
     height: usize,
-    inherited: &'a [u32],
-    synthesized: &'a [u32],
+    stacks: &Stacks,
     values: &mut [u32],
 )
-    requires room { Room height inherited.now synthesized.now × (size ≤ height) × (length values.old ≡ MAX_OWNED) }
-    requires node_asked { (b : Book) × NodeAsked b definitions.now spans.now rule size }
-    ensures { (b : Book) → NodeAsked b definitions.now spans.now rule size
-        → NodeValues b rule (height - size) inherited.now synthesized.now
-        (left_record definitions.now spans.now values.new rule) }
+    requires room { Room height stacks.now.cells stacks.now.records × (size ≤ height) × (length values.old ≡ MAX_OWNED) }
+    requires node_asked { (b : Book) × NodeAsked b program.now.definitions.now program.now.spans.now rule size }
+    ensures { (b : Book) → NodeAsked b program.now.definitions.now program.now.spans.now rule size
+        → NodeValues b rule (height - size) stacks.now.cells stacks.now.records
+        (left_record program.now.definitions.now program.now.spans.now values.new rule) }
 {
-    let first = word(spans, rule);
-    let count = word(spans, rule + 1) - first;
+    let definitions = program.definitions;
+    let first = word(program.spans, rule);
+    let count = word(program.spans, rule + 1) - first;
     for i in 0..count {
-        values[i] = value(definitions, first + i, size, height, inherited, synthesized);
+        values[i] = value(
+            definitions,
+            first + i,
+            size,
+            height,
+            &stacks.cells,
+            &stacks.records,
+        );
     }
 }
 
 // The values of a rule's lines, each in the word of its attribute in the record of symbol `height`.
 fn put_values(
-    definitions: &[u32],
-    spans: &[u32],
+    program: &Program<'_>,
     rule: usize,
     values: &[u32],
-    synthesized: &mut [u32],
+    records: &mut [u32],
     height: usize,
 )
-    requires { (33 * height + 33 ≤ length synthesized.old) × Putting definitions.now spans.now values.now rule }
-    ensures { synthesized.new
-        ≡ lines_put definitions.now spans.now values.now rule (33 * height + 1) synthesized.old }
+    requires { (33 * height + 33 ≤ length records.old) × Putting program.now.definitions.now program.now.spans.now values.now rule }
+    ensures { records.new
+        ≡ lines_put program.now.definitions.now program.now.spans.now values.now rule (33 * height + 1) records.old }
 {
+    let definitions = program.definitions;
     let place = 33 * height + 1;
-    let first = word(spans, rule);
-    let count = word(spans, rule + 1) - first;
+    let first = word(program.spans, rule);
+    let count = word(program.spans, rule + 1) - first;
     for i in 0..count {
         let k = word(definitions, 49 * (first + i) + 2);
-        synthesized[place + k] = values[i];
+        records[place + k] = values[i];
     }
 }
 
 // The record of symbol `height` is that of a rule's left side.
 pub fn node_record(
-    definitions: &[u32],
-    spans: &[u32],
+    program: &Program<'_>,
     rule: usize,
     values: &[u32],
-    synthesized: &mut [u32],
+    records: &mut [u32],
     height: usize,
 )
-    requires { (33 * height + 33 ≤ length synthesized.old) × Putting definitions.now spans.now values.now rule }
-    ensures { Stored (33 * height) (left_record definitions.now spans.now values.now rule)
-        synthesized.old 33 synthesized.new }
+    requires { (33 * height + 33 ≤ length records.old) × Putting program.now.definitions.now program.now.spans.now values.now rule }
+    ensures { Stored (33 * height) (left_record program.now.definitions.now program.now.spans.now values.now rule)
+        records.old 33 records.new }
 {
-    clear_record(synthesized, height);
-    put_values(definitions, spans, rule, values, synthesized, height);
+    clear_record(records, height);
+    put_values(program, rule, values, records, height);
 }

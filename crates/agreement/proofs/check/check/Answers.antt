@@ -1,15 +1,16 @@
-use mathlib.Core.Path.{◌∙◌}
+use mathlib.Core.Path.{refl, ◌∙◌}
 use mathlib.Core.Bool.{false}
 use mathlib.Core.Option.{none}
 use lib.ListN.{replicate}
 use Rattle.agreement.specs.Progress.{ProgressIn}
+use Rattle.agreement.specs.Over.{same-more}
 use Rattle.agreement.specs.CheckLaws.{nothing_yet, begun, check-is}
 use Rattle.agreement.proofs.check.check.Goals as goal
 use Rattle.agreement.proofs.check.check.Goals.{After-fill-3}
 
 -- the words where the passes begin
-start : (c : After-fill-3) → ProgressIn (replicate 16 none) (replicate 128 false) c.fill.new.self c.fill-2.new.self c.args.table.now c.fill-3.new.self
-    c.args.nexts.now nothing_yet
+start : (c : After-fill-3) → ProgressIn (replicate 16 none) (replicate 128 false) c.fill.new.self c.fill-2.new.self c.args.work.now.nodes.rows.now c.fill-3.new.self
+    c.args.work.now.nodes.nexts.now nothing_yet
 start c = begun c.requires.1 (c.fill.ensures.after (λ y e. e)) (c.fill-2.ensures.after (λ y e. e)) (c.fill-3.ensures.after (λ y e. e))
 
 pub passes-requires : goal.passes-requires
@@ -20,5 +21,9 @@ passes-requires c = (
 )
 
 pub returns : goal.returns
-returns c = λ b H e.
-    c.passes.ensures b (replicate 16 none) (replicate 128 false) H e (start (goal.at.returns c).After-fill-3) ∙ check-is b _
+returns c =
+    let here = (goal.at.returns c).After-fill-3 in
+    record {
+      room = same-more (c.fill.auto.self, c.fill-2.auto.self, refl, c.fill-3.auto.self, refl) c.passes.ensures.room;
+      answer = λ b H e. c.passes.ensures.answer b (replicate 16 none) (replicate 128 false) H e (start here) ∙ check-is b _;
+    }

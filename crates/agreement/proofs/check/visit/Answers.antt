@@ -4,24 +4,29 @@ use mathlib.Core.Path.{◌≡◌, refl}
 use mathlib.Core.Bool.{true}
 use native.Mathlib.Omega.{arith}
 use lib.ListN.{get_or, set}
+use Rattle.std.proofs.Common.{length-set}
 use Rattle.grammar.specs.Formulas.Slots.{own_at}
 use Rattle.grammar.specs.Formulas.FormulaCheck.{dot_of, formula_of, line_at}
 use Rattle.attributes.specs.CheckingLaws.{attribute_low}
-use Rattle.agreement.specs.VisitLaws.{visit-done, visit-undue, visit-enters, count_low, asked-line, formed-means, formed-low, formed-progress}
+use Rattle.agreement.specs.VisitLaws.{visit-done, visit-undue, visit-enters, count_low, asked-line, formed-means, formed-low, formed-room, formed-progress}
 use Rattle.agreement.proofs.check.visit.Goals as goal
 use Rattle.agreement.proofs.check.visit.Goals.{Else-not-due}
 
 -- the definition is not done
-mark : (c : Else-not-due) → get_or c.args.done.now c.args.line 0 ≡ 0
-mark c = c.if-done-line-ne0.false
+mark : (c : Else-not-due) → get_or c.args.work.now.done c.args.line 0 ≡ 0
+mark c = c.if-work-line-ne0.false
 
-pub returns-then-done-line-ne0 : goal.returns-then-done-line-ne0
-returns-then-done-line-ne0 c = λ b s d H l R.
-    visit-done H l R c.if-done-line-ne0.true _
+pub returns-then-work-line-ne0 : goal.returns-then-work-line-ne0
+returns-then-work-line-ne0 c = record {
+  room = (refl, refl, refl, refl, refl);
+  reached = λ b s d H l R. visit-done H l R c.if-work-line-ne0.true _;
+}
 
 pub returns-then-not-due : goal.returns-then-not-due
-returns-then-not-due c = λ b s d H l R.
-    visit-undue H l R _ (c.due.ensures b s H l R.known_in) (ap not c.if-not-due.true)
+returns-then-not-due c = record {
+  room = (refl, refl, refl, refl, refl);
+  reached = λ b s d H l R. visit-undue H l R _ (c.due.ensures b s H l R.known_in) (ap not c.if-not-due.true);
+}
 
 pub formula_of-r-requires : goal.formula_of-r-requires
 formula_of-r-requires c =
@@ -45,9 +50,17 @@ enter-requires c =
 pub returns : goal.returns
 returns c =
     let here = (goal.at.returns c).Else-not-due in
-    λ b s d H l R.
     let room = c.requires.1 in
-    let F = c.formula_of-r.ensures _ _ (asked-line H l R (mark here) room refl) in
-    rw (visit-enters H l R (mark here) c.args.wanted (c.due.ensures b s H l R.known_in) (ap not c.if-not-due.false))
-    (c.enter.ensures s (set d c.args.line true) _ _ _ _ (formula_of s (line_at b c.args.line))
-    (formed-progress H l R (mark here) room refl F) (formed-means H l R (mark here) room refl F))
+    record {
+      room =
+          let H = c.requires.0.3 in
+          let l = c.requires.0.4 in
+          let R = c.requires.0.5 in
+          let kept = formed-room H l R (mark here) room refl (c.formula_of-r.ensures _ _ (asked-line H l R (mark here) room refl)) in
+          (c.enter.auto.slots, length-set c.args.work.now.done c.args.line 1, kept.0, kept.1, kept.2);
+      reached = λ b s d H l R.
+          let F = c.formula_of-r.ensures _ _ (asked-line H l R (mark here) room refl) in
+          rw (visit-enters H l R (mark here) c.args.wanted (c.due.ensures b s H l R.known_in) (ap not c.if-not-due.false))
+          (c.enter.ensures s (set d c.args.line true) _ _ _ _ (formula_of s (line_at b c.args.line))
+          (formed-progress H l R (mark here) room refl F) (formed-means H l R (mark here) room refl F));
+    }

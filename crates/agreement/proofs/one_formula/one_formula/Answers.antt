@@ -10,4 +10,4 @@ owned-requires c = let g = c.requires.0 in
 
 pub returns : goal.returns
 returns c = λ b begins W I e G.
-    c.states_right.ensures b begins W (owned-all e (c.owned.ensures b.inherited_owners I (sym e))) G ∙ states-told W.formulas_held
+    c.states_right.ensures.answer b begins W (owned-all e (c.owned.ensures b.inherited_owners I (sym e))) G ∙ states-told W.formulas_held

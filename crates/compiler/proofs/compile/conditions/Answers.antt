@@ -5,23 +5,21 @@ use Rattle.grammar.specs.Conditions.Tests.{within_limits}
 use Rattle.conditions.specs.DeclaredTests.{names_declared}
 use Rattle.conditions.specs.SoundTests.{definitions_sound}
 use Rattle.book.specs.Refusals.{answer_of, number_of}
-use Rattle.compiler.specs.Conditions.{BookKept, asked-limits, asked-names, asked-lines, asked-sound, asked-definitions, names-missing, sound-declared, sound-owned, limits-refused, names-refused, sound-refused, definitions-refused, conditions-met}
+use Rattle.compiler.specs.InArrays.{KeptIn}
+use Rattle.compiler.specs.Conditions.{asked-limits, asked-names, asked-lines, asked-sound, asked-definitions, names-missing, sound-declared, sound-owned, limits-refused, names-refused, sound-refused, definitions-refused, conditions-met}
 use Rattle.compiler.proofs.compile.conditions.Goals as goal
 use Rattle.compiler.proofs.compile.conditions.Goals.{Else-not-names_declared, Else-not-sound, Else-not-within_limits}
 
 -- the conditions that a book that is held meets where the next one is asked
 
-limits : (c : Else-not-within_limits) (b : Lines) → let a = c.args in
-    BookKept a.book a.inherited.now a.synthesized.now a.rules.now a.definitions.now a.kernels.now a.goes.now b → within_limits b ≡ true
+limits : (c : Else-not-within_limits) (b : Lines) → KeptIn c.args.book c.args.lines.now b → within_limits b ≡ true
 limits c b h = sym (c.within_limits.ensures.for_all b (asked-limits h)) ∙ c.if-not-within_limits.false
 
-names : (c : Else-not-names_declared) (b : Lines) → let a = c.args in
-    BookKept a.book a.inherited.now a.synthesized.now a.rules.now a.definitions.now a.kernels.now a.goes.now b → within_limits b ≡ true
+names : (c : Else-not-names_declared) (b : Lines) → KeptIn c.args.book c.args.lines.now b → within_limits b ≡ true
     → names_declared b ≡ true
 names c b h w = sym (c.names_declared.ensures.for_all b (asked-names h w)) ∙ c.if-not-names_declared.false
 
-definitions : (c : Else-not-sound) (b : Lines) → let a = c.args in
-    BookKept a.book a.inherited.now a.synthesized.now a.rules.now a.definitions.now a.kernels.now a.goes.now b → within_limits b ≡ true
+definitions : (c : Else-not-sound) (b : Lines) → KeptIn c.args.book c.args.lines.now b → within_limits b ≡ true
     → names_declared b ≡ true → definitions_sound b ≡ true
 definitions c b h w n = sym (c.sound.ensures.for_all b (asked-sound h w n)) ∙ c.if-not-sound.false
 

@@ -9,7 +9,7 @@ use Rattle.formulas.proofs.formulas.formula_of.Goals.{In-loop-i}
 use Rattle.formulas.proofs.formulas.formula_of.Goals as goal
 
 abbrev AskedAt : In-loop-i → Expr → (ℕ → Formula) → Type 0
-AskedAt c e f = Asked c.args.definitions.now c.args.line c.args.dot c.args.slots.now c.args.table.now c.args.used e f
+AskedAt c e f = Asked c.args.definitions.now c.args.line c.args.dot c.args.slots.now c.args.nodes.now.rows.now c.args.used e f
 
 -- a step is left in a turn
 left : (c : In-loop-i) (e : Expr) (f : ℕ → Formula) → AskedAt c e f → c.loop-i.i < nodes e
@@ -20,7 +20,7 @@ few c = let A = c.requires.by_index.2 in omega (arith, left c _ _ A, A.stands.fe
 
 -- the run in a turn, of the expression and the formulas of the contract's own premise
 running : (c : In-loop-i) → let at = c.loop-i in
-    Running c.args.dot c.args.slots.now c.requires.by_index.0 c.requires.by_index.1 c.args.table.now c.args.used at.table at.heads at.nexts at.used at.stack at.top at.i
+    Running c.args.dot c.args.slots.now c.requires.by_index.0 c.requires.by_index.1 c.args.nodes.now.rows.now c.args.used at.nodes.rows.now at.nodes.heads.now at.nodes.nexts.now at.used at.stack at.top at.i
 running c = c.loop-i.invariant _ _ c.requires.by_index.2
 
 pub loop-i-init : goal.loop-i-init

@@ -6,5 +6,5 @@ use Rattle.formulas.specs.FormulasLaws.{Running}
 use Rattle.formulas.proofs.formulas.formula_of.Given as goal
 
 abbrev pub invariant-loop-i : goal.invariant-loop-i
-invariant-loop-i l = (e : Expr) (f : ℕ → Formula) → Asked l.definitions l.line l.dot l.slots l.initial.table l.initial.used e f
-    → Running l.dot l.slots e f l.initial.table l.initial.used l.table l.heads l.nexts l.used l.stack l.top l.i
+invariant-loop-i l = (e : Expr) (f : ℕ → Formula) → Asked l.definitions l.line l.dot l.slots l.initial.nodes.rows.now l.initial.used e f
+    → Running l.dot l.slots e f l.initial.nodes.rows.now l.initial.used l.nodes.rows.now l.nodes.heads.now l.nodes.nexts.now l.used l.stack l.top l.i

@@ -4,11 +4,11 @@ use Rattle.formulas.specs.Nodes.{shown}
 use Rattle.formulas.specs.Buckets.{hash-low, seek-start, seek-next, seek-less}
 use Rattle.formulas.proofs.interning.find.Goals as goal
 
-pub offset_bounds-heads-bucket : goal.offset_bounds-heads-bucket
-offset_bounds-heads-bucket c = omega (arith, c.requires.1, hash-low (shown c.args.row))
+pub offset_bounds-nodes-bucket : goal.offset_bounds-nodes-bucket
+offset_bounds-nodes-bucket c = omega (arith, c.requires.1, hash-low (shown c.args.row))
 
-pub bounds-heads-bucket : goal.bounds-heads-bucket
-bounds-heads-bucket c = omega (arith, c.requires.1, hash-low (shown c.args.row), c.requires.0.heads_long)
+pub bounds-nodes-bucket : goal.bounds-nodes-bucket
+bounds-nodes-bucket c = omega (arith, c.requires.1, hash-low (shown c.args.row), c.requires.0.heads_long)
 
 pub loop-number-init : goal.loop-number-init
 loop-number-init c = seek-start c.requires.0 (shown c.args.row) _ c.requires.1

@@ -19,12 +19,12 @@ overflow_sub-below c = let p = c.requires.book_in in reduce-deep p.3 p.5 p.6 c.w
 pub returns-then-below-eq-MAX_STACK : goal.returns-then-below-eq-MAX_STACK
 unfolding number_of
 returns-then-below-eq-MAX_STACK c = λ b ks k B F H X.
-    record { tells = reduce-full B H X c.word.ensures c.requires.stacks.0.starts_long c.if-top-eq-MAX_ROWS.false c.if-below-eq-MAX_STACK.true }
+    record { tells = reduce-full B H X c.word.ensures c.requires.room.0.starts_long c.if-top-eq-MAX_ROWS.false c.if-below-eq-MAX_STACK.true }
 
 pub put_left-requires-clause-left_asked : goal.put_left-requires-clause-left_asked
 put_left-requires-clause-left_asked c = let (b, ks, k, B, F, H, X) = c.requires.book_in in
-    (b, ks, k, reduce-left B H X c.word.ensures F c.requires.stacks.0.starts_long c.if-top-eq-MAX_ROWS.false c.if-below-eq-MAX_STACK.false)
+    (b, ks, k, reduce-left B H X c.word.ensures F c.requires.room.0.starts_long c.if-top-eq-MAX_ROWS.false c.if-below-eq-MAX_STACK.false)
 
 pub returns : goal.returns
 returns c = λ b ks k B F H X.
-    record { tells = c.put_left.ensures b ks k (reduce-left B H X c.word.ensures F c.requires.stacks.0.starts_long c.if-top-eq-MAX_ROWS.false c.if-below-eq-MAX_STACK.false) }
+    record { tells = c.put_left.ensures b ks k (reduce-left B H X c.word.ensures F c.requires.room.0.starts_long c.if-top-eq-MAX_ROWS.false c.if-below-eq-MAX_STACK.false) }

@@ -11,13 +11,13 @@ pub returns-then-found-eq0 : goal.returns-then-found-eq0
 returns-then-found-eq0 c = λ b H l M.
     let F = H.formulas_held in
     told-empty c.requires.1 M l
-    (plan-empty F.ordered (FormulasHeld.limits F) (FormulasHeld.declared F) c.args.state c.args.terminal (c.members.ensures b _ H l)
+    (plan-empty F.ordered (FormulasHeld.limits F) (FormulasHeld.declared F) c.args.state c.args.terminal (c.members.ensures b H l)
     (plans-check H).premises.definitions_limit c.if-found-eq0.true)
 
 pub plan_next-requires : goal.plan_next-requires
 plan_next-requires c = let (b, H, l, M) = c.requires.0 in
-    ((b, _, plans-check H, c.members.ensures b _ H l, l, M), omega (arith, l, (FormulasHeld.limits H.formulas_held).states_limit.high), c.requires.1)
+    ((b, _, plans-check H, c.members.ensures b H l, l, M), omega (arith, l, (FormulasHeld.limits H.formulas_held).states_limit.high), c.requires.1)
 
 pub returns : goal.returns
 returns c = λ b H l M.
-    c.plan_next.ensures b _ (plans-check H) (c.members.ensures b _ H l) l M
+    c.plan_next.ensures b _ (plans-check H) (c.members.ensures b H l) l M

@@ -39,9 +39,10 @@ see k a (seen last set) = seen (Some a) (with set a)
 abbrev pub last_number : Option ℕ → List ℕ
 last_number last = last_key (λ (a : ℕ). a ∷ []) last
 
--- what is answered of them: the largest, if there is one, the set, and the position after them
-pub record Looks (p : Parsed (List ℕ)) (text : List ℕ) (last : Option ℕ) (set next : ℕ) : Type 0 where
+-- what is answered of them: how many, the largest, if there is one, the set, and the position after them
+pub record Looks (p : Parsed (List ℕ)) (text : List ℕ) (count : ℕ) (last : Option ℕ) (set next : ℕ) : Type 0 where
   pub remaining_is : rest text next ≡ remaining p
+  pub count_is : count ≡ length (result p)
   pub some_is : is_some last ≡ ltb 0 (length (result p))
   pub last_is : unwrap_or last 0 ≡ last_of (result p)
   pub set_is : set ≡ set_of (result p)
@@ -108,12 +109,13 @@ seen-from k s l [] = refl
 seen-from k s l (a ∷ cs) = seen-from (suc k) (with s a) (Some a) cs
 
 looks-of : {p : Parsed (List ℕ)} {text : List ℕ} {last : Option ℕ} {count set next : ℕ} → Gathers see p text (seen None 0) count next (seen last set)
-    → Looks p text last set next
+    → Looks p text count last set next
 looks-of {p} {last = last} {set = set} g =
     let e : seen last set ≡ seen (last_from None (result p)) (set_from 0 (result p)) = g.kept_is ∙ seen-from 0 0 None (result p) in
     let l : last ≡ last_from None (result p) = cc in
     record {
       remaining_is = g.remaining_is;
+      count_is = g.count_is;
       some_is = rw l (some-from (result p));
       last_is = rw l (number-from (result p));
       set_is = cc (set-from (result p));
@@ -141,35 +143,33 @@ kernels-size o = size-section (opening (word_of "kernel")) kernel_line (λ last.
 
 -- Amid the lookaheads of a line: the last that was read, the set, and the position
 
-pub record Looking (start : Parsed (List ℕ)) (text : List ℕ) (last : Option ℕ) (set p : ℕ) : Type 0 where
-  pub count : ℕ
+pub record Looking (start : Parsed (List ℕ)) (text : List ℕ) (count : ℕ) (last : Option ℕ) (set p : ℕ) : Type 0 where
   pub reading : Reading (naming (word_of "t")) lookahead (λ before. lookahead_key) see text start (seen None 0) (last_number last) count p (seen last set)
 
-pub looking-start : (text : List ℕ) (at : ℕ) {set : ℕ} → set ≡ 0 → Looking (lookaheads (rest text at)) text None set at
+pub looking-start : (text : List ℕ) (at : ℕ) {set : ℕ} → set ≡ 0 → Looking (lookaheads (rest text at)) text 0 None set at
 unfolding lookaheads
-looking-start text at e = record { count = 0; reading = rw e (reading-start _ _ _ _ lookaheads-shrink _ _ _ _) }
+looking-start text at e = record { reading = rw e (reading-start _ _ _ _ lookaheads-shrink _ _ _ _) }
 
 -- there is no other
-pub looking-done : {start : Parsed (List ℕ)} {text : List ℕ} {last : Option ℕ} {set p : ℕ} → Looking start text last set p
-    → Unnamed text p → Looks start text last set p
+pub looking-done : {start : Parsed (List ℕ)} {text : List ℕ} {count : ℕ} {last : Option ℕ} {set p : ℕ} → Looking start text count last set p
+    → Unnamed text p → Looks start text count last set p
 looking-done L u = looks-of (reading-done _ _ _ _ lookaheads-shrink _ L.reading u.name_is u.outside)
 
-pub looking-closed : {start : Parsed (List ℕ)} {text : List ℕ} {last : Option ℕ} {set p : ℕ} → Looking start text last set p
-    → p < length text → get_or text p 0 ≡ 41 → Looks start text last set p
+pub looking-closed : {start : Parsed (List ℕ)} {text : List ℕ} {count : ℕ} {last : Option ℕ} {set p : ℕ} → Looking start text count last set p
+    → p < length text → get_or text p 0 ≡ 41 → Looks start text count last set p
 looking-closed {text = text} L h e = looking-done L (unnamed-closed text _ h e)
 
-module _ {start : Parsed (List ℕ)} {text : List ℕ} {last : Option ℕ} {set p a next : ℕ} (L : Looking start text last set p)
+module _ {start : Parsed (List ℕ)} {text : List ℕ} {count : ℕ} {last : Option ℕ} {set p a next : ℕ} (L : Looking start text count last set p)
     (N : Names text p a next) where
   -- there is one more, which is fine or not
   module _ {fine : Bool} {set' : ℕ} (before : fine ≡ is_before (last_number last) (a ∷ [])) (more : set' ≡ with set a) where
     read-to : {q : ℕ} → rest text q ≡ must fine (rest text next) → Gives (lookahead (last_number last) (rest text N.from)) text a q
     read-to {q} e = lookahead-read _ q N.number_is before e
 
-    turn-to : {q : ℕ} → rest text q ≡ must fine (rest text next) → Looking start text (Some a) set' q
+    turn-to : {q : ℕ} → rest text q ≡ must fine (rest text next) → Looking start text (count + 1) (Some a) set' q
     unfolding see lookahead_key
     turn-to e =
         record {
-          count = L.count + 1;
           reading =
               reading-turn _ _ _ _ lookaheads-shrink _ L.reading N.name_is N.inside (read-to e).remaining_is (rw (read-to e).result_is)
               (rw (more, (read-to e).result_is));
@@ -179,10 +179,10 @@ module _ {start : Parsed (List ℕ)} {text : List ℕ} {last : Option ℕ} {set 
     looking-less f =
         reading-less _ _ _ _ lookaheads-shrink _ L.reading N.name_is N.inside (read-to (sym (must-true fine (rest text next) f))).remaining_is
 
-    pub looking-turn : fine ≡ true → Looking start text (Some a) set' next
+    pub looking-turn : fine ≡ true → Looking start text (count + 1) (Some a) set' next
     looking-turn f = turn-to (sym (must-true fine (rest text next) f))
 
-    pub looking-out : {q : ℕ} → fine ≡ false → length text < q → Looks start text (Some a) set' q
+    pub looking-out : {q : ℕ} → fine ≡ false → length text < q → Looks start text (count + 1) (Some a) set' q
     looking-out {q} f o =
         looking-done (turn-to (rest_out text q o ∙ sym (must-false fine (rest text next) f))) (unnamed-out text q o)
 
@@ -200,8 +200,8 @@ item_of state e₁ rule e₂ dot = record { state_is = cc; rule_is = cc; dot_is 
 
 -- The steps of a line: its item, the lookaheads, that there are some, the end, the order, the store
 
-module _ {text out out' : List ℕ} {ascending : Bool} {some : Bool} {room k at S P D p₅ a set p₆ p₉ : ℕ} {largest : Option ℕ} (last : List ℕ) (p₇ p₈ : ℕ) where
-  pub kernel-steps : Item text at S P D p₅ → Looks (lookaheads (rest text p₅)) text largest set p₆
+module _ {text out out' : List ℕ} {ascending : Bool} {some : Bool} {room k at S P D p₅ a count set p₆ p₉ : ℕ} {largest : Option ℕ} (last : List ℕ) (p₇ p₈ : ℕ) where
+  pub kernel-steps : Item text at S P D p₅ → Looks (lookaheads (rest text p₅)) text count largest set p₆
       → some ≡ is_some largest → rest text p₇ ≡ must some (rest text p₆) → rest text p₈ ≡ closing (rest text p₇)
       → ascending ≡ is_before last (S ∷ P ∷ D ∷ []) → rest text p₉ ≡ must ascending (rest text p₈)
       → a ≡ unwrap_or largest 0 → out' ≡ put_line room k (S ∷ P ∷ D ∷ a ∷ set ∷ []) out

@@ -14,9 +14,8 @@ use Rattle.grammar.specs.Engine.{Reading, reading_of, read_book}
 use Rattle.book.specs.declared.Book.{Book}
 use Rattle.book.specs.declared.Room.{Room}
 use Rattle.book.specs.declared.refusal.Refusal.{Refusal}
-use Rattle.book.specs.Refusals.{answer_of}
+use Rattle.book.specs.Refusals.{answer_of, number-some}
 use Rattle.book.specs.Rooms.{full_room}
-use Rattle.compiler.specs.Answered.{number-some}
 
 -- the number that is answered, and every lent word afterwards
 pub record Reads (reading : Reading) (number : ℕ) (words : List ℕ) : Type 0 where

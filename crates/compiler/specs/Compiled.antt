@@ -7,10 +7,9 @@ use Rattle.book.specs.declared.Book.{Book}
 use Rattle.book.specs.declared.Room.{Room}
 use Rattle.book.specs.declared.refusal.Refusal.{Refusal}
 use Rattle.book.specs.Counts.{counts_of}
-use Rattle.book.specs.Refusals.{number_of, answer_of}
+use Rattle.book.specs.Refusals.{number_of, answer_of, number-some}
 use Rattle.book.specs.Rooms.{full_room}
 use Rattle.book.specs.Spelling.{Complete}
-use Rattle.compiler.specs.Answered.{number-some}
 use Rattle.compiler.specs.Compiling.{Compiles}
 
 -- where there is room for all that the limits allow, nothing is left out

@@ -1,4 +1,3 @@
-pub mod Answered
 pub mod Compiled
 pub mod Compiling
 pub mod Conditions

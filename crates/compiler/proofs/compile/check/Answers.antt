@@ -1,5 +1,4 @@
-use Rattle.book.specs.Refusals.{answer_of, number_of}
-use Rattle.compiler.specs.Answered.{answer-none, answer-some, handed_on}
+use Rattle.book.specs.Refusals.{answer_of, number_of, answer-none, answer-some, handed_on}
 use Rattle.compiler.specs.Compiling.{asked-fronts, attributes-counted, rules_few, checked_refused, checked-formulas, checked-all}
 use native.Mathlib.Omega.{arith}
 use Rattle.compiler.proofs.compile.check.Goals as goal

@@ -1,4 +1,4 @@
-use Rattle.compiler.specs.Answered.{answer-none, answer-some, handed_on}
+use Rattle.book.specs.Refusals.{answer-none, answer-some, handed_on}
 use Rattle.compiler.specs.Prepared.{asked-tables, prepared-refused, prepared-tables}
 use Rattle.compiler.proofs.compile.prepare.Goals as goal
 

@@ -1,7 +1,8 @@
 -- The kernel lines from one up to another, and what they give their next nonterminals one after the other.
 -- Assumes nothing.
-use Rattle.std.specs.Prelude.{ℕ, zero, suc, ◌+◌, ◌*◌, ◌-◌, ◌<◌, ◌≤◌, ◌≡◌, refl, Bool, true, false, ◌||◌, List, [], ◌∷◌, length, get_or, take, drop}
+use Rattle.std.specs.Prelude.{ℕ, zero, suc, ◌+◌, ◌*◌, ◌-◌, ◌<◌, ◌≤◌, ◌≡◌, refl, Bool, true, false, List, [], ◌∷◌, length, get_or, take, drop}
 use Rattle.std.proofs.Common.{sym, ap, ◌∙◌, arith, add-one, drop-cons}
+use Rattle.grammar.specs.Automaton.TestLaws.{true-false}
 use Rattle.grammar.specs.Data.Symbol.{after}
 use Rattle.grammar.specs.Data.Book.{Book, Kernel}
 use Rattle.grammar.specs.Automaton.Fixpoint.{Constraint, visit}
@@ -82,10 +83,6 @@ pub record Beginning (rules kernels nullables begins : List ℕ) (from to : ℕ)
   pub goes : (b : Book) (F : Sets) → KernelItemsIn b F rules kernels nullables begins → to ≤ length b.kernels
       → from_kernels b F (lines b.kernels i to) now ≡ from_kernels b F (lines b.kernels from to) first
 
-neither : (s t : Bool) → (s || t) ≡ false → (s ≡ false) × (t ≡ false)
-neither true t q = cc
-neither false t q = (refl, q)
-
 -- one line more
 pub lines-visit : (b : Book) (F : Sets) (i to : ℕ) (sets : List ℕ) → i < to → to ≤ length b.kernels
     → from_kernels b F (lines b.kernels i to) sets ≡ from_kernels b F (lines b.kernels (i + 1) to) (visit (line_into b F i) sets)
@@ -111,8 +108,11 @@ module _ {rules kernels nullables begins : List ℕ} {from to : ℕ} {first : Li
     next-goes b F H m =
         ap (from_kernels b F (lines b.kernels (i + 1) to)) (T b F H (omega arith)).now_is ∙ sym (lines-visit b F i to now h m) ∙ B.goes b F H m
 
-    pub begin-turn : (r ≡ false → next ≡ now) → Beginning rules kernels nullables begins from to first next (changed || r) (i + 1)
-    begin-turn e = record { long = l ∙ B.long; same = λ q. let (before, now) = neither changed r q in e now ∙ B.same before; goes = next-goes }
+    pub begin-more : Beginning rules kernels nullables begins from to first next true (i + 1)
+    begin-more = record { long = l ∙ B.long; same = λ q. true-false refl q; goes = next-goes }
+
+    pub begin-same : next ≡ now → Beginning rules kernels nullables begins from to first next changed (i + 1)
+    begin-same e = record { long = l ∙ B.long; same = λ q. e ∙ B.same q; goes = next-goes }
 
 -- opens every definition of this module
 unfoldable pub opens : Unit {0}

@@ -1,6 +1,7 @@
 pub mod Arrays
 pub mod ClosurePasses
 pub mod Closures
+pub mod Copying
 pub mod Derives
 pub mod Filling
 pub mod FirstLoops

@@ -81,7 +81,7 @@ module _ {constraint : ℕ → Constraint} {count : ℕ} {first : List ℕ} (F :
     there : Family (length first) next
     there = rw T.now_is (visit-family (constraint p) P.family (F.target_low p h))
 
-    turn_more : r ≡ true → Passing constraint count first next true (p + 1)
+    pub turn_more : r ≡ true → Passing constraint count first next true (p + 1)
     turn_more e = record {
       within = omega arith;
       family = there;

@@ -94,7 +94,10 @@ fn pass(
     let mut changed = false;
     let mut rule = leads[0] as usize;
     while rule < count {
-        changed |= visit(rules, nullables, begins, rule, looks);
+        // A test and no `|=`, here and in `begin`: the compiler would no longer leave a visit early, and closures of many passes would take half as long again.
+        if visit(rules, nullables, begins, rule, looks) {
+            changed = true;
+        }
         rule = leads[rule + 1] as usize;
     }
     changed
@@ -156,7 +159,9 @@ fn begin(
 {
     let mut given = false;
     for i in from..to {
-        given |= line(rules, kernels, nullables, begins, i, looks);
+        if line(rules, kernels, nullables, begins, i, looks) {
+            given = true;
+        }
     }
     given
 }

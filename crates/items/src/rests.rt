@@ -8,6 +8,7 @@ use super::first::first_sets;
 use super::nullable::nullable;
 use super::reach::reach;
 use super::suffixes::suffixes;
+use super::words::copy;
 
 // Fills three arrays of nine words a rule. Where no rest is a dead end, what is reached is what can begin.
 pub fn rests(
@@ -26,8 +27,7 @@ pub fn rests(
     let mut firsts = [0u32; 32];
     first_sets(rules, count, nulls, &mut firsts);
     if suffixes(rules, count, nulls, &firsts, nullables, begins) {
-        let words = 9 * count as usize;
-        reaches[..words].copy_from_slice(&begins[..words]);
+        copy(begins, 9 * count as usize, reaches);
     } else {
         reach(rules, count, nulls, nullables, begins, reaches);
     }

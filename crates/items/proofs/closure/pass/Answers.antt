@@ -2,10 +2,11 @@ use Prim.Native.Nat.{◌<◌}
 use native.Mathlib.Omega.{arith}
 use lib.ListN.{length}
 use Rattle.grammar.specs.Automaton.LeastLaws.{Family}
-use Rattle.items.specs.Passes.{pass-begins, turn}
+use Rattle.items.specs.Passes.{pass-begins, turn_more, turn-same}
 use Rattle.items.specs.ClosurePasses.{closure-fits}
 use Rattle.items.specs.Leads.{lead-on}
 use Rattle.items.proofs.closure.pass.Goals as goal
+use Rattle.items.proofs.closure.pass.Goals.{else-visit, then-visit}
 use Rattle.items.proofs.closure.pass.Goals.{After-slice_known-1}
 
 -- the words lent are sets
@@ -20,6 +21,7 @@ loop-rule-init c =
 pub loop-rule-preserved : goal.loop-rule-preserved
 loop-rule-preserved c =
     let h = c.loop-rule-test.true in
+    let told = c.visit.ensures in
     let sets = (family (goal.at.loop-rule-preserved c).After-slice_known-1) in
     let leads = c.requires.1 in
     λ b F H e.
@@ -27,4 +29,7 @@ loop-rule-preserved c =
     let inv = c.loop-rule.invariant b F H e in
     let p : c.loop-rule.rule < length b.rules = omega arith in
     lead-on H leads e sets
-    (turn fits inv h (c.visit-changed.ensures b F H p))
+    (elim c.if-visit.branch [
+      | then-visit w ↦ rw w.changed-is (turn_more fits inv h (told b F H p) w.if-visit.true)
+      | else-visit w ↦ rw w.changed-is (turn-same fits inv h (told b F H p) w.if-visit.false)
+    ])

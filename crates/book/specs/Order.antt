@@ -6,6 +6,7 @@ use Rattle.std.specs.Ordering.{nat_cmp, is_lt, is_some_and, partial_ordering_the
 use Rattle.std.specs.Prelude.{ℕ, ◌+◌, ◌≤◌, ◌≡◌, Bool, List, [], ◌∷◌, Option, Some, None, length}
 use Rattle.std.proofs.Math.Path.{refl}
 use Rattle.std.proofs.Math.Bool.{true, false}
+use Rattle.std.proofs.Common.{arith, eq-eqb, ne_eqb, le-ltb}
 use Rattle.std.proofs.Math.Dec.{eqb, ltb}
 use Rattle.text.specs.Rest.{Rest, rest}
 use Rattle.grammar.specs.Format.Reader.{Parsed, Reader}
@@ -22,6 +23,18 @@ last_key key None = []
 last_key key (Some x) = key x
 
 module _ (x y : ℕ) where
+  pub before-unequal : (xs ys : List ℕ) → (x ≡ y → ⊥) → ltb x y ≡ is_before (x ∷ xs) (y ∷ ys)
+  unfolding is_before
+  before-unequal xs ys h = go (ltb x y) refl
+    where
+      go : (t : Bool) → ltb x y ≡ t → ltb x y ≡ is_before (x ∷ xs) (y ∷ ys)
+      go true e = rw (e, is_before)
+      go false e = rw (e, is_before) (rw (ne_eqb x y h))
+
+  pub before-equal : (xs ys : List ℕ) → x ≡ y → is_before xs ys ≡ is_before (x ∷ xs) (y ∷ ys)
+  unfolding is_before
+  before-equal xs ys h = rw (le-ltb x y (omega arith), is_before) (rw (eq-eqb x y h))
+
   pub before-one : ltb x y ≡ is_before (x ∷ []) (y ∷ [])
   unfolding is_before
   before-one = go (ltb x y) (eqb x y) refl refl

@@ -1,13 +1,13 @@
--- The operations of `Sets` on numbers below 2 ^ 32 are the machine's: union is `|`, the numbers that a set does not hold are those of `!`, and the two
--- tests compare an `&`.
+-- The operations of `Sets` on numbers below 2 ^ 32 are the machine's: union is `|`, the numbers that a set does not hold are those of `!`, or of `^` with
+-- all of them, and the two tests compare an `&`.
 -- Assumes nothing.
-use Rattle.std.specs.Prelude.{ℕ, zero, suc, ◌-◌, ◌/◌, ◌%◌, ◌^◌, ◌<◌, min, max, ◌≡◌, Bool, true, false, not, ◌&&◌, ◌||◌, eqb}
+use Rattle.std.specs.Prelude.{ℕ, zero, suc, ◌+◌, ◌-◌, ◌/◌, ◌%◌, ◌^◌, ◌<◌, min, max, ◌≡◌, Bool, true, false, not, ◌&&◌, ◌||◌, eqb}
 use Rattle.std.proofs.Math.Path.{refl}
 use Rattle.std.proofs.Common.{sym, ap, ◌∙◌, arith, eq-eqb, ne_eqb, eqb-true}
-use Rattle.std.specs.Int.Bits.{bit_and, bit_or, and_lt, or_add_and}
+use Rattle.std.specs.Int.Bits.{bit_and, bit_or, bit_xor, and_lt, or_add_and}
 use Rattle.std.proofs.lemmas.Nat.{or_lt, and_le_l, and_le_r}
 use Rattle.std.specs.Int.{w32}
-use Rattle.std.proofs.lemmas.Nat.Bits.{bit_at_and, bit_at_or, bit_at_not, bit_at_ones}
+use Rattle.std.proofs.lemmas.Nat.Bits.{bit_at_and, bit_at_or, bit_at_xor, bit_at_not, bit_at_ones}
 use Rattle.sets.specs.Sets.{bit, empty, union, subset, meets}
 use Rattle.sets.proofs.SetsLaws.{bit-empty, bit-union, empty-lt, union-lt, same_set, subset-holds, subset-true, meets-holds, meets-false}
 
@@ -62,9 +62,17 @@ bit-full i h = ap (λ (n : ℕ). eqb n 1) (bit_at_ones 32 i h)
 flip : (x : ℕ) → x < 2 → eqb (1 - x) 1 ≡ not (eqb x 1)
 flip x h = digit (λ x. eqb (1 - x) 1 ≡ not (eqb x 1)) refl refl x h
 
-pub bit-others : (s i : ℕ) → s < 2 ^ 32 → i < 32 → bit (full - s) i ≡ not (bit s i)
+pub bit-not : (s i : ℕ) → s < 2 ^ 32 → i < 32 → bit (full - s) i ≡ not (bit s i)
 unfolding bit
-bit-others s i l h = ap (λ (n : ℕ). eqb n 1) (bit_at_not w32 s i l h) ∙ flip (s / 2 ^ i % 2) (omega arith)
+bit-not s i l h = ap (λ (n : ℕ). eqb n 1) (bit_at_not w32 s i l h) ∙ flip (s / 2 ^ i % 2) (omega arith)
+
+turn : (x : ℕ) → x < 2 → eqb ((x + 1) % 2) 1 ≡ not (eqb x 1)
+turn x h = digit (λ x. eqb ((x + 1) % 2) 1 ≡ not (eqb x 1)) refl refl x h
+
+pub bit-others : (s i : ℕ) → i < 32 → bit (bit_xor s full) i ≡ not (bit s i)
+unfolding bit
+bit-others s i h =
+    ap (λ (n : ℕ). eqb n 1) (bit_at_xor s full i ∙ ap (λ (n : ℕ). (s / 2 ^ i % 2 + n) % 2) (bit_at_ones 32 i h)) ∙ turn (s / 2 ^ i % 2) (omega arith)
 
 -- ---- the tests
 

@@ -26,13 +26,13 @@ unfolding bit
 bit_past s i h = ap (λ (x : ℕ). eqb (x % 2) 1) (div-eq_of_lt h)
 
 -- a power of two in front of a smaller number: its own bit, and those below it
-bit-top : (s k : ℕ) → s < 2 ^ k → bit (2 ^ k + s) k ≡ true
+pub bit-top : (s k : ℕ) → s < 2 ^ k → bit (2 ^ k + s) k ≡ true
 unfolding bit
 bit-top s k h =
     let e : 1 * 2 ^ k + s ≡ 2 ^ k + s = omega arith in
     ap (λ (x : ℕ). eqb (x % 2) 1) (subst (λ (x : ℕ). x / 2 ^ k ≡ 1) e (high 1 k h))
 
-bit-under : (i k s : ℕ) → i < k → bit (2 ^ k + s) i ≡ bit s i
+pub bit-under : (i k s : ℕ) → i < k → bit (2 ^ k + s) i ≡ bit s i
 unfolding bit
 bit-under i k s h =
     let e : 1 * 2 ^ k + s ≡ 2 ^ k + s = omega arith in

@@ -128,6 +128,13 @@ module _ (S : System) (P : Positional S) where
           rw q (omega (arith, P.from_zero b e, P.to_base b e))
       go false q = absurd (h (rw q))
 
+  pub digit-most : (b : ℕ) → digit_of S b ≤ S.base
+  digit-most b = go (eqb (digit_of S b) S.base) refl
+    where
+      go : (t : Bool) → eqb (digit_of S b) S.base ≡ t → digit_of S b ≤ S.base
+      go true q = omega (arith, eqb-true (digit_of S b) S.base q)
+      go false q = omega (arith, digit-below b (eqb-false (digit_of S b) S.base q))
+
   fewer : (n : ℕ) → S.base ≤ n → n / S.base < n
   fewer n h = div-lt_self (omega (arith, P.base_is)) P.base_is
 

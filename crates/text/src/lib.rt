@@ -7,7 +7,7 @@ pub mod notation;
 pub mod numbers;
 pub mod source;
 
-ghost use Rattle.std.specs.Prelude.{◌≡◌};
+ghost use Rattle.std.specs.Prelude.{◌≡◌, ◌≤◌, ◌<◌, length};
 ghost use Rattle.text.specs.Class.{class_of};
 ghost use Rattle.text.specs.Table.{table};
 
@@ -53,6 +53,19 @@ impl Cursor {
     {
         Cursor { value: 0, at: 0 }
     }
+}
+
+// A position past the end: a misspelt text goes on nowhere. It is taken from a byte of the text so that compilers keep their branches; a conditional
+// move would make each byte wait for the one before it.
+pub fn misspelt(text: &[u8]) -> usize
+    requires { length text.now ≤ 65536 }
+    ensures { length text.now < result }
+{
+    let n = text.len();
+    if n == 0 {
+        return 1;
+    }
+    n + 1 + text[n - 1] as usize
 }
 
 // The class of each of the 256 byte values.

@@ -4,7 +4,7 @@ ghost use Rattle.text.specs.Class.{class_of};
 ghost use Rattle.text.specs.Rest.{rest, mark, must};
 ghost use Rattle.text.specs.Lent.{Lent};
 
-use super::class;
+use super::{class, misspelt};
 
 // The text, with the table of classes.
 #[derive(Clone, Copy)]
@@ -22,16 +22,11 @@ impl Source<'_> {
         class(self.classes, b)
     }
 
-    // A position past the end: a misspelt text goes on nowhere. It is taken from a byte of the text so that compilers keep their branches; a conditional
-    // move would make each byte wait for the one before it.
+    // A position past the end.
     pub fn misspelt(&self) -> usize
         ensures { length self.now.bytes.now < result }
     {
-        let n = self.bytes.len();
-        if n == 0 {
-            return 1;
-        }
-        n + 1 + self.bytes[n - 1] as usize
+        misspelt(self.bytes)
     }
 
     // Past one byte of the wanted class.

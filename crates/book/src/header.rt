@@ -24,7 +24,7 @@ pub fn header(source: &Source<'_>, at: usize) -> HeaderRead
         word: BOOK,
         bytes: b"(book ",
     };
-    let a = line_head(source, at, &first);
+    let a = line_head(source.classes, source.bytes, at, first.word, first.bytes);
     let terminals = source.number(a);
     let b = source.mark(terminals.at, text::SPACE);
     let nonterminals = source.number(b);

@@ -100,7 +100,7 @@ pub fn owner_lines(source: &Source<'_>, at: usize, kind: Kind, out: &mut [u32]) 
     // The text tells how many there are: a reader's position goes on, and the count is part of the answer.
     let mut k: u32 = 0;
     loop {
-        let a = line_head(source, p, &head);
+        let a = line_head(source.classes, source.bytes, p, head.word, head.bytes);
         if n < a {
             return Section { count: k, at: p };
         }

@@ -67,6 +67,6 @@ pub fn numbered(source: &Source<'_>, at: usize, k: u32) -> Cursor
 pub fn end_line(source: &Source<'_>, at: usize) -> usize
     ensures { rest source.now.bytes.now result ≡ end_line (rest source.now.bytes.now at) }
 {
-    let a = head(source, at, END, text::CLOSE);
+    let a = head(source.classes, source.bytes, at, END, text::CLOSE);
     source.mark(a, text::FEED)
 }

@@ -64,7 +64,7 @@ fn token_line(line: &Source<'_>) -> Option<Token>
         word: TOK,
         bytes: b"(tok ",
     };
-    let a = line_head(line, 0, &head);
+    let a = line_head(line.classes, line.bytes, 0, head.word, head.bytes);
     let kind = line.number(a);
     let b = line.mark(kind.at, text::SPACE);
     let value = line.number(b);

@@ -190,7 +190,7 @@ fn definition_lines(
     let mut k: u32 = 0;
     let mut last = None;
     loop {
-        let a = line_head(source, p, &head);
+        let a = line_head(source.classes, source.bytes, p, head.word, head.bytes);
         if n < a {
             return Section { count: k, at: p };
         }

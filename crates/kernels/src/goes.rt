@@ -142,7 +142,7 @@ pub fn go_lines(source: &Source<'_>, at: usize, room: usize, out: &mut [u32]) ->
     let mut k: u32 = 0;
     let mut last = None;
     loop {
-        let a = line_head(source, p, &head);
+        let a = line_head(source.classes, source.bytes, p, head.word, head.bytes);
         if n < a {
             return Section { count: k, at: p };
         }

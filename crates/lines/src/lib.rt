@@ -1,5 +1,5 @@
 // The line reader: it carries the lent text along with its position, and every line is opened through it. The functions over it are thin; the core, `past_head`,
-// is on a text and a position.
+// is on slice and number.
 #![tactic(auto)]
 
 pub mod heads;
@@ -10,9 +10,8 @@ ghost use Rattle.text.specs.Numeral.{keyword};
 ghost use Rattle.text.specs.Rest.{rest, mark};
 ghost use Rattle.text.specs.Lent.{Lent};
 ghost use Rattle.grammar.specs.Format.Reader.{opening};
-ghost use Rattle.lines.specs.Heads.{Four, Same};
+ghost use Rattle.lines.specs.Heads.{Spells, Four, Same};
 
-use heads::Head;
 use text::source::Source;
 
 #[derive(Clone, Copy)]
@@ -23,10 +22,14 @@ pub struct LineReader<'a> {
 
 // `(word` and a byte of the class `end`, at a position of a text, by its parts. Cold, so that the short way before it is inlined without it.
 #[cold]
-pub fn head(source: &Source<'_>, at: usize, word: u32, end: u8) -> usize
-    ensures { rest source.now.bytes.now result
-        ≡ mark end (keyword word (mark open-bracket (rest source.now.bytes.now at))) }
+pub fn head(classes: &[u8; 256], text: &[u8], at: usize, word: u32, end: u8) -> usize
+    requires { Lent classes.now text.now }
+    ensures { rest text.now result ≡ mark end (keyword word (mark open-bracket (rest text.now at))) }
 {
+    let source = Source {
+        classes,
+        bytes: text,
+    };
     let a = source.mark(at, text::OPEN);
     let b = source.keyword(a, word);
     source.mark(b, end)
@@ -55,22 +58,23 @@ fn same_four(text: &[u8], at: usize, bytes: &[u8], from: usize) -> bool
 }
 
 // `(word ` at a position of a text: the bytes that it has are compared at once, and what is something else is read by its parts.
-fn past_head(source: &Source<'_>, at: usize, wanted: &Head<'_>) -> usize
-    ensures { rest source.now.bytes.now result ≡ opening wanted.now.word (rest source.now.bytes.now at) }
+fn past_head(classes: &[u8; 256], text: &[u8], at: usize, word: u32, bytes: &[u8]) -> usize
+    requires { Lent classes.now text.now × Spells word bytes.now }
+    ensures { rest text.now result ≡ opening word (rest text.now at) }
 {
-    let n = source.bytes.len();
-    let m = wanted.bytes.len();
+    let n = text.len();
+    let m = bytes.len();
     if n < m {
-        return head(source, at, wanted.word, text::SPACE);
+        return head(classes, text, at, word, text::SPACE);
     }
     if n - m < at {
-        return head(source, at, wanted.word, text::SPACE);
+        return head(classes, text, at, word, text::SPACE);
     }
-    if !same_four(source.bytes, at, wanted.bytes, 0) {
-        return head(source, at, wanted.word, text::SPACE);
+    if !same_four(text, at, bytes, 0) {
+        return head(classes, text, at, word, text::SPACE);
     }
-    if !same_four(source.bytes, at + m - 4, wanted.bytes, m - 4) {
-        return head(source, at, wanted.word, text::SPACE);
+    if !same_four(text, at + m - 4, bytes, m - 4) {
+        return head(classes, text, at, word, text::SPACE);
     }
     at + m
 }
@@ -83,23 +87,25 @@ pub fn line_at(text: &[u8], at: usize) -> LineReader<'_>
 }
 
 // The reader past `(word ` where it stands.
-pub fn open<'a>(classes: &[u8; 256], line: LineReader<'a>, wanted: &Head<'_>) -> LineReader<'a>
-    requires { Lent classes.now line.text.now }
+pub fn open<'a>(
+    classes: &[u8; 256],
+    line: LineReader<'a>,
+    word: u32,
+    bytes: &[u8],
+) -> LineReader<'a>
+    requires { Lent classes.now line.text.now × Spells word bytes.now }
     ensures { (result.text ≡ line.entry.text)
-        × (rest line.entry.text.now result.at ≡ opening wanted.now.word (rest line.entry.text.now line.entry.at)) }
+        × (rest line.entry.text.now result.at ≡ opening word (rest line.entry.text.now line.entry.at)) }
 {
     let text = line.text;
-    let source = Source {
-        classes,
-        bytes: text,
-    };
-    let at = past_head(&source, line.at, wanted);
+    let at = past_head(classes, text, line.at, word, bytes);
     LineReader { text, at }
 }
 
 // `(word ` at the beginning of a line: the reader is made there and opens it, and its position is the answer.
-pub fn line_head(source: &Source<'_>, at: usize, wanted: &Head<'_>) -> usize
-    ensures { rest source.now.bytes.now result ≡ opening wanted.now.word (rest source.now.bytes.now at) }
+pub fn line_head(classes: &[u8; 256], text: &[u8], at: usize, word: u32, bytes: &[u8]) -> usize
+    requires { Lent classes.now text.now × Spells word bytes.now }
+    ensures { rest text.now result ≡ opening word (rest text.now at) }
 {
-    open(source.classes, line_at(source.bytes, at), wanted).at
+    open(classes, line_at(text, at), word, bytes).at
 }

@@ -20,5 +20,5 @@ unfolding opening
 returns-then-not-same_four-2 c = c.head-then-not-same_four-2.ensures
 
 pub returns : goal.returns
-returns c = head_read c.args.wanted.now.spells _ _ (omega arith) (c.same_four.ensures c.if-not-same_four.false)
+returns c = head_read c.requires.1 _ _ (omega arith) (c.same_four.ensures c.if-not-same_four.false)
     (c.same_four-2.ensures c.if-not-same_four-2.false)

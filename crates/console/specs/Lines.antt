@@ -20,7 +20,7 @@ use Rattle.grammar.specs.Format.ReaderLaws.{open-got, keyword-got, closing-got, 
 use Rattle.grammar.specs.Format.Parse.{end_line}
 use Rattle.console.specs.declared.input.Token.{Token}
 use Rattle.console.specs.Desk.{is_end, token_line, spelled_by, token_of}
-use Rattle.console.specs.Digits.{length-numeral}
+use Rattle.console.specs.Digits.{numeral-most}
 
 -- Where a line ends
 
@@ -145,8 +145,8 @@ unfolding print_token bytes literal
 printed-length kind value f g =
     omega (
       arith,
-      length-numeral kind (omega arith) (32 ∷ numeral value (41 ∷ 10 ∷ [])),
-      length-numeral value (omega arith) (41 ∷ 10 ∷ []),
+      numeral-most kind (omega arith) (32 ∷ numeral value (41 ∷ 10 ∷ [])),
+      numeral-most value (omega arith) (41 ∷ 10 ∷ []),
     )
 
 pub long-token : (line : List ℕ) → TOKEN_BYTES < length line → token_of line ≡ none

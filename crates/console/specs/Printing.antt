@@ -1,15 +1,13 @@
 -- Words and rows printed one after another, from a place on.
 -- Assumes nothing.
-use Rattle.std.specs.Prelude.{ℕ, zero, suc, ◌+◌, ◌*◌, ◌-◌, ◌≤◌, ◌<◌, ◌≡◌, List, [], get_or, take, drop, Result, Ok, Err, IfOk}
+use Rattle.std.specs.Prelude.{ℕ, zero, suc, ◌+◌, ◌*◌, ◌-◌, ◌≤◌, ◌<◌, ◌≡◌, refl, List, [], get_or, take, drop, Result, Ok, Err, IfOk}
 use Rattle.std.proofs.Common.{sym, ◌∙◌, append-nil, drop_of_length-le, drop-drop}
 use native.Mathlib.Omega.{arith}
 use Rattle.std.proofs.Math.ListN.{length}
 use Rattle.text.proofs.RestLaws.{drop_more}
 use Rattle.grammar.specs.Format.Printer.{Printer, each}
-use Rattle.book.specs.declared.refusal.Refusal.{Refusal}
-use Rattle.book.specs.Refusals.{number_of}
 use Rattle.grammar.specs.Limits.{ROW_WORDS, MAX_ROWS, PAGE_WORDS}
-use Rattle.console.specs.Desk.{Answer, refused, accepted, print_word, print_row, print_rows, print_answer}
+use Rattle.console.specs.Desk.{Answer, refused, accepted, answer_of, print_word, print_row, print_rows, print_answer}
 use Rattle.console.specs.Output.{Puts}
 
 -- `(row`, ten words of a space and up to ten digits, `)` and the line feed
@@ -60,13 +58,27 @@ module _ (count : ℕ) (rows : List ℕ) where
   unfolding print_rows
   rows_end r = let e : count - count ≡ 0 = omega arith in rw e
 
--- of a count of rows or a refusal, and the rows' words
-unfoldable pub answer_in : Result ℕ Refusal → List ℕ → Answer
+-- of a count of rows or a refusal's number, and the rows' words
+abbrev pub answer_in : Result ℕ ℕ → List ℕ → Answer
 answer_in (Ok count) rows = accepted count rows
-answer_in (Err refusal) rows = refused (number_of refusal)
+answer_in (Err number) rows = refused number
+
+-- `answer_of` of a refusal's number, or of 0 and a count, is one of the two
+
+pub refused-is : {number : ℕ} (count : ℕ) (rows : List ℕ) → (number ≡ 0 → ⊥) → refused number ≡ answer_of number count rows
+unfolding answer_of
+refused-is {number} count rows h = go number h
+  where
+    go : (n : ℕ) → (n ≡ 0 → ⊥) → refused n ≡ answer_of n count rows
+    go zero h = absurd (h refl)
+    go (suc n) h = refl
+
+pub accepted-is : {number : ℕ} (count : ℕ) (rows : List ℕ) → number ≡ 0 → accepted count rows ≡ answer_of number count rows
+unfolding answer_of
+accepted-is count rows h = rw h
 
 -- a refusal, or a count of rows for which there is room
-pub record Printable (answer : Result ℕ Refusal) (rows out : List ℕ) : Type 0 where
+pub record Printable (answer : Result ℕ ℕ) (rows out : List ℕ) : Type 0 where
   pub few : IfOk answer (λ count. count ≤ MAX_ROWS)
   pub page : length rows ≡ PAGE_WORDS
   pub room : OUTPUT_BYTES ≤ length out

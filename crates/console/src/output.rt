@@ -1,15 +1,13 @@
 // The bytes of the answer, put into a buffer one after another; each function answers the place after what it put.
-ghost use Rattle.std.specs.Prelude.{◌≡◌, ◌++◌, ◌+◌, ◌*◌, ◌≤◌, length};
+ghost use Rattle.std.specs.Prelude.{◌≡◌, ◌++◌, ◌+◌, ◌*◌, ◌≤◌, ◌<◌, length};
 ghost use Rattle.grammar.specs.Limits.{ROW_WORDS};
 ghost use Rattle.grammar.specs.Format.Printer.{literal, numeral, each};
-ghost use Rattle.book.specs.Refusals.{number_of};
 ghost use Rattle.console.specs.Desk.{refused, print_word, print_row, print_rows};
+ghost use Rattle.console.specs.Digits.{Wide};
 ghost use Rattle.console.specs.Output.{Puts};
 ghost use Rattle.console.specs.Printing.{ROW_BYTES, OUTPUT_BYTES, Printable, answer_in, Printed};
 
 use book::Book;
-use book::refusal::Refusal;
-use itoa::Buffer;
 
 // The bytes of the longest row: `(row`, `)` and the line feed, and words of a space and ten digits.
 const ROW_BYTES: usize = 6 + 11 * Book::ROW_WORDS;
@@ -26,12 +24,42 @@ fn put_bytes(out: &mut [u8], at: usize, bytes: &[u8]) -> usize
     next
 }
 
-// A number in decimal digits.
+// How many digits a number has.
+fn width(n: u32) -> usize
+    ensures { Wide n result }
+{
+    let mut v = n;
+    let mut w: usize = 1;
+    while 10 <= v {
+        v /= 10;
+        w += 1;
+    }
+    w
+}
+
+// The byte of a digit.
+fn digit(d: u32) -> u8
+    requires { d < 10 }
+    ensures { result ≡ 48 + d }
+{
+    b'0' + d as u8
+}
+
+// A number in decimal digits, the last one first.
 fn put_number(out: &mut [u8], at: usize, n: u32) -> usize
     requires { at + 10 ≤ length out.old }
     ensures { Puts (numeral n) 10 out.old at out.new result }
 {
-    put_bytes(out, at, Buffer::new().format(n).as_bytes())
+    let next = at + width(n);
+    let mut i = next - 1;
+    let mut v = n;
+    while 10 <= v {
+        out[i] = digit(v % 10);
+        v /= 10;
+        i -= 1;
+    }
+    out[i] = digit(v);
+    next
 }
 
 // A space and a word.
@@ -87,16 +115,16 @@ fn put_last(out: &mut [u8], at: usize, word: &[u8], n: u32) -> usize
     put_bytes(out, b, b")\n")
 }
 
-// The refusal alone.
-pub fn put_refused(out: &mut [u8], refusal: Refusal) -> usize
+// The refusal alone, by its number.
+pub fn put_refused(out: &mut [u8], number: u32) -> usize
     requires { OUTPUT_BYTES ≤ length out.old }
-    ensures { Printed (refused (number_of refusal)) out.new result }
+    ensures { Printed (refused number) out.new result }
 {
-    put_last(out, 0, b"(refused ", refusal.number())
+    put_last(out, 0, b"(refused ", number)
 }
 
-// The whole answer: a refusal, or the rows and their count.
-pub fn put_answer(out: &mut [u8], answer: Result<u32, Refusal>, rows: &[u32]) -> usize
+// The whole answer: the number of a refusal, or the rows and their count.
+pub fn put_answer(out: &mut [u8], answer: Result<u32, u32>, rows: &[u32]) -> usize
     requires { Printable answer rows.now out.old }
     ensures { Printed (answer_in answer rows.now) out.new result }
 {
@@ -105,6 +133,6 @@ pub fn put_answer(out: &mut [u8], answer: Result<u32, Refusal>, rows: &[u32]) ->
             let a = put_rows(out, 0, rows, count as usize);
             put_last(out, a, b"(accepted ", count)
         }
-        Err(refusal) => put_refused(out, refusal),
+        Err(number) => put_refused(out, number),
     }
 }

@@ -1,7 +1,7 @@
 -- The answer in code: what is lent to the two calls, and what is asked of their figures.
 -- Assumes nothing.
 use Prim.Native.Nat.{ℕ, zero, suc, ◌*◌, ◌≤◌, ◌<◌}
-use Rattle.std.specs.Prelude.{◌≡◌, take, Result, Ok, Err, IfOk}
+use Rattle.std.specs.Prelude.{◌≡◌, take, Result, Ok, Err, IfOk, IsErrAnd, MatchResult}
 use Rattle.std.proofs.Math.Path.{refl, sym}
 use Rattle.std.proofs.Common.{ap, ◌∙◌, arith, length-take}
 use Rattle.std.proofs.Math.Option.{some}
@@ -18,7 +18,7 @@ use Rattle.console.specs.Desk.{Input, refused, accepted, answer_of, evaluated, a
 use Rattle.console.specs.Figures.{few-rows, calls-kept, answer-evaluated}
 use Rattle.console.specs.Holds.{HoldsBook, HoldsTokens}
 use Rattle.console.specs.Kept.{KEPT_NUMBERS}
-use Rattle.console.specs.Printing.{answer_in}
+use Rattle.console.specs.Printing.{answer_in, refused-is, accepted-is}
 use Rattle.console.proofs.Settled.{unended}
 use Rattle.console.proofs.Stands.{stands-front, stands-alone}
 
@@ -27,21 +27,27 @@ pub record Lengths (words rows : List ℕ) : Type 0 where
   pub words_long : length words ≡ BOOK_WORDS
   pub rows_long : length rows ≡ PAGE_WORDS
 
+-- with a refusal by its number
+abbrev pub numbered : Result ℕ Refusal → Result ℕ ℕ
+numbered (Ok count) = Ok count
+numbered (Err refusal) = Err (number_of refusal)
+
+-- as it is handed on
+pub numbered-is : (answer : Result ℕ Refusal) {told : Result ℕ ℕ}
+    → MatchResult answer (λ count. told ≡ Ok count) (λ refusal. IsErrAnd told (λ n. n ≡ number_of refusal)) → told ≡ numbered answer
+numbered-is (Ok count) h = h
+numbered-is (Err refusal) {told = Ok count} h = absurd h
+numbered-is (Err refusal) {told = Err n} h = rw h
+
 -- the answer and the rows are the evaluation's
 pub record Figured (e : Evaluation) (answer : Result ℕ Refusal) (rows : List ℕ) : Type 0 where
-  pub answer_is : answer_in answer rows ≡ evaluated e
-
--- a refusal's number is not 0
-refused_is : (n count : ℕ) (rows : List ℕ) → (n ≡ 0 → ⊥) → refused n ≡ answer_of n count rows
-unfolding answer_of
-refused_is zero count rows h = absurd (h refl)
-refused_is (suc n) count rows h = refl
+  pub answer_is : answer_in (numbered answer) rows ≡ evaluated e
 
 -- by its number and its count
-in-numbers : (answer : Result ℕ Refusal) (rows : List ℕ) → answer_in answer rows ≡ answer_of (number answer) (count_of answer) rows
-unfolding answer_in answer_of number count_of
-in-numbers (Ok count) rows = refl
-in-numbers (Err refusal) rows = refused_is (number_of refusal) 0 rows (refused-some (Err refusal) refl)
+in-numbers : (answer : Result ℕ Refusal) (rows : List ℕ) → answer_in (numbered answer) rows ≡ answer_of (number answer) (count_of answer) rows
+unfolding number count_of
+in-numbers (Ok count) rows = accepted-is count rows refl
+in-numbers (Err refusal) rows = refused-is 0 rows (refused-some (Err refusal) refl)
 
 module _ (text tokens : List ℕ) where
   after-refused : (r : Reading) (n : ℕ) → n ≡ r.number → (n ≡ 0 → ⊥) → refused n ≡ evaluated (after_reading r tokens)
@@ -52,7 +58,7 @@ module _ (text tokens : List ℕ) where
   -- reading refuses the text
   pub figured-refused : (refusal : Refusal) (rows : List ℕ) {lent : ℕ} {words : List ℕ} → lent ≡ BOOK_WORDS
       → Reads (read_book text lent) (number_of refusal) words → Figured (calls text tokens) (Err refusal) rows
-  unfolding calls answer_in number
+  unfolding calls number
   figured-refused refusal rows l r =
       record { answer_is = after-refused (read_book text BOOK_WORDS) (number_of refusal) (rw l at r.number_is) (refused-some (Err refusal) refl) }
 
@@ -78,14 +84,13 @@ same_count c rows (suc n) k page e = cc
 
 -- no more rows than there is room for
 pub figured-few : {answer : Result ℕ Refusal} {rows : List ℕ} (text tokens : List ℕ) → Figured (calls text tokens) answer rows
-    → IfOk answer (λ count. count ≤ MAX_ROWS)
-unfolding answer_in
+    → IfOk (numbered answer) (λ count. count ≤ MAX_ROWS)
 figured-few {answer} {rows} text tokens f = go answer f.answer_is
   where
     e : Evaluation
     e = calls text tokens
 
-    go : (a : Result ℕ Refusal) → answer_in a rows ≡ evaluated e → IfOk a (λ count. count ≤ MAX_ROWS)
+    go : (a : Result ℕ Refusal) → answer_in (numbered a) rows ≡ evaluated e → IfOk (numbered a) (λ count. count ≤ MAX_ROWS)
     go (Ok count) q = let s = same_count count rows e.number e.count e.rows q in omega (arith, few-rows text tokens s.0, s.1)
     go (Err refusal) q = tt
 

@@ -40,7 +40,7 @@ fn respond(
     requires { (length text.now ≤ MAX_TEXT) × Lengths words.old rows.old × (OUTPUT_BYTES ≤ length out.old) }
     ensures { Printed (answer text.now (some numbers.now)) out.new result }
 {
-    let answer = figures(text, numbers, words, rows);
+    let answer = figures(text, numbers, words, rows).map_err(Refusal::number);
     put_answer(out, answer, rows)
 }
 
@@ -59,7 +59,7 @@ fn tokens_answer(
     ensures { (i : Input) → HoldsTokens text.now numbers.now book at count i → Printed (answer_to i) out.new result }
 {
     if book < at {
-        return put_refused(out, Refusal::Spelling);
+        return put_refused(out, Refusal::Spelling.number());
     }
     let n = 2 * (count as usize);
     respond(&text[..book], &numbers[..n], words, rows, out)
@@ -82,6 +82,6 @@ pub fn answer(
         Progress::Tokens { book, at, count } => {
             tokens_answer(book, at, count, text, numbers, words, rows, out)
         }
-        Progress::Refused(refusal) => put_refused(out, refusal),
+        Progress::Refused(refusal) => put_refused(out, refusal.number()),
     }
 }

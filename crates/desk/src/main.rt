@@ -3,7 +3,7 @@
 
 mod answer;
 
-ghost use Rattle.std.specs.Prelude.{◌≤◌, length, IfSome};
+ghost use Rattle.std.specs.Prelude.{◌≤◌, length, IfSome, MatchResult};
 ghost use Rattle.console.specs.Holds.{Buffers};
 ghost use Rattle.console.specs.Printing.{OUTPUT_BYTES};
 ghost use Rattle.desk.specs.Answers.{Lengths};
@@ -15,27 +15,29 @@ use console::input::{KEPT_NUMBERS, Progress, TEXT_ROOM, all_bytes};
 use console::output::OUTPUT_BYTES;
 use std::io::{Read, Write};
 
-// Takes an input to its end, if it can be read. A proved loop has to end, and nothing says that the input does: the loop has a number of turns that no run
-// uses up.
+// Takes an input to its end, or as far as it can be read, and says how far it came. A proved loop has to end, and nothing says that the input does: the loop
+// has a number of turns that no run uses up.
 fn take_input<R: Read>(
     input: &mut R,
     t: &[u8; 256],
     chunk: &mut [u8],
     text: &mut [u8],
     numbers: &mut [u32],
-) -> Option<Progress>
+) -> Result<Progress, Progress>
     requires { Buffers t.now text.old numbers.old }
-    ensures { IfSome result (λ progress. Reached text.new numbers.new progress) }
+    ensures { MatchResult result (Reached text.new numbers.new) (Reached text.new numbers.new) }
 {
     let mut p = Progress::Book { line: 0, at: 0 };
     for _turn in 0..u64::MAX {
-        let n = input.read(chunk).ok()?;
+        let Ok(n) = input.read(chunk) else {
+            return Err(p);
+        };
         if n == 0 {
-            return Some(p);
+            return Ok(p);
         }
         p = all_bytes(t, p, &chunk[..n], text, numbers);
     }
-    None
+    Err(p)
 }
 
 // Takes the input, if it can be read, puts the answer into `out`, and says how long it is.
@@ -52,7 +54,9 @@ fn run<R: Read>(
     requires { Buffers t.now text.old numbers.old × Lengths words.old rows.old × (OUTPUT_BYTES ≤ length out.old) }
     ensures { IfSome result (λ n. Ran out.new n) }
 {
-    let progress = take_input(input, t, chunk, text, numbers)?;
+    let Ok(progress) = take_input(input, t, chunk, text, numbers) else {
+        return None;
+    };
     Some(answer(progress, text, numbers, words, rows, out))
 }
 

@@ -6,4 +6,4 @@ use Rattle.console.proofs.output.put_refused.Goals as goal
 
 pub returns : goal.returns
 unfolding bytes literal print_answer
-returns c = printed (rw c.number.ensures at c.put_last.ensures) (omega arith)
+returns c = printed c.put_last.ensures (omega arith)

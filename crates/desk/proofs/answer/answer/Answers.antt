@@ -13,4 +13,4 @@ returns-in-Book c = λ i h.
 pub returns-in-Refused : goal.returns-in-Refused
 returns-in-Refused c = λ i h.
     printed-same (sym (settled-end (held-refused _ _ i c.in-Refused.is h)))
-    c.put_refused.ensures
+    (rw c.number.ensures at c.put_refused.ensures)

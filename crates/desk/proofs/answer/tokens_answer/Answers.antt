@@ -5,7 +5,7 @@ use Rattle.desk.proofs.answer.tokens_answer.Goals as goal
 
 pub returns-then-book-at : goal.returns-then-book-at
 unfolding number_of
-returns-then-book-at c = λ i h. printed-same (tokens-unended h c.if-book-at.true) c.put_refused.ensures
+returns-then-book-at c = λ i h. printed-same (tokens-unended h c.if-book-at.true) (rw c.number.ensures at c.put_refused.ensures)
 
 pub returns : goal.returns
 returns c = λ i h.

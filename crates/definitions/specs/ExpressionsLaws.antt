@@ -108,27 +108,27 @@ module _ {C : Type 0} (word k : ℕ) (takes : (r : List ℕ) → length r + k �
 
 -- what is known of a beginning of so many bytes
 pub data Costs (bytes : ℕ) : Begun → Type 0 where
-  costs_opened : {w : Waiting} {o : Rest} → size o + 5 ≤ bytes → Costs bytes (opened w o)
+  costs_opened : {s : Step Place} {n : ℕ} {o : Rest} → Operates s → size o + 5 ≤ bytes → Costs bytes (opened (waiting s n) o)
   costs_whole : {s : Step Place} {o : Rest} → Costs bytes (whole s o)
 
-operator-costs : (o : Rest) (word : ℕ) (w : Waiting) → ((r : List ℕ) → length r + 3 ≤ length (write letters word r)) → 0 < word
+operator-costs : (o : Rest) (word : ℕ) (s : Step Place) (n : ℕ) → ((r : List ℕ) → length r + 3 ≤ length (write letters word r)) → 0 < word → Operates s
     → found (mark open-bracket o) ≡ true → eqb (value letters (mark open-bracket o)) word ≡ true
-    → Costs (size o) (opened w (mark space (past letters (mark open-bracket o))))
-operator-costs o word w takes h begins e =
+    → Costs (size o) (opened (waiting s n) (mark space (past letters (mark open-bracket o))))
+operator-costs o word s n takes h operates begins e =
     let p : Rest = mark open-bracket o in
     word-less word 3 takes p (eqb-true (value letters p) word e) h λ alive less.
-    costs_opened (omega (arith, found-mark open-bracket o begins, less-mark space (past letters p) alive))
+    costs_opened operates (omega (arith, found-mark open-bracket o begins, less-mark space (past letters p) alive))
 
 bracket-costs : (o : Rest) → found (mark open-bracket o) ≡ true
     → Costs (size o) (bracket (value letters (mark open-bracket o)) (mark space (past letters (mark open-bracket o))))
 unfolding bracket whole_of node_words spelled write written
 bracket-costs o h =
     let word : ℕ = value letters (mark open-bracket o) in
-    either-cases (Costs (size o)) (eqb word (word_of "add")) (operator-costs o (word_of "add") (waiting (operate add) 1) (λ r. omega arith) (omega arith) h) (λ _.
-    either-cases (Costs (size o)) (eqb word (word_of "sub")) (operator-costs o (word_of "sub") (waiting (operate sub) 1) (λ r. omega arith) (omega arith) h) (λ _.
-    either-cases (Costs (size o)) (eqb word (word_of "min")) (operator-costs o (word_of "min") (waiting (operate min) 1) (λ r. omega arith) (omega arith) h) (λ _.
-    either-cases (Costs (size o)) (eqb word (word_of "max")) (operator-costs o (word_of "max") (waiting (operate max) 1) (λ r. omega arith) (omega arith) h) (λ _.
-    either-cases (Costs (size o)) (eqb word (word_of "pick")) (operator-costs o (word_of "pick") (waiting select 2) (λ r. omega arith) (omega arith) h) (λ _.
+    either-cases (Costs (size o)) (eqb word (word_of "add")) (operator-costs o (word_of "add") (operate add) 1 (λ r. omega arith) (omega arith) refl h) (λ _.
+    either-cases (Costs (size o)) (eqb word (word_of "sub")) (operator-costs o (word_of "sub") (operate sub) 1 (λ r. omega arith) (omega arith) refl h) (λ _.
+    either-cases (Costs (size o)) (eqb word (word_of "min")) (operator-costs o (word_of "min") (operate min) 1 (λ r. omega arith) (omega arith) refl h) (λ _.
+    either-cases (Costs (size o)) (eqb word (word_of "max")) (operator-costs o (word_of "max") (operate max) 1 (λ r. omega arith) (omega arith) refl h) (λ _.
+    either-cases (Costs (size o)) (eqb word (word_of "pick")) (operator-costs o (word_of "pick") select 2 (λ r. omega arith) (omega arith) refl h) (λ _.
     either-cases (Costs (size o)) (eqb word (word_of "own")) (λ _. costs_whole) (λ _.
     either-cases (Costs (size o)) (eqb word (word_of "at")) (λ _. costs_whole) (λ _.
     either-cases (Costs (size o)) (eqb word (word_of "val")) (λ _. costs_whole) (λ _. costs_whole))))))))

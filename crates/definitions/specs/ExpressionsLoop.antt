@@ -51,7 +51,7 @@ begins-less : (o : Rest) (b : Beginning) (r : Rest) → found o ≡ true → beg
 begins-less o b r h e = omega (arith, size-begun b r, ap size_begun e, begun-less o h)
 
 opened-less : {m : ℕ} {w : Waiting} {r : Rest} → Costs m (opened w r) → size r + 5 ≤ m
-opened-less (costs_opened l) = l
+opened-less (costs_opened _ l) = l
 
 operates : (o : Operator) → Operates (operation_of o)
 unfolding node_words
@@ -165,6 +165,9 @@ module _ {text line₀ codes line : List ℕ} {start : Scan} {depth at count : �
       module _ {o : Operator} (e : read.beginning ≡ Opens o) where
         open-less : size (rest text read.at) + 5 ≤ size (rest text at)
         open-less = opened-less {w = waiting_of o} (rw (← begun-as (Opens o) e) (begun-costs (rest text at)))
+
+        pub open-low : depth < length text
+        open-low = omega (arith, open-less, w.deep)
 
         pub open-fits : WaitsRoom text codes → depth < length codes
         open-fits l = omega (arith, open-less, w.deep)

@@ -2,7 +2,8 @@
 -- Assumes nothing.
 use Prim.Native.Nat.{ℕ, ◌+◌, ◌*◌, ◌<◌, ◌≤◌}
 use Rattle.std.proofs.Common.{arith, ◌∙◌, eqb-true}
-use Rattle.std.specs.Prelude.{◌≡◌, refl, ◌&&◌, List, [], ◌∷◌, ◌++◌, eqb, length, get_or}
+use Rattle.std.specs.Prelude.{◌≡◌, refl, ◌&&◌, List, [], ◌∷◌, ◌++◌, eqb, length, get_or, Option, Some, None}
+use Rattle.std.proofs.lemmas.Option.{none-some, same_Some}
 use Rattle.std.proofs.Math.Path.{sym, ap}
 use Rattle.std.proofs.Math.Bool.{true}
 use Rattle.std.proofs.Math.ListN.{drop}
@@ -15,8 +16,8 @@ use Rattle.grammar.specs.Data.Book.{own, at, val}
 use Rattle.grammar.specs.Data.Postfix.{load}
 use Rattle.grammar.specs.Format.Ordered.{Fits}
 use Rattle.grammar.specs.Format.ReaderLaws.{reading, word-ends, number-reads}
-use Rattle.grammar.specs.Format.Expression.{whole, own_place, at_place, val_place, whole_of, bracket, begun}
-use Rattle.grammar.specs.Format.ExpressionReads.{begun-number}
+use Rattle.grammar.specs.Format.Expression.{whole, either, own_place, at_place, val_place, whole_of, bracket, begun}
+use Rattle.grammar.specs.Format.ExpressionReads.{either-cases, begun-number}
 use Rattle.grammar.specs.Automaton.TestLaws.{both_true}
 use Rattle.lines.specs.Heads.{Four, Same, four_same}
 use Rattle.book.specs.Short.{Brief}
@@ -165,6 +166,27 @@ pub record Heads (head : ℕ) (o : Operator) : Type 0 where
   pub head_is : head ≡ head_of o
   pub spaced : length (bracket_of o) ≡ 5
 
+-- the operator whose bracket does, if there is one
+unfoldable pub operator_headed : ℕ → Option Operator
+operator_headed head =
+    either (eqb head (head_of Add)) (Some Add)
+    (either (eqb head (head_of Sub)) (Some Sub)
+    (either (eqb head (head_of Min)) (Some Min)
+    (either (eqb head (head_of Max)) (Some Max) None)))
+
+module _ {head : ℕ} {o : Operator} where
+  heads-as : (x : Operator) → length (bracket_of x) ≡ 5 → eqb head (head_of x) ≡ true → Some o ≡ Some x → Heads head o
+  heads-as x s t q = rw (same_Some o x q) (record { head_is = eqb-true head (head_of x) t; spaced = s })
+
+  pub headed-heads : Some o ≡ operator_headed head → Heads head o
+  unfolding operator_headed
+  headed-heads =
+      let P : Option Operator → Type 0 = λ named. Some o ≡ named → Heads head o in
+      either-cases P (eqb head (head_of Add)) (heads-as Add refl) (λ _.
+      either-cases P (eqb head (head_of Sub)) (heads-as Sub refl) (λ _.
+      either-cases P (eqb head (head_of Min)) (heads-as Min refl) (λ _.
+      either-cases P (eqb head (head_of Max)) (heads-as Max refl) (λ _. λ q. absurd (none-some o (sym q))))))
+
 module _ {text : List ℕ} {from head : ℕ} (h : from + 11 ≤ length text) (p : Headed text from head) where
   begins : (a b c d : ℕ) → a < 256 → b < 256 → c < 256 → head ≡ a + 256 * (b + 256 * (c + 256 * d)) → Begins text from (a ∷ b ∷ c ∷ d ∷ [])
   begins a b c d la lb lc e = begins-with a b c d la lb lc h p e
@@ -194,3 +216,8 @@ module _ {text : List ℕ} {from head : ℕ} (h : from + 11 ≤ length text) (p 
             ∙ (ap (λ (x : ℕ). x ∷ drop (from + 5) text) (eqb-true _ _ letter)
             ∙ ap (λ r. 107 ∷ r) (byte-is text from 5 (omega arith) ∙ ap (λ (x : ℕ). x ∷ drop (from + 6) text) (eqb-true _ _ space))));
       }) refl (omega arith)
+
+-- opens every definition of this module
+unfoldable pub opens : Unit {0}
+unfolding operator_headed
+opens = tt

@@ -3,7 +3,7 @@ ghost use Rattle.std.specs.Prelude.{◌≡◌, [], ◌∷◌, ◌+◌, ◌≤◌
 ghost use Rattle.text.specs.Rest.{rest};
 ghost use Rattle.grammar.specs.Format.Expression.{begun};
 ghost use Rattle.definitions.specs.Nodes.{Shows};
-ghost use Rattle.definitions.specs.ExpressionsShort.{Begins, Headed, Heads};
+ghost use Rattle.definitions.specs.ExpressionsShort.{Begins, Headed, operator_headed};
 
 use super::ended::ended;
 use super::nodes::{Beginning, BeginningRead, Node, Operator};
@@ -72,8 +72,9 @@ fn short_val(source: &Source<'_>, at: usize) -> Option<BeginningRead>
 }
 
 // The operator whose bracket begins with these four bytes and a space.
+#[tactic(auto, unfolding(crate::specs::ExpressionsShort::operator_headed))]
 fn short_operator(head: u32) -> Option<Operator>
-    ensures { IfSome result (λ operator. Heads head operator) }
+    ensures { result ≡ operator_headed head }
 {
     match head {
         ADD => Some(Operator::Add),
@@ -111,7 +112,7 @@ fn short_number(source: &Source<'_>, at: usize) -> Option<BeginningRead>
 }
 
 // How the expression at a position begins.
-pub fn short_begun(source: &Source<'_>, at: usize) -> Option<BeginningRead>
+pub(crate) fn short_begun(source: &Source<'_>, at: usize) -> Option<BeginningRead>
     requires { at ≤ length source.now.bytes.now }
     ensures { IfSome result (λ read. Shows (begun (rest source.now.bytes.now at)) source.now.bytes.now read) }
 {

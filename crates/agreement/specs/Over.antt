@@ -1,9 +1,11 @@
 -- A book in the arrays that the checks read. Assumes nothing.
-use Rattle.std.specs.Prelude.{ℕ, ◌≡◌, Bool, Option, List, length}
+use Rattle.std.specs.Prelude.{ℕ, ◌≡◌, refl, Bool, Option, List, length}
 use Rattle.std.proofs.Common.{arith, ◌∙◌}
 use Rattle.grammar.specs.Data.Book.{Book}
 use Rattle.grammar.specs.Formulas.Slots.{Slots, attributes}
 use Rattle.grammar.specs.Formulas.FormulaCheck as grammar
+use Rattle.formulas.specs.Table.{NodesKept}
+use Rattle.formulas.specs.Rows.{nodes-same, nodes-more}
 use Rattle.attributes.specs.Checking.{CheckHeld}
 use Rattle.attributes.specs.Owned.{OwnedIn}
 use Rattle.agreement.specs.declared.check.Progress.{Progress}
@@ -30,11 +32,11 @@ ReachedOver w r g = Reached w.slots w.done w.nodes.rows.now w.nodes.heads.now w.
 abbrev pub RoomOver : ℕ → Work → Type 0
 RoomOver lines w = Room lines w.slots w.done w.nodes.rows.now w.nodes.heads.now w.nodes.nexts.now
 
--- as much room as before
-abbrev pub RoomKept : Work → Work → Type 0
-RoomKept old new =
-    (length new.slots ≡ length old.slots) × (length new.done ≡ length old.done) × (length new.nodes.rows.now ≡ length old.nodes.rows.now)
-    × (length new.nodes.heads.now ≡ length old.nodes.heads.now) × (length new.nodes.nexts.now ≡ length old.nodes.nexts.now)
+-- as much room as before, in the same arrays
+pub record RoomKept (old new : Work) : Type 0 where
+  pub slots_long : length new.slots ≡ length old.slots
+  pub done_long : length new.done ≡ length old.done
+  pub nodes_kept : NodesKept old.nodes new.nodes
 
 -- what the check of all states asks
 abbrev pub FrontsOver : Book → List ℕ → AllStates → Type 0
@@ -66,3 +68,16 @@ room-kept R k = record {
     enough = omega (arith, k.4, R.nodes_room.enough);
   };
 }
+
+pub kept-same : (w : Work) → RoomKept w w
+kept-same w = record { slots_long = refl; done_long = refl; nodes_kept = nodes-same w.nodes }
+
+pub kept-more : {a b c : Work} → RoomKept a b → RoomKept b c → RoomKept a c
+kept-more k m = record {
+  slots_long = m.slots_long ∙ k.slots_long;
+  done_long = m.done_long ∙ k.done_long;
+  nodes_kept = nodes-more k.nodes_kept m.nodes_kept;
+}
+
+pub room-over : {n : ℕ} {old new : Work} → RoomOver n old → RoomKept old new → RoomOver n new
+room-over R k = room-kept R (k.slots_long, k.done_long, k.nodes_kept.rows_long, k.nodes_kept.heads_long, k.nodes_kept.nexts_long)

@@ -1,11 +1,12 @@
--- Laws of rows in a table: a row that is stored stands there, and the others are as they were. Assumes nothing.
+-- Laws of rows in a table: a row that is stored stands there, and the others are as they were; and of the arrays that keep them. Assumes nothing.
 use Rattle.std.specs.Prelude.{ℕ, suc, ◌+◌, ◌*◌, ◌<◌, ◌≤◌, ◌≡◌, refl, List, [], ◌∷◌, get_or}
 use Rattle.std.proofs.Common.{◌∙◌, arith}
 use Rattle.std.proofs.Math.ListN.{length, set, length-set}
 use Rattle.std.proofs.Math.Seq.{get_or-set_same, get_or-set_other}
 use Rattle.std.proofs.lemmas.List.Edits.{sets-eq}
 use Rattle.std.proofs.Math.Seq.{paste}
-use Rattle.formulas.specs.Table.{row_at, stored, Grown}
+use Rattle.formulas.specs.declared.table.Nodes.{Nodes}
+use Rattle.formulas.specs.Table.{row_at, stored, NodesKept, Grown}
 
 -- a row's words that are copied to their places
 pub stored-copied : (table : List ℕ) (i a b c d : ℕ) → 4 * i + 4 ≤ length table
@@ -73,4 +74,19 @@ grown-more G H = record {
   grows = omega (arith, G.grows, H.grows);
   long = H.long ∙ G.long;
   kept = λ i h. H.kept i (omega (arith, G.grows)) ∙ G.kept i h;
+}
+
+-- arrays that are kept
+
+pub nodes-same : (n : Nodes) → NodesKept n n
+nodes-same n = record { rows_same = refl; heads_same = refl; nexts_same = refl; rows_long = refl; heads_long = refl; nexts_long = refl }
+
+pub nodes-more : {a b c : Nodes} → NodesKept a b → NodesKept b c → NodesKept a c
+nodes-more k m = record {
+  rows_same = m.rows_same ∙ k.rows_same;
+  heads_same = m.heads_same ∙ k.heads_same;
+  nexts_same = m.nexts_same ∙ k.nexts_same;
+  rows_long = m.rows_long ∙ k.rows_long;
+  heads_long = m.heads_long ∙ k.heads_long;
+  nexts_long = m.nexts_long ∙ k.nexts_long;
 }

@@ -42,6 +42,15 @@ pub record Table (table heads nexts : List ℕ) (used : ℕ) : Type 0 where
 abbrev pub TableIn : Nodes → ℕ → Type 0
 TableIn n used = Table n.rows.now n.heads.now n.nexts.now used
 
+-- the arrays of nodes are the ones that were lent, each as long as it was
+pub record NodesKept (old new : Nodes) : Type 0 where
+  pub rows_same : new.rows.ghost_name ≡ old.rows.ghost_name
+  pub heads_same : new.heads.ghost_name ≡ old.heads.ghost_name
+  pub nexts_same : new.nexts.ghost_name ≡ old.nexts.ghost_name
+  pub rows_long : length new.rows.now ≡ length old.rows.now
+  pub heads_long : length new.heads.now ≡ length old.heads.now
+  pub nexts_long : length new.nexts.now ≡ length old.nexts.now
+
 -- a table with more rows: the old ones are as they were, and its room is
 pub record Grown (old : List ℕ) (used : ℕ) (new : List ℕ) (count : ℕ) : Type 0 where
   pub grows : used ≤ count

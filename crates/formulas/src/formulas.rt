@@ -2,7 +2,7 @@
 ghost use Rattle.std.specs.Prelude.{◌≡◌, ℕ, ◌+◌, ◌*◌, ◌<◌, ◌≤◌, length};
 ghost use Rattle.grammar.specs.Data.Book.{Expr};
 ghost use Rattle.grammar.specs.Formulas.Formula.{Formula};
-ghost use Rattle.formulas.specs.Table.{TableIn};
+ghost use Rattle.formulas.specs.Table.{TableIn, NodesKept};
 ghost use Rattle.formulas.specs.PostfixLaws.{Ready};
 ghost use Rattle.formulas.specs.Steps.{step_of};
 ghost use Rattle.formulas.specs.Formulas.{own_for, operand_for, Safe, Numbered, Asked, Formed};
@@ -52,7 +52,8 @@ fn operand_of(step: Step, dot: u32, slots: &[u32], stack: &[u32], top: usize) ->
 // The number of an operand; a node is interned.
 fn number_of(operand: Operand, nodes: &mut Nodes<'_>, used: u32) -> Interned
     requires { TableIn nodes.old used × (used < length nodes.old.nexts.now) }
-    ensures { Numbered operand nodes.old.rows.now used nodes.new.rows.now nodes.new.heads.now nodes.new.nexts.now result.number result.used }
+    ensures kept { NodesKept nodes.old nodes.new }
+    ensures numbered { Numbered operand nodes.old.rows.now used nodes.new.rows.now nodes.new.heads.now nodes.new.nexts.now result.number result.used }
 {
     match operand {
         Operand::Known(number) => Interned { number, used },
@@ -71,7 +72,8 @@ pub fn formula_of(
 ) -> Interned
     requires table { TableIn nodes.old used }
     requires by_index { (e : Expr) × (f : ℕ → Formula) × Asked definitions.now line dot slots.now nodes.old.rows.now used e f }
-    ensures { (e : Expr) (f : ℕ → Formula) → Asked definitions.now line dot slots.now nodes.old.rows.now used e f
+    ensures kept { NodesKept nodes.old nodes.new }
+    ensures formed { (e : Expr) (f : ℕ → Formula) → Asked definitions.now line dot slots.now nodes.old.rows.now used e f
         → Formed dot e f nodes.old.rows.now used nodes.new.rows.now nodes.new.heads.now nodes.new.nexts.now result.number result.used }
 {
     let first = 49 * line;

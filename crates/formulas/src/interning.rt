@@ -2,7 +2,7 @@
 // each hash, and of `nexts`, one for each row, is one more than the number of the next row with that hash, or 0.
 ghost use Rattle.std.specs.Prelude.{◌≡◌, ◌+◌, ◌*◌, ◌^◌, ◌<◌, ◌≤◌, length, get_or, set};
 ghost use Rattle.formulas.specs.Nodes.{shown};
-ghost use Rattle.formulas.specs.Table.{HEADS, row_at, hash_of, stored, TableIn, Added, Found};
+ghost use Rattle.formulas.specs.Table.{HEADS, row_at, hash_of, stored, TableIn, NodesKept, Added, Found};
 
 use super::nodes::{Node, Row, row_of};
 use super::table::Nodes;
@@ -73,7 +73,8 @@ fn link(heads: &mut [u32], nexts: &mut [u32], number: u32, bucket: usize)
 // The number of the node; a node that is not in the table becomes its last.
 pub fn intern(nodes: &mut Nodes<'_>, used: u32, node: Node) -> Interned
     requires { TableIn nodes.old used × (used < length nodes.old.nexts.now) }
-    ensures { Added node nodes.old.rows.now used nodes.new.rows.now nodes.new.heads.now nodes.new.nexts.now result.number result.used }
+    ensures kept { NodesKept nodes.old nodes.new }
+    ensures added { Added node nodes.old.rows.now used nodes.new.rows.now nodes.new.heads.now nodes.new.nexts.now result.number result.used }
 {
     let row = row_of(node);
     let bucket = hash(row);

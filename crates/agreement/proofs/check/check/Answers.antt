@@ -3,7 +3,7 @@ use mathlib.Core.Bool.{false}
 use mathlib.Core.Option.{none}
 use lib.ListN.{replicate}
 use Rattle.agreement.specs.Progress.{ProgressIn}
-use Rattle.agreement.specs.Over.{same-more}
+use Rattle.agreement.specs.Over.{kept-more}
 use Rattle.agreement.specs.CheckLaws.{nothing_yet, begun, check-is}
 use Rattle.agreement.proofs.check.check.Goals as goal
 use Rattle.agreement.proofs.check.check.Goals.{After-fill-3}
@@ -24,6 +24,17 @@ pub returns : goal.returns
 returns c =
     let here = (goal.at.returns c).After-fill-3 in
     record {
-      room = same-more (c.fill.auto.self, c.fill-2.auto.self, refl, c.fill-3.auto.self, refl) c.passes.ensures.room;
+      room = kept-more (record {
+        slots_long = c.fill.auto.self;
+        done_long = c.fill-2.auto.self;
+        nodes_kept = record {
+          rows_same = refl;
+          heads_same = refl;
+          nexts_same = refl;
+          rows_long = refl;
+          heads_long = c.fill-3.auto.self;
+          nexts_long = refl;
+        };
+      }) c.passes.ensures.room;
       answer = λ b H e. c.passes.ensures.answer b (replicate 16 none) (replicate 128 false) H e (start here) ∙ check-is b _;
     }

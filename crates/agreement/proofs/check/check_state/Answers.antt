@@ -4,7 +4,7 @@ use native.Mathlib.Omega.{arith}
 use Rattle.grammar.specs.Formulas.FormulaCheck as grammar
 use Rattle.attributes.specs.Checking.{member_of}
 use Rattle.attributes.specs.Wanted.{check-whole, all-below}
-use Rattle.agreement.specs.Over.{same-more, room-kept}
+use Rattle.agreement.specs.Over.{kept-more, room-over}
 use Rattle.agreement.proofs.check.check_state.Goals as goal
 
 pub returns-then-check : goal.returns-then-check
@@ -16,7 +16,7 @@ returns-then-check c = record {
 }
 
 pub parts_right-requires : goal.parts_right-requires
-parts_right-requires c = (c.requires.0, c.requires.1, room-kept c.requires.2 c.check.ensures.room)
+parts_right-requires c = (c.requires.0, c.requires.1, room-over c.requires.2 c.check.ensures.room)
 
 pub returns : goal.returns
-returns c = record { room = same-more c.check.ensures.room c.parts_right.ensures.room; answer = c.parts_right.ensures.answer }
+returns c = record { room = kept-more c.check.ensures.room c.parts_right.ensures.room; answer = c.parts_right.ensures.answer }

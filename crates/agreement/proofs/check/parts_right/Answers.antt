@@ -8,7 +8,7 @@ use Rattle.grammar.specs.Data.Book.{Book}
 use Rattle.grammar.specs.Formulas.FormulaCheck as grammar
 use Rattle.attributes.specs.Checking.{member_of, member_in}
 use Rattle.agreement.specs.CheckLaws.{all_start, all-turn, one-fails}
-use Rattle.agreement.specs.Over.{CheckOver, same-more, room-kept}
+use Rattle.agreement.specs.Over.{CheckOver, kept-same, kept-more, room-over}
 use Rattle.agreement.specs.Alike.{right-start, right-more}
 use Rattle.attributes.specs.Wanted.{check-single}
 use Rattle.agreement.proofs.check.parts_right.Goals as goal
@@ -26,10 +26,10 @@ told c b H e =
     ∙ check-single b c.args.parts.now.masks.now c.loop-a.a (omega (arith, c.loop-a-test.true, c.requires.1))
 
 pub loop-a-init : goal.loop-a-init
-loop-a-init c = ((refl, refl, refl, refl, refl), λ b H e. (all_start _, right-start b c.args.parts.now.masks.now))
+loop-a-init c = (kept-same _, λ b H e. (all_start _, right-start b c.args.parts.now.masks.now))
 
 pub check-requires : goal.check-requires
-check-requires c = (c.requires.0, room-kept c.requires.2 c.loop-a.invariant.0)
+check-requires c = (c.requires.0, room-over c.requires.2 c.loop-a.invariant.0)
 
 pub loop-a-preserved-then-has : goal.loop-a-preserved-then-has
 loop-a-preserved-then-has c = (
@@ -46,7 +46,7 @@ pub returns-then-not-check : goal.returns-then-not-check
 returns-then-not-check c =
     let here = (goal.at.returns-then-not-check c).After-check in
     record {
-      room = same-more c.loop-a.invariant.0 c.check.ensures.room;
+      room = kept-more c.loop-a.invariant.0 c.check.ensures.room;
       answer = λ b H e t.
           one-fails (answer c.args.parts.now.masks.now b) c.loop-a.a _ (omega (arith, c.loop-a-test.true, t)) (told here b H e) (ap not c.if-not-check.true);
     }
@@ -54,7 +54,7 @@ returns-then-not-check c =
 pub loop-a-preserved : goal.loop-a-preserved
 loop-a-preserved c =
     let here = (goal.at.loop-a-preserved c).After-check in (
-      same-more c.loop-a.invariant.0 c.check.ensures.room,
+      kept-more c.loop-a.invariant.0 c.check.ensures.room,
       λ b H e.
           let (all, right) = c.loop-a.invariant.1 b H e in
           let now = told here b H e in (

@@ -1,17 +1,17 @@
 use mathlib.Core.Path.{◌≡◌}
 use native.Mathlib.Omega.{arith}
-use Rattle.agreement.specs.Over.{same-more}
+use Rattle.agreement.specs.Over.{kept-more}
 use Rattle.agreement.specs.PassesLaws.{few-done, passing-split, passing-turn, passing-further, passing-end}
 use Rattle.agreement.proofs.check.passes.Goals as goal
 
 pub pass-requires : goal.pass-requires
 pass-requires c = let g = c.requires in
     let P = c.loop-next.invariant.1 g.0.0 g.0.1 g.0.2 g.0.3 g.0.4 g.0.5 in
-    ((g.0.0, P.slots, P.done, g.0.3, g.0.4, P.holds), g.1, omega (arith, g.2, c.loop-next.invariant.0.4))
+    ((g.0.0, P.slots, P.done, g.0.3, g.0.4, P.holds), g.1, omega (arith, g.2, c.loop-next.invariant.0.nodes_kept.nexts_long))
 
 pub returns-then-next-p : goal.returns-then-next-p
 returns-then-next-p c = record {
-  room = same-more c.loop-next.invariant.0 c.in-Some.ensures.room;
+  room = kept-more c.loop-next.invariant.0 c.in-Some.ensures.room;
   answer = λ b s d H e Q.
       let P = c.loop-next.invariant.1 b s d H e Q in
       passing-end b _ P e (c.in-Some.ensures.reached b P.slots P.done H e P.holds) c.if-next-p.true;
@@ -28,7 +28,7 @@ loop-next-smaller c = let g = c.requires.0 in
 
 pub loop-next-preserved : goal.loop-next-preserved
 loop-next-preserved c = (
-  same-more c.loop-next.invariant.0 c.in-Some.ensures.room,
+  kept-more c.loop-next.invariant.0 c.in-Some.ensures.room,
   λ b s d H e Q.
       let P = c.loop-next.invariant.1 b s d H e Q in
       passing-turn b _ P e (c.in-Some.ensures.reached b P.slots P.done H e P.holds),
@@ -36,7 +36,7 @@ loop-next-preserved c = (
 
 pub returns : goal.returns
 returns c = record {
-  room = same-more c.loop-next.invariant.0 c.in_default.ensures.room;
+  room = kept-more c.loop-next.invariant.0 c.in_default.ensures.room;
   answer = λ b s d H e Q.
       let P = c.loop-next.invariant.1 b s d H e Q in
       passing-split b _ P e (c.in_default.ensures.reached b P.slots P.done H e P.holds);

@@ -1,12 +1,13 @@
 use native.Mathlib.Omega.{arith}
-use mathlib.Core.Path.{refl, ◌∙◌}
+use mathlib.Core.Path.{◌∙◌}
 use Rattle.attributes.specs.FormulasHeld.{terminals-low, held-check}
+use Rattle.agreement.specs.Over.{kept-same}
 use Rattle.agreement.specs.OneFormula.{state-told, state-single}
 use Rattle.agreement.proofs.one_formula.state_right.Goals as goal
 
 pub returns-then-single : goal.returns-then-single
 returns-then-single c = record {
-  room = (refl, refl, refl, refl, refl);
+  room = kept-same _;
   answer = λ b begins W O L l.
       let H = W.formulas_held in
       state-single H c.args.state

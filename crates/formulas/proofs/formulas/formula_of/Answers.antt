@@ -1,8 +1,9 @@
--- The loop keeps `Running`, for every expression and every choice of formulas that may be asked for.
+-- The loop keeps the arrays, and `Running` for every expression and every choice of formulas that may be asked for.
 use Rattle.std.proofs.Common.{ℕ, ◌<◌, ◌∙◌, arith}
 use Rattle.grammar.specs.Data.Term.{nodes}
 use Rattle.grammar.specs.Data.Book.{Expr}
 use Rattle.grammar.specs.Formulas.Formula.{Formula}
+use Rattle.formulas.specs.Rows.{nodes-same, nodes-more}
 use Rattle.formulas.specs.Formulas.{Asked}
 use Rattle.formulas.specs.FormulasLaws.{Running, running-start, running-end, running-ready, running-takes, running-turn}
 use Rattle.formulas.proofs.formulas.formula_of.Goals.{In-loop-i}
@@ -21,10 +22,10 @@ few c = let A = c.requires.by_index.2 in omega (arith, left c _ _ A, A.stands.fe
 -- the run in a turn, of the expression and the formulas of the contract's own premise
 running : (c : In-loop-i) → let at = c.loop-i in
     Running c.args.dot c.args.slots.now c.requires.by_index.0 c.requires.by_index.1 c.args.nodes.now.rows.now c.args.used at.nodes.rows.now at.nodes.heads.now at.nodes.nexts.now at.used at.stack at.top at.i
-running c = c.loop-i.invariant _ _ c.requires.by_index.2
+running c = c.loop-i.invariant.1 _ _ c.requires.by_index.2
 
 pub loop-i-init : goal.loop-i-init
-loop-i-init c = λ e f A. running-start c.requires.table A.reads
+loop-i-init c = (nodes-same _, λ e f A. running-start c.requires.table A.reads)
 
 pub operand_of-operand-requires : goal.operand_of-operand-requires
 operand_of-operand-requires c =
@@ -58,13 +59,19 @@ pub overflow_add-top : goal.overflow_add-top
 overflow_add-top c = let s = (goal.at.overflow_add-top c).In-loop-i in omega (arith, (running s).deep, few s)
 
 pub loop-i-preserved : goal.loop-i-preserved
-loop-i-preserved c = λ e f A.
-    let l = left (goal.at.loop-i-preserved c).In-loop-i e f A in
-    rw c.operands-top.ensures
-    (running-turn (c.loop-i.invariant e f A) l c.step_at-step.result A.stands.few (c.step_at-step.ensures ∙ A.stands.steps_are _ l)
-    (rw c.operand_of-operand.ensures at c.number_of-r.ensures))
+loop-i-preserved c = (
+  nodes-more c.loop-i.invariant.0 c.number_of-r.ensures.kept,
+  λ e f A.
+      let l = left (goal.at.loop-i-preserved c).In-loop-i e f A in
+      rw c.operands-top.ensures
+      (running-turn (c.loop-i.invariant.1 e f A) l c.step_at-step.result A.stands.few (c.step_at-step.ensures ∙ A.stands.steps_are _ l)
+      (rw c.operand_of-operand.ensures at c.number_of-r.ensures.numbered)),
+)
 
 pub returns : goal.returns
-returns c = λ e f A.
-    let R = c.loop-i.invariant e f A in
-    running-end R (omega (arith, c.loop-i-test.false, R.within, A.stands.nodes_is))
+returns c = record {
+  kept = c.loop-i.invariant.0;
+  formed = λ e f A.
+      let R = c.loop-i.invariant.1 e f A in
+      running-end R (omega (arith, c.loop-i-test.false, R.within, A.stands.nodes_is));
+}

@@ -8,8 +8,8 @@ link-requires c = let T = c.requires.0 in
     let low = hash-low (shown c.row_of-row.result) in
     (T.heads_long, T.nexts_low, c.requires.1, omega (arith, c.hash-bucket.ensures, low))
 
-pub returns : goal.returns
-returns c = let r = c.row_of-row in
+pub returns-clause-added : goal.returns-clause-added
+returns-clause-added c = let r = c.row_of-row in
     let h = c.hash-bucket in
     let link = c.link in
     rw (c.put_row.ensures, link.ensures.heads_after, link.ensures.nexts_after)

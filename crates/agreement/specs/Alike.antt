@@ -1,15 +1,18 @@
 -- Terminals that the definitions' items do not tell apart: their partial states have one answer (`check-same` of the grammar). Assumes nothing.
-use Rattle.std.specs.Prelude.{ℕ, ◌+◌, ◌<◌, ◌≡◌, refl, ◌⊎◌, Bool, true, false, List}
-use Rattle.std.proofs.Common.{arith, sym, ◌∙◌, inl, inr}
+use Rattle.std.specs.Prelude.{ℕ, ◌+◌, ◌*◌, ◌-◌, ◌<◌, ◌≡◌, refl, ◌⊎◌, Bool, true, false, not, List, get_or}
+use Rattle.std.proofs.Common.{arith, sym, ap, ◌∙◌, inl, inr}
 use Rattle.std.proofs.Math.Decide.{ℕ_discrete}
+use Rattle.std.proofs.lemmas.Bool.{not-false}
 use Rattle.sets.specs.Sets.{bit, empty, union}
 use Rattle.sets.proofs.SetsLaws.{bit-empty, union_left, union_right, union-either}
 use Rattle.grammar.specs.Automaton.TestLaws.{true-false}
 use Rattle.grammar.specs.Data.Book.{Book}
+use Rattle.grammar.specs.Formulas.FormulaCheck as grammar
 use Rattle.grammar.specs.Formulas.FormulaCheck.{dot_of, line_at, check}
 use Rattle.grammar.specs.Formulas.FormulaCheckAll.{SameItems}
 use Rattle.grammar.proofs.Formulas.FormulaCheckAll.{check-same}
-use Rattle.attributes.specs.Checking.{member_of}
+use Rattle.attributes.specs.Checking.{member_of, CheckHeld}
+use Rattle.attributes.specs.CheckingLaws.{place_is}
 
 -- What tells terminals apart
 
@@ -18,6 +21,20 @@ abbrev pub Agree : Book → List ℕ → ℕ → ℕ → ℕ → Type 0
 Agree b masks a c d = member_of masks a (line_at b d).rule (dot_of (line_at b d)) ≡ member_of masks c (line_at b d).rule (dot_of (line_at b d))
 
 -- by the words that were read
+module _ {b : Book} {definitions rules owned masks : List ℕ} (H : CheckHeld b definitions rules owned masks) {d : ℕ} (l : d < grammar.definitions b) (a : ℕ)
+    {rule position : ℕ} (r : rule ≡ get_or definitions (49 * d) 0) (p : position ≡ get_or definitions (49 * d + 1) 0) (c : ℕ) where
+  abbrev set : ℕ
+  set = get_or masks (9 * rule + position - 1) 0
+
+  at : (k : ℕ) → member_of masks k (line_at b d).rule (dot_of (line_at b d)) ≡ bit set k
+  at k = ap (λ (i : ℕ). bit (get_or masks i 0) k) (place_is H l r p)
+
+  pub agree-in : {t : Bool} → t ≡ bit set a → t ≡ true → not (bit set c) ≡ false → Agree b masks a c d
+  agree-in e f q = at a ∙ sym e ∙ f ∙ sym (at c ∙ not-false (bit set c) q)
+
+  pub agree-out : {t : Bool} → t ≡ bit set a → t ≡ false → bit set c ≡ false → Agree b masks a c d
+  agree-out e f q = at a ∙ sym e ∙ f ∙ sym (at c ∙ q)
+
 -- `apart` has the terminals that the definitions below a number tell from a
 abbrev pub Untold : Book → List ℕ → ℕ → ℕ → ℕ → Type 0
 Untold b masks a apart i = (c : ℕ) → c < 32 → bit apart c ≡ false → (d : ℕ) → d < i → Agree b masks a c d
@@ -28,6 +45,9 @@ neither s t c h e = (by s (bit s c) refl (union_left s t c h), by t (bit t c) re
     by : (w : ℕ) (x : Bool) → bit w c ≡ x → (bit w c ≡ true → bit (union s t) c ≡ true) → bit w c ≡ false
     by w false q f = q
     by w true q f = absurd (true-false (f q) e)
+
+pub untold-start : (b : Book) (masks : List ℕ) (a apart : ℕ) → Untold b masks a apart 0
+untold-start b masks a apart c h e d l = absurd (omega arith)
 
 pub untold-turn : (b : Book) (masks : List ℕ) (a : ℕ) (s t i : ℕ) → Untold b masks a s i → ((c : ℕ) → c < 32 → bit t c ≡ false → Agree b masks a c i)
     → Untold b masks a (union s t) (i + 1)

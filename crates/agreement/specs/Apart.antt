@@ -30,6 +30,14 @@ or_right a b K e = bit-or a b K ∙ ap (λ (t : Bool). bit a K || t) e ∙ or-tr
 -- The words one after the other
 
 module _ (word : ℕ → ℕ) {base first : ℕ} where
+  pub apart_none : Apart word base first first base
+  apart_none = record {
+    base_held = λ K e. e;
+    held = λ i K h l. absurd (omega arith);
+    base_apart = λ i K h l. absurd (omega arith);
+    apart = λ i j K h l m. absurd (omega arith);
+  }
+
   -- one word more, which has nothing of the bits so far
   pub apart_more : {n bits : ℕ} → first ≤ n → Apart word base first n bits → bit_and bits (word n) ≡ 0 → Apart word base first (n + 1) (bit_or bits (word n))
   apart_more {n} {bits} low A e = record {
@@ -43,6 +51,14 @@ module _ (word : ℕ → ℕ) {base first : ℕ} where
     apart = λ i j K h k l.
         below_suc (λ j. i < j → bit (word i) K ≡ true → bit (word j) K ≡ true → ⊥) n j (omega arith)
         (λ m less. A.apart i j K h less m) (λ less p. no-common bits (word n) e K (A.held i K h less p)) k;
+  }
+
+  pub apart-all : {n last bits : ℕ} → Apart word base first n bits → last ≤ n → Apart word base first last bits
+  apart-all A h = record {
+    base_held = A.base_held;
+    held = λ i K k l. A.held i K k (omega arith);
+    base_apart = λ i K k l. A.base_apart i K k (omega arith);
+    apart = λ i j K k l m. A.apart i j K k l (omega arith);
   }
 
   -- words without bits are passed

@@ -106,6 +106,10 @@ module _ {b : Book} {definitions rules owned masks : List ℕ} (H : CheckHeld b 
         (omega arith) (λ h n z. stay _ (G.leader_is e h n z)) leader;
   }
 
+  -- a copy gives nothing
+  pub given-copy : Copies (line_at b d) → GivenIn b (d + 1) given leaders
+  given-copy copy = given-more G.long (λ j K h e. e) (λ P e. e) (λ n. absurd (n copy)) (λ n. absurd (n copy))
+
   module _ {rule position attribute word : ℕ} (r : rule ≡ get_or definitions (49 * d) 0) (p : position ≡ get_or definitions (49 * d + 1) 0)
       (a : attribute ≡ get_or definitions (49 * d + 2) 0) (w : word ≡ with (get_or given (9 * rule + position - 1) 0) attribute) where
     abbrev item : ℕ

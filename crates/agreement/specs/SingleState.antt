@@ -17,7 +17,7 @@ use Rattle.grammar.specs.Formulas.FormulaCheck.{no_definition, dot_of, line_at}
 use Rattle.automaton.specs.StatesIn.{ItemsIn}
 use Rattle.automaton.specs.Lefts.{Least, none-bit}
 use Rattle.automaton.specs.Fronts.{FrontsIn}
-use Rattle.agreement.specs.Apart.{Apart, apart_more, apart-past}
+use Rattle.agreement.specs.Apart.{Apart, apart_none, apart_more, apart-past}
 use Rattle.agreement.specs.Givers.{Copies, GivenOnce}
 use Rattle.agreement.specs.Given.{GivenIn}
 use Rattle.agreement.specs.SameLines.{three_ways, same_line}
@@ -52,6 +52,10 @@ and_first m n K e = (both_true (bit m K) (bit n K) (sym (bit-and m n K) ∙ e)).
 pub record Walk (all : ℕ) (given : List ℕ) (rest bits rule : ℕ) : Type 0 where
   pub passed : Apart (front_word all given) 0 0 rule bits
   pub left : (i : ℕ) → bit rest i ≡ bit all (rule + i)
+
+-- before the first rule
+pub walk_first : (all : ℕ) (given : List ℕ) → Walk all given all 0 0
+walk_first all given = record { passed = apart_none _; left = λ i. let e : i ≡ 0 + i = omega arith in ap (bit all) e }
 
 module _ {all : ℕ} {given : List ℕ} {rest bits rule : ℕ} (W : Walk all given rest bits rule) where
   -- rules that are not among them give nothing

@@ -44,6 +44,9 @@ module _ {b : Book} {rules : List ℕ} {count : ℕ} {definitions : List ℕ} {l
   pub terminals-low : terminals < 32
   terminals-low = omega (arith, H.terminals_are, limits.terminals_limit.high)
 
+  pub states-low : states ≤ 128
+  states-low = omega (arith, H.states_are, limits.states_limit.high)
+
   pub rules-low : 9 * length b.rules ≤ 576
   rules-low = omega (arith, H.marks-held.items_in.states_in.grammar_in.rules_in.fits)
 

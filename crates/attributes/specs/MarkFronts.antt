@@ -102,6 +102,9 @@ module _ (G : List Rule) (F : Sets) (R looks : List ℕ) where
 
 -- Definition by definition
 
+pub fronts-start : (b : Book) (F : Sets) (R looks : List ℕ) {masks : List ℕ} → 9 * length b.rules ≤ length masks → FrontsMarked b F R looks 0 masks
+fronts-start b F R looks l = record { long = l; word_is = λ d h. absurd (omega arith) }
+
 module _ {b : Book} {definitions rules owned cleared : List ℕ} (C : CheckHeld b definitions rules owned cleared) {d : ℕ} (l : d < grammar.definitions b) where
   pub fronts-more : {F : Sets} {R looks masks : List ℕ} {place w : ℕ} → place ≡ 9 * (line_at b d).rule + dot_of (line_at b d)
       → w ≡ front_word b.rules F R looks (line_at b d).rule (dot_of (line_at b d)) → FrontsMarked b F R looks d masks

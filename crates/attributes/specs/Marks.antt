@@ -22,6 +22,10 @@ pub record MarksRoom (G : List Rule) (nullables reaches masks : List ℕ) : Type
   pub reaches_long : 9 * length G ≤ length reaches
   pub masks_long : 9 * length G ≤ length masks
 
+pub room-kept : {G : List Rule} {nullables reaches masks more : List ℕ} → MarksRoom G nullables reaches masks → length more ≡ length masks
+    → MarksRoom G nullables reaches more
+room-kept H e = record { nullables_long = H.nullables_long; reaches_long = H.reaches_long; masks_long = omega (arith, e, H.masks_long) }
+
 module _ (b : Book) (F : Sets) (R : List ℕ) where
   -- an entry for the item (P, D) that reaches a
   abbrev pub ItemReaches : List Core → ℕ → ℕ → ℕ → Type 0

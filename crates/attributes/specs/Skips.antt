@@ -36,6 +36,25 @@ Skips definitions masks wanted lines skips = SkipsFrom definitions masks wanted 
 -- The loop that fills them, from the last line on
 
 module _ {definitions masks : List ℕ} {wanted lines : ℕ} where
+  pub skip-none : Skip definitions masks wanted lines lines lines
+  skip-none = record { low = omega arith; high = omega arith; absent = λ d l h. absurd (omega arith) }
+
+  pub skip-here : (i : ℕ) → i < lines → Skip definitions masks wanted lines i i
+  skip-here i l = record { low = omega arith; high = omega arith; absent = λ d h k. absurd (omega arith) }
+
+  pub skip-on : (i : ℕ) {j : ℕ} → Skip definitions masks wanted lines (i + 1) j → meets (item_set definitions masks i) wanted ≡ false → Skip definitions masks wanted lines i j
+  skip-on i {j} S e = record { low = omega (arith, S.low); high = S.high; absent = λ d h k. by d h k (ℕ_discrete d i) }
+    where
+      by : (d : ℕ) → i ≤ d → d < j → Dec (d ≡ i) → meets (item_set definitions masks d) wanted ≡ false
+      by d h k (yes q) = rw q e
+      by d h k (no n) = S.absent d (omega arith) k
+
+  pub skips-start : (skips : List ℕ) → length skips ≡ 129 → lines < 129 → SkipsFrom definitions masks wanted lines lines (set skips lines lines)
+  skips-start skips m h = record {
+    long = length-set skips lines lines ∙ m;
+    skip = λ i l k. let e : i ≡ lines = omega arith in rw (e, get_or-set_same skips lines lines 0 (omega arith)) skip-none;
+  }
+
   -- one line less is to come
   pub skip_step : {i j : ℕ} → 1 ≤ i → Skip definitions masks wanted lines i j → Skip definitions masks wanted lines (i - 1 + 1) j
   skip_step {i} {j} p S = let e : i - 1 + 1 ≡ i = omega arith in rw e S

@@ -15,7 +15,7 @@ use Rattle.grammar.specs.Formulas.FormulaCheck.{dot_of, line_at}
 use Rattle.grammar.specs.Formulas.FormulaCheckAll.{CoreIn}
 use Rattle.book.specs.Held.{kernel_at}
 use Rattle.items.specs.RestSets.{RestSetsIn}
-use Rattle.automaton.specs.StatesIn.{ItemsIn, Range, kernel_there, state-range}
+use Rattle.automaton.specs.StatesIn.{ItemsIn, Range, kernel_there, state-range, state-bounds}
 use Rattle.attributes.specs.Marks.{MarksIn, MarksRoom}
 use Rattle.attributes.specs.Checking.{CheckHeld}
 use Rattle.attributes.specs.MarkFronts.{LooksIn}
@@ -66,6 +66,9 @@ module _ {b : Book} {rules kernels bounds closures nullables begins reaches : Li
 
     pub looks-below : 32 * S + 32 ≤ length closures
     looks-below = omega (arith, H.items_in.closures_in.long, H.items_in.states_in.grammar_in.limits.states_limit.high)
+
+    pub bounds-below : S + 1 < length bounds
+    bounds-below = state-bounds H.items_in.states_in S s
 
     module _ {first last : ℕ} (first_is : first ≡ get_or bounds S 0) (last_is : last ≡ get_or bounds (S + 1) 0) where
       pub range : Range b S first last

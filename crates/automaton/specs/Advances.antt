@@ -10,6 +10,7 @@ use Rattle.std.specs.Prelude.{Option as Target, None, Some}
 use Rattle.std.proofs.Math.Option.{Option, none, some}
 use mathlib.Core.List.{List, [], ◌∷◌, ◌++◌}
 use Rattle.std.proofs.Math.Seq.{slice, slice_empty}
+use Rattle.grammar.specs.Limits.{MAX_STATES}
 use Rattle.grammar.specs.Data.Symbol.{Symbol, left_of, after}
 use Rattle.grammar.specs.Data.Book.{Book, Kernel}
 use Rattle.grammar.specs.Conditions.Meaning.{Declared, DeclaredKernel}
@@ -112,6 +113,9 @@ module _ {b : Book} {rules kernels bounds table : List ℕ} (h : MovesIn b rules
 
     pub target-within : T < b.states
     target-within = (led 0).target_is
+
+    pub target_low : T < MAX_STATES
+    target_low = omega (arith, target-within, h.states_in.grammar_in.limits.states_limit.high)
 
     pub target-range : Range b T (get_or bounds T 0) (get_or bounds (T + 1) 0)
     target-range = state-range h.states_in T target-within

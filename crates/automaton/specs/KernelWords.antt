@@ -14,6 +14,7 @@ use Rattle.grammar.specs.Automaton.Small.{number_of, low-at, Small}
 use Rattle.grammar.specs.Automaton.States.{start_kernel}
 use Rattle.book.specs.Layout.{symbol_code, last_of}
 use Rattle.book.specs.Held.{RulesIn, KernelsIn, kernel_at}
+use Rattle.items.specs.SymbolCodes.{code-low}
 
 -- kernel lines in an array, each with "one or more lookaheads, strictly ascending"
 pub record SpelledIn (ks : List Kernel) (kernels : List ℕ) : Type 0 where
@@ -142,6 +143,12 @@ module _ {b : Book} {rules kernels : List ℕ} (H : NamedIn b rules kernels) (i 
   pub before-low : number_of symbol < 32
   unfolding symbol_at
   before-low = low-at (right_of b.rules line.rule) (line.dot - 1) (H.small.right_low line.rule (H.rule_there i h))
+
+  pub word_low : {w : ℕ} → Some w ≡ word_before b.rules line → w < 64
+  word_low {w} e =
+      let behind = behind-word b.rules line (word-behind b.rules line e) in
+      let is : w ≡ symbol_code symbol = cc in
+      omega (arith, code-low symbol before-low)
 
   -- where the dot is in front
   pub word-front : {D : ℕ} → D ≡ get_or kernels (5 * i + 2) 0 → D ≡ 0 → None ≡ word_before b.rules line

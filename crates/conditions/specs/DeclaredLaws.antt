@@ -241,6 +241,9 @@ module _ {numbers : Book} {rules definitions : List ℕ} {i : ℕ} {x : Entry} (
   unfolding is_position
   position-asked e = ap₂ one_to (rule-size (declared-rule numbers.inherited e)) h.line_is.line_in.position_is
 
+  pub inherited-refused : definition_declared numbers.inherited x ≡ false → false ≡ inherited_line_declared x
+  inherited-refused e = sym (inherited-parts ∙ rw e)
+
 synthesized-parts : {numbers : Book} {b : Lines} (i : ℕ) → Counted numbers b
     → definition_declared numbers.synthesized (synthesized_entry b i) ≡ declared_synthesized b (synthesized_at b.synthesized_definitions i)
 unfolding definition_declared declared_synthesized leaves_declared

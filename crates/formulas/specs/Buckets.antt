@@ -1,7 +1,7 @@
 -- Laws of the search through a bucket and of a row that is added at its head. Nothing is asked of the hash but that it is below HEADS.
 -- Assumes nothing.
 use Prim.Native.Nat.{ℕ, zero, suc, ◌+◌, ◌*◌, ◌-◌, ◌^◌, ◌<◌, ◌≤◌}
-use Rattle.std.specs.Prelude.{◌≡◌, Bool, List, leb, length, get_or, set, replicate}
+use Rattle.std.specs.Prelude.{◌≡◌, Bool, Some, None, List, leb, length, get_or, set, replicate}
 use Rattle.std.proofs.Math.Path.{refl}
 use Rattle.std.proofs.Common.{sym, ap, ◌∙◌, add-one, length-set, get_or-set_same, get_or-set_other, below_more}
 use Rattle.std.proofs.Math.Bool.{true, false}
@@ -12,7 +12,7 @@ use borrow.Author.Tests.{eq-eqb, ne_eqb, eqb-true, eqb-false, leb-true, leb-fals
 use Rattle.formulas.specs.declared.nodes.Node.{Node}
 use Rattle.formulas.specs.declared.nodes.Row.{Row}
 use Rattle.formulas.specs.Nodes.{shown, row_of}
-use Rattle.formulas.specs.Table.{HEADS, row_at, stored, hash_of, hash_at, last_with, Table, Added}
+use Rattle.formulas.specs.Table.{HEADS, row_at, stored, hash_of, hash_at, last_with, Table, Added, Found}
 use Rattle.formulas.specs.Rows.{length-stored, row_other, row_here, grown-same}
 
 pub hash-low : (row : List ℕ) → hash_of row < HEADS
@@ -105,6 +105,12 @@ module _ {table heads nexts : List ℕ} {used : ℕ} (T : Table table heads next
 
   pub seek-less : {next : ℕ} → 1 ≤ next → Seeking table used row next → get_or nexts (next - 1) 0 < next
   seek-less {next} o S = omega (arith, T.nexts_are (next - 1) (omega (arith, S.within)), last_within (hash_at table) (hash_at table (next - 1)) (next - 1))
+
+  pub seek_hit : {next : ℕ} → 1 ≤ next → Seeking table used row next → row_at table (next - 1) ≡ row → Found table used row (Some (next - 1))
+  seek_hit {next} o S e = (omega (arith, S.within), e)
+
+  pub seek-end : {next : ℕ} → next ≡ 0 → Seeking table used row next → Found table used row None
+  seek-end o S = λ j h. S.above j (omega arith) h
 
 -- Interning
 

@@ -30,7 +30,10 @@ use Rattle.formulas.specs.PostfixLaws.{replacing, run-replace, takes, Ready, Fit
 use Rattle.formulas.specs.Steps.{step_of}
 use Rattle.formulas.specs.Formulas.{slot_for, own_for, operand_for, Safe, Makes, SlotIn, empty, full, OwnReads, in_slot, below, Reads, Numbered, Formed}
 
--- an operand that is new is interned
+-- an operand that is known adds nothing, one that is new is interned
+pub numbered-known : {table heads nexts : List ℕ} {used i : ℕ} → Table table heads nexts used → Numbered (Known i) table used table heads nexts i used
+numbered-known T = record { table = T; grown = grown-same; few = omega arith; means = λ m. m }
+
 pub numbered-new : {node : Node} {old new heads nexts : List ℕ} {used number count : ℕ} → Added node old used new heads nexts number count
     → Numbered (New node) old used new heads nexts number count
 numbered-new A = record { table = A.table; grown = A.grown; few = A.few; means = means-added A }

@@ -1,5 +1,5 @@
 -- Words that are all 0, as those of a closure without items, told by their gathered bits. Assumes nothing.
-use Rattle.std.specs.Prelude.{ℕ, ◌+◌, ◌<◌, ◌≡◌, List, get_or}
+use Rattle.std.specs.Prelude.{ℕ, ◌+◌, ◌<◌, ◌≤◌, ◌≡◌, List, get_or}
 use Rattle.std.proofs.Common.{arith}
 use Rattle.std.specs.Int.Bits.{bit_or}
 use Rattle.sets.specs.Bits.{below_suc}
@@ -18,3 +18,6 @@ pub nothing-more : (words : List ℕ) (first n bits : ℕ) → (bits ≡ 0 → N
 nothing-more words first n bits before e i l =
     let (none, last) = or-none bits (get_or words (first + n) 0) e in
     below_suc (λ j. get_or words (first + j) 0 ≡ 0) n i (omega arith) (before none i) last
+
+pub nothing-all : (words : List ℕ) (first : ℕ) {n m : ℕ} → Nothing words first n → m ≤ n → Nothing words first m
+nothing-all words first all l i h = all i (omega arith)

@@ -7,7 +7,7 @@ use Rattle.grammar.specs.Data.Symbol.{Symbol, right_of}
 use Rattle.grammar.specs.Automaton.Fixpoint.{visit, least}
 use Rattle.grammar.specs.Automaton.FirstSets.{Sets, nullable, sets_of, null, first}
 use Rattle.grammar.specs.Automaton.ReachSets.{reach_in, reach_rule, reach_sets}
-use Rattle.items.specs.Arrays.{SuffixesIn, ReachesIn}
+use Rattle.items.specs.Arrays.{flag, SuffixesIn, ReachesIn}
 use Rattle.items.specs.GrammarOf.{
   symbol_of,
   left_word,
@@ -66,22 +66,28 @@ module _ {words : List ℕ} {count nulls : ℕ} {nullables begins : List ℕ} (S
   unfolding nulls_of sets_of
   nulls-of = S.nulls_are
 
-  -- the words of one rule
-  pub rests_in : (P : ℕ) → P < count → RestsIn (sets_of (grammar_of words count)) (right_in words P) (9 * P) nullables begins
-  rests_in P h = record {
-    rest_is = λ D l. record {
-      null_is =
-          ap raised (S.suffixes_are.null_is P D inside (rw e l)) ∙ raised-flag _
-          ∙ ap (λ (β : List Symbol). null (sets_of (grammar_of words count)) (drop D β)) e;
-      first_is = S.suffixes_are.first_is P D inside (rw e l) ∙ ap (λ (β : List Symbol). first (sets_of (grammar_of words count)) (drop D β)) e;
-    };
-  }
+  -- the words of one rule, as they stand
+  pub rest-words : (P D : ℕ) → P < count → D ≤ length (right_in words P)
+      → (get_or nullables (9 * P + D) 0 ≡ flag (null (sets_of (grammar_of words count)) (drop D (right_in words P))))
+      × (get_or begins (9 * P + D) 0 ≡ first (sets_of (grammar_of words count)) (drop D (right_in words P)))
+  rest-words P D h l = (
+    S.suffixes_are.null_is P D inside (rw e l) ∙ ap (λ (β : List Symbol). flag (null (sets_of (grammar_of words count)) (drop D β))) e,
+    S.suffixes_are.first_is P D inside (rw e l) ∙ ap (λ (β : List Symbol). first (sets_of (grammar_of words count)) (drop D β)) e,
+  )
     where
       e : right_of (grammar_of words count) P ≡ right_in words P
       e = right_is words count P h
 
       inside : P < length (grammar_of words count)
       inside = rw (grammar-size words count) h
+
+  -- and what they tell
+  pub rests_in : (P : ℕ) → P < count → RestsIn (sets_of (grammar_of words count)) (right_in words P) (9 * P) nullables begins
+  rests_in P h = record {
+    rest_is = λ D l.
+        let exact = rest-words P D h l in
+        record { null_is = ap raised exact.0 ∙ raised-flag _; first_is = exact.1 };
+  }
 
   -- which are there
   pub rests-there : (P : ℕ) → P < count → (9 * P + 9 ≤ length nullables) × (9 * P + 9 ≤ length begins)

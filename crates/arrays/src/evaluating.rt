@@ -15,7 +15,6 @@ use attempts::rooms::{
 };
 use book::refusal::Refusal;
 use book::{Book, Room};
-use compiler::book_lines::BookLines;
 use compiler::tables::Tables;
 use definitions::definitions::WORDS;
 use packing::unpacking::{text_length, unpack};
@@ -40,16 +39,6 @@ fn short(words: &[u32], n: usize, tokens: &[u32], rows: &mut [u32]) -> Option<Re
     let mut fronts = [0u64; SHORT_STATES];
     let mut table = [255u8; 64 * SHORT_STATES];
     let mut actions = [0u8; 32 * SHORT_STATES];
-    let mut inherited = [0u32; Book::MAX_INHERITED as usize];
-    let mut synthesized = [0u32; Book::MAX_SYNTHESIZED as usize];
-    let mut lines = BookLines {
-        inherited: &mut inherited,
-        synthesized: &mut synthesized,
-        rules: &mut rules,
-        definitions: &mut definitions,
-        kernels: &mut kernels,
-        goes: &mut goes,
-    };
     let mut tables = Tables {
         nullables: &mut nullables,
         begins: &mut begins,
@@ -64,7 +53,10 @@ fn short(words: &[u32], n: usize, tokens: &[u32], rows: &mut [u32]) -> Option<Re
         &mut text,
         n,
         short_room(),
-        &mut lines,
+        &mut rules,
+        &mut definitions,
+        &mut kernels,
+        &mut goes,
         &mut tables,
         tokens,
         rows,
@@ -90,16 +82,6 @@ fn long(words: &[u32], n: usize, tokens: &[u32], rows: &mut [u32]) -> Result<u32
     let mut reaches = [0u32; 9 * Book::MAX_RULES as usize];
     let mut rules = [0u32; 10 * Book::MAX_RULES as usize];
     let mut definitions = [0u32; WORDS * Book::MAX_DEFINITIONS as usize];
-    let mut inherited = [0u32; Book::MAX_INHERITED as usize];
-    let mut synthesized = [0u32; Book::MAX_SYNTHESIZED as usize];
-    let mut lines = BookLines {
-        inherited: &mut inherited,
-        synthesized: &mut synthesized,
-        rules: &mut rules,
-        definitions: &mut definitions,
-        kernels: &mut kernels,
-        goes: &mut goes,
-    };
     let mut tables = Tables {
         nullables: &mut nullables,
         begins: &mut begins,
@@ -114,7 +96,10 @@ fn long(words: &[u32], n: usize, tokens: &[u32], rows: &mut [u32]) -> Result<u32
         &mut text,
         n,
         Room::full(),
-        &mut lines,
+        &mut rules,
+        &mut definitions,
+        &mut kernels,
+        &mut goes,
         &mut tables,
         tokens,
         rows,

@@ -14,7 +14,6 @@ use attempts::rooms::{
 };
 use book::refusal::Refusal;
 use book::{Book, Room};
-use compiler::book_lines::BookLines;
 use compiler::tables::Tables;
 use definitions::definitions::WORDS;
 
@@ -34,16 +33,6 @@ fn short(text: &[u8], words: &mut [u32]) -> Option<Result<(), Refusal>>
     let mut fronts = [0u64; SHORT_STATES];
     let mut table = [255u8; 64 * SHORT_STATES];
     let mut actions = [0u8; 32 * SHORT_STATES];
-    let mut inherited = [0u32; Book::MAX_INHERITED as usize];
-    let mut synthesized = [0u32; Book::MAX_SYNTHESIZED as usize];
-    let mut lines = BookLines {
-        inherited: &mut inherited,
-        synthesized: &mut synthesized,
-        rules: &mut rules,
-        definitions: &mut words[..WORDS * SHORT_DEFINITIONS],
-        kernels: &mut kernels,
-        goes: &mut goes,
-    };
     let mut tables = Tables {
         nullables: &mut nullables,
         begins: &mut begins,
@@ -54,7 +43,15 @@ fn short(text: &[u8], words: &mut [u32]) -> Option<Result<(), Refusal>>
         table: &mut table,
         actions: &mut actions,
     };
-    attempt(text, short_room(), &mut lines, &mut tables)
+    attempt(
+        text,
+        short_room(),
+        &mut rules,
+        &mut words[..WORDS * SHORT_DEFINITIONS],
+        &mut kernels,
+        &mut goes,
+        &mut tables,
+    )
 }
 
 // By arrays for any book. What is used first is made last.
@@ -73,16 +70,6 @@ fn long(text: &[u8], words: &mut [u32]) -> Result<(), Refusal>
     let mut begins = [0u32; 9 * Book::MAX_RULES as usize];
     let mut reaches = [0u32; 9 * Book::MAX_RULES as usize];
     let mut rules = [0u32; 10 * Book::MAX_RULES as usize];
-    let mut inherited = [0u32; Book::MAX_INHERITED as usize];
-    let mut synthesized = [0u32; Book::MAX_SYNTHESIZED as usize];
-    let mut lines = BookLines {
-        inherited: &mut inherited,
-        synthesized: &mut synthesized,
-        rules: &mut rules,
-        definitions: &mut words[..WORDS * Book::MAX_DEFINITIONS as usize],
-        kernels: &mut kernels,
-        goes: &mut goes,
-    };
     let mut tables = Tables {
         nullables: &mut nullables,
         begins: &mut begins,
@@ -93,7 +80,15 @@ fn long(text: &[u8], words: &mut [u32]) -> Result<(), Refusal>
         table: &mut table,
         actions: &mut actions,
     };
-    let Some(answer) = attempt(text, Room::full(), &mut lines, &mut tables) else {
+    let Some(answer) = attempt(
+        text,
+        Room::full(),
+        &mut rules,
+        &mut words[..WORDS * Book::MAX_DEFINITIONS as usize],
+        &mut kernels,
+        &mut goes,
+        &mut tables,
+    ) else {
         unreachable!()
     };
     answer

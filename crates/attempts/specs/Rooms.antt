@@ -1,11 +1,10 @@
--- The arrays of a book and its tables, as they are before anything is read: those that are as long as a room says, and those of one length.
+-- The arrays of a book and its tables that are as long as a room says, as they are before anything is read.
 -- Assumes nothing.
 use Rattle.std.specs.Prelude.{ℕ, ◌+◌, ◌*◌, ◌≤◌, ◌≡◌, refl, List, length, replicate, take}
 use Rattle.std.proofs.Common.{◌∙◌, arith, length-take}
-use Rattle.grammar.specs.Limits.{BOOK_WORDS, MAX_INHERITED, MAX_SYNTHESIZED, MAX_DEFINITIONS, MAX_KERNELS, MAX_GOES, MAX_RULES}
+use Rattle.grammar.specs.Limits.{BOOK_WORDS, MAX_DEFINITIONS, MAX_KERNELS, MAX_GOES, MAX_RULES}
 use Rattle.book.specs.declared.Room.{Room}
 use Rattle.book.specs.Rooms.{full_room}
-use Rattle.compiler.specs.declared.book_lines.BookLines.{BookLines}
 use Rattle.compiler.specs.declared.tables.Tables.{Tables}
 use Rattle.automaton.specs.GoTable.{Unset, unset-all}
 use Rattle.messages.specs.Zeros.{zeros}
@@ -35,15 +34,10 @@ pub record ArraysLent (room : Room) (rules definitions kernels goes nullables be
   pub kernels_few : room.kernels ≤ MAX_KERNELS
   pub goes_few : room.goes ≤ MAX_GOES
 
--- the same, lent in their structs
-abbrev pub ArraysIn : Room → BookLines → Tables → Type 0
-ArraysIn room l t =
-    ArraysLent room l.rules.now l.definitions.now l.kernels.now l.goes.now t.nullables.now t.begins.now t.reaches.now t.bounds.now t.closures.now
-    t.fronts.now t.table.now
-
--- the arrays of one length
-abbrev pub OwnersLent : BookLines → Type 0
-OwnersLent l = (length l.inherited.now ≡ MAX_INHERITED) × (length l.synthesized.now ≡ MAX_SYNTHESIZED)
+-- the same, those of the tables lent in their struct
+abbrev pub ArraysIn : Room → List ℕ → List ℕ → List ℕ → List ℕ → Tables → Type 0
+ArraysIn room rules definitions kernels goes t =
+    ArraysLent room rules definitions kernels goes t.nullables.now t.begins.now t.reaches.now t.bounds.now t.closures.now t.fronts.now t.table.now
 
 -- arrays of zeros, and a go table of 255s
 abbrev pub FreshArrays : Room → Type 0

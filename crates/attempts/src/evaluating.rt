@@ -1,6 +1,7 @@
 // A message under a stored book, by arrays of a room.
 ghost use Rattle.std.specs.Prelude.{List, ℕ, ◌+◌, ◌*◌, ◌≤◌, length};
-ghost use Rattle.attempts.specs.Rooms.{OwnersLent, ArraysIn};
+ghost use Rattle.compiler.specs.InArrays.{TablesStay};
+ghost use Rattle.attempts.specs.Rooms.{ArraysIn};
 ghost use Rattle.attempts.specs.Stored.{Found};
 ghost use Rattle.attempts.specs.Evaluations.{Asked};
 ghost use Rattle.attempts.specs.Attempts.{ReadIn, Responds, Attempts};
@@ -59,21 +60,35 @@ pub fn attempt(
     text: &mut [u8],
     n: usize,
     room: Room,
-    lines: &mut BookLines<'_>,
+    rules: &mut [u32],
+    definitions: &mut [u32],
+    kernels: &mut [u32],
+    goes: &mut [u32],
     tables: &mut Tables<'_>,
     tokens: &[u32],
     rows: &mut [u32],
 ) -> Option<Result<u32, Refusal>>
     requires { ((words : List ℕ) × Found words text.old n) × (n ≤ 5 * length tables.old.actions.now + 3)
-        × (32 * room.states ≤ length tables.old.actions.now) × (32 * room.states ≤ length text.old) × OwnersLent lines.old
-        × ArraysIn room lines.old tables.old }
-    ensures { Attempts room text.old n tokens.now (length rows.old) result rows.new }
+        × (32 * room.states ≤ length tables.old.actions.now) × (32 * room.states ≤ length text.old)
+        × ArraysIn room rules.old definitions.old kernels.old goes.old tables.old }
+    ensures stay { TablesStay tables.old tables.new }
+    ensures attempts { Attempts room text.old n tokens.now (length rows.old) result rows.new }
 {
     let classes = classes();
     let source = Source {
         classes: &classes,
         bytes: &text[..n],
     };
-    let compiled = compile(&source, room, lines, tables)?;
-    Some(respond(compiled, lines, tables, tokens, text, rows))
+    let mut inherited = [0u32; Book::MAX_INHERITED as usize];
+    let mut synthesized = [0u32; Book::MAX_SYNTHESIZED as usize];
+    let mut lines = BookLines {
+        inherited: &mut inherited,
+        synthesized: &mut synthesized,
+        rules,
+        definitions,
+        kernels,
+        goes,
+    };
+    let compiled = compile(&source, room, &mut lines, tables)?;
+    Some(respond(compiled, &lines, tables, tokens, text, rows))
 }

@@ -166,9 +166,9 @@ book_refused text b e = rw (e, refusal)
 -- ---- what was read
 
 module _ {text : List ℕ} {before stored : Arrays} {read : Option Book} (room : Room) (s : Spelling room text before read stored) where
-  pub compiles-misspelt : {nullables reaches bounds closures table actions : List ℕ} → read ≡ None
-      → Compiles room text (Some (Err Misspelt)) stored.inherited stored.synthesized stored.rules stored.definitions stored.kernels stored.goes
-      nullables reaches bounds closures table actions
+  -- whatever the arrays hold then
+  pub compiles-misspelt : {inherited synthesized rules definitions kernels goes nullables reaches bounds closures table actions : List ℕ} → read ≡ None
+      → Compiles room text (Some (Err Misspelt)) inherited synthesized rules definitions kernels goes nullables reaches bounds closures table actions
   unfolding answer_of number_of
   compiles-misspelt h = record {
     left_out = λ e. absurd (cc);

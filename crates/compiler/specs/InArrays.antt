@@ -1,5 +1,6 @@
 -- A book's lines and its tables in the arrays that are lent for them. Assumes nothing.
-use Rattle.std.specs.Prelude.{ℕ, List, Option, Result}
+use Rattle.std.specs.Prelude.{ℕ, ◌≡◌, List, length, Option, Result}
+use Rattle.std.specs.Borrow.{MutBor}
 use Rattle.grammar.specs.Data.Book.{Book as Lines}
 use Rattle.book.specs.declared.Book.{Book}
 use Rattle.book.specs.declared.Room.{Room}
@@ -13,6 +14,22 @@ use Rattle.compiler.specs.Conditions.{BookKept}
 use Rattle.compiler.specs.Prepared.{Prepared}
 use Rattle.compiler.specs.Compiling.{Checked, Compiles}
 
+-- an array that is lent in a struct keeps its length, and is the caller's still: it is the same borrow
+abbrev pub Stays : MutBor (List ℕ) → MutBor (List ℕ) → Type 0
+Stays old new = (length new.now ≡ length old.now) × (new.ghost_name ≡ old.ghost_name)
+
+-- each array of the lines
+abbrev pub LinesStay : BookLines → BookLines → Type 0
+LinesStay old new =
+    Stays old.inherited new.inherited × Stays old.synthesized new.synthesized × Stays old.rules new.rules × Stays old.definitions new.definitions
+    × Stays old.kernels new.kernels × Stays old.goes new.goes
+
+-- and of the tables
+abbrev pub TablesStay : Tables → Tables → Type 0
+TablesStay old new =
+    Stays old.nullables new.nullables × Stays old.begins new.begins × Stays old.reaches new.reaches × Stays old.bounds new.bounds
+    × Stays old.closures new.closures × Stays old.fronts new.fronts × Stays old.table new.table × Stays old.actions new.actions
+
 -- the arrays of the lines
 abbrev pub arrays_of : BookLines → Arrays
 arrays_of l = arrays l.inherited.now l.synthesized.now l.rules.now l.definitions.now l.kernels.now l.goes.now
@@ -22,9 +39,9 @@ abbrev pub KeptIn : Book → BookLines → Lines → Type 0
 KeptIn numbers l b = BookKept numbers l.inherited.now l.synthesized.now l.rules.now l.definitions.now l.kernels.now l.goes.now b
 
 -- what the tables are made of
-abbrev pub HeldIn : Book → BookLines → Lines → Type 0
-HeldIn numbers l b =
-    BookHeld b l.rules.now numbers.rules l.kernels.now numbers.kernels l.goes.now numbers.goes numbers.terminals numbers.states
+abbrev pub HeldIn : Book → List ℕ → List ℕ → List ℕ → Lines → Type 0
+HeldIn numbers rules kernels goes b =
+    BookHeld b rules numbers.rules kernels numbers.kernels goes numbers.goes numbers.terminals numbers.states
 
 -- room for the tables of a book
 abbrev pub RoomIn : Book → Tables → Type 0
@@ -38,9 +55,9 @@ LentIn room t =
     TablesLent room t.nullables.now t.begins.now t.reaches.now t.bounds.now t.closures.now t.fronts.now t.table.now t.actions.now
 
 -- the first of 7, 8 and 9 that applies, and the tables
-abbrev pub TabledIn : Lines → ℕ → BookLines → Tables → Type 0
-TabledIn b r l t =
-    Tabled b r l.rules.now t.nullables.now t.begins.now t.reaches.now t.bounds.now t.closures.now t.fronts.now t.table.now t.actions.now
+abbrev pub TabledIn : Lines → ℕ → List ℕ → Tables → Type 0
+TabledIn b r rules t =
+    Tabled b r rules t.nullables.now t.begins.now t.reaches.now t.bounds.now t.closures.now t.fronts.now t.table.now t.actions.now
 
 -- the first of 3 to 9
 abbrev pub PreparedIn : ℕ → Book → BookLines → Tables → Lines → Type 0

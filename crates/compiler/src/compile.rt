@@ -22,6 +22,8 @@ ghost use Rattle.compiler.specs.InArrays.{
   CheckedIn,
   CompilesIn,
   FrontsOf,
+  LinesStay,
+  TablesStay,
 };
 
 use super::book_lines::BookLines;
@@ -108,11 +110,11 @@ fn conditions(book: Book, lines: &BookLines<'_>) -> Result<(), Refusal>
 fn prepare(book: Book, lines: &BookLines<'_>, tables: &mut Tables<'_>) -> Result<(), Refusal>
     requires some { Some (KeptIn book lines.now) }
     requires tables_room { RoomIn book tables.old }
-    ensures as_long { length tables.new.begins.now ≡ length tables.old.begins.now }
+    ensures stay { TablesStay tables.old tables.new }
     ensures prepared { (b : Lines) → KeptIn book lines.now b → PreparedIn (answer_of result) book lines.now tables.new b }
 {
     conditions(book, lines)?;
-    fill_tables(book, lines, tables)
+    fill_tables(book, lines.rules, lines.kernels, lines.goes, tables)
 }
 
 // Whether each attribute has one formula in every partial state, by room for NODES nodes of formulas, which are made here alone: a table of four words for each.
@@ -185,7 +187,8 @@ fn formulas_right(book: Book, lines: &BookLines<'_>, tables: &Tables<'_>, leader
 fn check(book: Book, lines: &BookLines<'_>, tables: &mut Tables<'_>) -> Result<(), Refusal>
     requires some { Some (KeptIn book lines.now) }
     requires tables_room { RoomIn book tables.old }
-    ensures { (b : Lines) → KeptIn book lines.now b → CheckedIn (answer_of result) book lines.now tables.new b }
+    ensures stay { TablesStay tables.old tables.new }
+    ensures checked { (b : Lines) → KeptIn book lines.now b → CheckedIn (answer_of result) book lines.now tables.new b }
 {
     prepare(book, lines, tables)?;
     let leaders = fill_givers(
@@ -211,7 +214,9 @@ pub fn compile(
 ) -> Option<Result<Book, Refusal>>
     requires lent { WaitsRoom source.now.bytes.now tables.old.actions.now × Roomy room (arrays_of lines.old) }
     requires tables_lent { LentIn room tables.old }
-    ensures { CompilesIn room source.now.bytes.now result lines.new tables.new }
+    ensures lines_stay { LinesStay lines.old lines.new }
+    ensures tables_stay { TablesStay tables.old tables.new }
+    ensures compiles { CompilesIn room source.now.bytes.now result lines.new tables.new }
 {
     let Some(book) = spelling(
         source,

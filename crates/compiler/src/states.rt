@@ -10,9 +10,8 @@ ghost use Rattle.items.specs.Closures.{Blank};
 ghost use Rattle.automaton.specs.Fronts.{FrontsIn};
 ghost use Rattle.automaton.specs.GoTable.{Unset};
 ghost use Rattle.compiler.specs.States.{KernelsHeld, ItemsFilled, goes_right};
-ghost use Rattle.compiler.specs.InArrays.{HeldIn, RoomIn, TabledIn};
+ghost use Rattle.compiler.specs.InArrays.{HeldIn, RoomIn, TabledIn, TablesStay};
 
-use super::book_lines::BookLines;
 use super::tables::Tables;
 use automaton::actions::fill_actions;
 use automaton::go_rules::go_rules;
@@ -78,13 +77,15 @@ fn moves(
 // Fills the tables of a book, up to the first of 7, 8 and 9 that applies.
 pub fn fill_tables(
     book: Book,
-    lines: &BookLines<'_>,
+    rules: &[u32],
+    kernels: &[u32],
+    goes: &[u32],
     tables: &mut Tables<'_>,
 ) -> Result<(), Refusal>
-    requires book_held { (b : Lines) × HeldIn book lines.now b }
+    requires book_held { (b : Lines) × HeldIn book rules.now kernels.now goes.now b }
     requires tables_room { RoomIn book tables.old }
-    ensures as_long { length tables.new.begins.now ≡ length tables.old.begins.now }
-    ensures tabled { (b : Lines) → HeldIn book lines.now b → TabledIn b (answer_of result) lines.now tables.new }
+    ensures stay { TablesStay tables.old tables.new }
+    ensures tabled { (b : Lines) → HeldIn book rules.now kernels.now goes.now b → TabledIn b (answer_of result) rules.now tables.new }
 {
     // Each has a name of its own, for a step reads some while it fills others.
     let nullables = &mut *tables.nullables;
@@ -95,19 +96,13 @@ pub fn fill_tables(
     let fronts = &mut *tables.fronts;
     let table = &mut *tables.table;
     let actions = &mut *tables.actions;
-    if !kernel_rules(
-        lines.rules,
-        lines.kernels,
-        book.kernels,
-        book.states,
-        bounds,
-    ) {
+    if !kernel_rules(rules, kernels, book.kernels, book.states, bounds) {
         return Err(Refusal::Kernel);
     }
     fill_items(
-        lines.rules,
+        rules,
         book.rules,
-        lines.kernels,
+        kernels,
         book.states,
         bounds,
         nullables,
@@ -116,16 +111,16 @@ pub fn fill_tables(
         closures,
     );
     fill_fronts(
-        lines.rules,
+        rules,
         book.rules as usize,
         closures,
         book.states as usize,
         fronts,
     );
     if !moves(
-        lines.rules,
-        lines.kernels,
-        lines.goes,
+        rules,
+        kernels,
+        goes,
         book.goes,
         book.states,
         bounds,
@@ -136,8 +131,8 @@ pub fn fill_tables(
         return Err(Refusal::Go);
     }
     if !fill_actions(
-        lines.rules,
-        lines.kernels,
+        rules,
+        kernels,
         bounds,
         closures,
         fronts,

@@ -1,5 +1,4 @@
 use native.Mathlib.Omega.{arith}
-use Rattle.grammar.specs.Limits.{MAX_INHERITED, MAX_SYNTHESIZED}
 use Rattle.packing.specs.WordsLaws.{bytes-length}
 use Rattle.messages.specs.Zeros.{zeros}
 use Rattle.attempts.specs.Rooms.{full-arrays}
@@ -19,6 +18,5 @@ attempt-requires c = let e = c.full.ensures in (
   omega (arith, c.requires.0, c.requires.1.ends.within, bytes-length c.args.words.now, zeros 13107),
   rw e (omega (arith, zeros 13107)),
   rw e (omega (arith, c.unpack.auto.text, zeros 65536)),
-  (zeros MAX_INHERITED, zeros MAX_SYNTHESIZED),
   rw e full-arrays,
 )

@@ -1,5 +1,4 @@
 use native.Mathlib.Omega.{arith}
-use Rattle.grammar.specs.Limits.{MAX_INHERITED, MAX_SYNTHESIZED}
 use Rattle.messages.specs.Zeros.{zeros}
 use Rattle.attempts.specs.Rooms.{short-arrays}
 use Rattle.attempts.specs.Stored.{found-text}
@@ -11,6 +10,5 @@ attempt-requires c = let e = c.short_room.ensures in (
   omega (arith, c.requires.2, zeros 1024),
   rw e (omega (arith, zeros 1024)),
   rw e (omega (arith, c.unpack.auto.text, zeros 4096)),
-  (zeros MAX_INHERITED, zeros MAX_SYNTHESIZED),
   rw e short-arrays,
 )

@@ -30,9 +30,9 @@ record Filled (c : After-fill_fronts) (b : Book) : Type 0 where
   kernels-right : c.kernel_rules.result ≡ true
   bounds_in : BoundsIn b.kernels b.states c.kernel_rules.new.bounds
   items_filled : ItemsFilled b c.fill_items.new.nullables c.fill_items.new.begins c.fill_items.new.reaches c.fill_items.new.closures
-  fronts_in : FrontsIn b c.args.lines.now.rules.now c.fill_items.new.closures c.fill_fronts.new.fronts
+  fronts_in : FrontsIn b c.args.rules.now c.fill_items.new.closures c.fill_fronts.new.fronts
 
-filled : (c : After-fill_fronts) (b : Book) → HeldIn c.args.book c.args.lines.now b → Filled c b
+filled : (c : After-fill_fronts) (b : Book) → HeldIn c.args.book c.args.rules.now c.args.kernels.now c.args.goes.now b → Filled c b
 filled c b H =
     let R = c.kernel_rules.ensures b (held-rules H.kernels_held H.kernels_counted) H.kernels_held.states_are in
     let T = R.bounds_in c.if-not-kernel_rules.false in

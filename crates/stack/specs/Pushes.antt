@@ -1,5 +1,6 @@
 -- What a push does to the arrays: a token, or a rule's left side in the place of its right side. Assumes nothing.
 use Rattle.std.specs.Prelude.{ℕ, ◌+◌, ◌*◌, ◌-◌, ◌≤◌, ◌<◌, ◌≡◌, List, length, get_or, set, replicate}
+use Rattle.std.proofs.Common.{arith}
 use Rattle.grammar.specs.Limits.{MAX_STACK}
 use Rattle.stack.specs.declared.top.Top.{Top}
 use Rattle.stack.specs.Lists.{Gathers, gathered}
@@ -49,3 +50,7 @@ pub record NodePushed (top : Top) (target rule size owner start : ℕ) (fresh do
   pub depth_is : next.depth ≡ top.depth - size + 1
   pub count_is : next.rows ≡ top.rows + 1
   pub position_is : next.position ≡ top.position
+
+-- what is gathered stands in any source of the same length
+pub gathers_same : {lists source other : List ℕ} {A from : ℕ} → length other ≡ length source → Gathers lists A source from → Gathers lists A other from
+gathers_same e G = record { there = G.there; short = G.short; low = λ j l. omega (arith, G.low j l) }

@@ -1,5 +1,5 @@
 -- Laws of the words that leaves read. Assumes nothing.
-use Rattle.std.specs.Prelude.{◌≡◌, ℕ, ◌+◌, ◌*◌, ◌<◌, List, length, take, drop, slice_index}
+use Rattle.std.specs.Prelude.{◌≡◌, ℕ, ◌+◌, ◌*◌, ◌<◌, ◌≤◌, List, length, take, drop, slice_index}
 use Rattle.std.proofs.Common.{◌∙◌, arith, length-take, length-drop, get_or-take, get_or-drop}
 use Rattle.formulas.specs.declared.nodes.Stack.{Stack}
 use Rattle.formulas.specs.declared.nodes.Stack.TheVariants.{Inherited, Synthesized}
@@ -17,3 +17,7 @@ pub part_at : (inherited synthesized : List ℕ) (stack : Stack) (n k : ℕ) →
     → slice_index (part_of stack inherited synthesized n) k ≡ word_of stack inherited synthesized n k
 part_at inherited synthesized Inherited n k h = part-word 16 (16 * n) k inherited h
 part_at inherited synthesized Synthesized n k h = part-word 33 (33 * n) k synthesized h
+
+pub width_small : (stack : Stack) → width stack ≤ 33
+width_small Inherited = omega arith
+width_small Synthesized = omega arith

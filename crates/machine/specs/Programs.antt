@@ -34,7 +34,7 @@ ToldOver b ks c s rows m = Told b ks c s.states s.cells s.records s.starts rows 
 
 -- a configuration on the way to the machine's answer, and what a step tells of it
 abbrev pub UnderwayOver : Book → List Token → Stacks → List ℕ → Memory → Top → Type 0
-UnderwayOver b ks s rows m top = Underway b ks s.states s.cells s.records s.starts rows m.slots.now m.lists top
+UnderwayOver b ks s rows m top = Underway b ks s.states s.cells s.records s.starts rows m.slots.now m.lists.now top
 
 abbrev pub SteppedOver : Book → List Token → Top → Stacks → List ℕ → Memory → Result (Option Top) Refusal → Type 0
-SteppedOver b ks top s rows m told = Stepped b ks top s.states s.cells s.records s.starts rows m.slots.now m.lists told
+SteppedOver b ks top s rows m told = Stepped b ks top s.states s.cells s.records s.starts rows m.slots.now m.lists.now told

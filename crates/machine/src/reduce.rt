@@ -1,5 +1,5 @@
 // The reduce. The contract asks that the arrays hold some book and a configuration of its machine, and says its statement of all that they hold.
-ghost use Rattle.std.specs.Prelude.{List};
+ghost use Rattle.std.specs.Prelude.{◌≡◌, List};
 ghost use Rattle.grammar.specs.Data.Book.{Book as Lines};
 ghost use Rattle.grammar.specs.Evaluator.Tree.{Token};
 ghost use Rattle.grammar.specs.Evaluator.Machine.{Config};
@@ -26,9 +26,10 @@ pub fn reduce(
     requires room { RoomOver stacks.old rows.old }
     requires book_in { (b : Lines) × (ks : List Token) × (c : Config) × BookOver b program.now × LeftOver b program.now
         × PoisedOver b ks c stacks.old rows.old top × Reduces b c rule }
-    ensures { (b : Lines) (ks : List Token) (c : Config) → BookOver b program.now → LeftOver b program.now
+    ensures moved { (b : Lines) (ks : List Token) (c : Config) → BookOver b program.now → LeftOver b program.now
         → PoisedOver b ks c stacks.old rows.old top → Reduces b c rule
         → MovedOver b ks c stacks.new rows.new result }
+    ensures cells { stacks.new.cells ≡ stacks.old.cells }
 {
     if top.rows == Book::MAX_ROWS {
         return Err(Refusal::TooMany);

@@ -6,7 +6,7 @@ ghost use Rattle.grammar.specs.Data.Book.{Book};
 ghost use Rattle.grammar.specs.Evaluator.Tree.{Token};
 ghost use Rattle.grammar.specs.Evaluator.Machine.{evaluate};
 ghost use Rattle.grammar.specs.Engine.{tables_of};
-ghost use Rattle.plans.specs.Programs.{Remembers};
+ghost use Rattle.plans.specs.Programs.{Remembers, MemoryKept};
 ghost use Rattle.machine.specs.Programs.{RunOver};
 ghost use Rattle.machine.specs.RunningLaws.{Answered};
 ghost use Rattle.stack.specs.Standing.{Message};
@@ -29,8 +29,9 @@ pub fn run(
 ) -> Result<u32, Refusal>
     requires rows_long { length rows.old ≡ PAGE_WORDS }
     requires run_in { (b : Book) × (ks : List Token) × RunOver b ks program.now tokens.now × Message b ks × Remembers b memory.old }
-    ensures { (b : Book) (ks : List Token) → RunOver b ks program.now tokens.now → Message b ks → Remembers b memory.old
+    ensures answered { (b : Book) (ks : List Token) → RunOver b ks program.now tokens.now → Message b ks → Remembers b memory.old
         → Answered (evaluate b (tables_of b) ks) result rows.new }
+    ensures kept { MemoryKept memory.old memory.new }
 {
     stacks.states[0] = 0;
     let mut top = Top::empty();

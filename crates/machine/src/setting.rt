@@ -3,7 +3,7 @@
 ghost use Rattle.std.specs.Prelude.{List, ℕ, ◌*◌, ◌<◌};
 ghost use Rattle.grammar.specs.Data.Book.{Book};
 ghost use Rattle.grammar.specs.Evaluator.Machine.{Frame};
-ghost use Rattle.plans.specs.Programs.{PlansOver, Remembers};
+ghost use Rattle.plans.specs.Programs.{PlansOver, Remembers, MemoryKept};
 ghost use Rattle.cells.specs.Leaves.{Room};
 ghost use Rattle.machine.specs.Setting.{TopAsked, TopSet};
 
@@ -26,21 +26,16 @@ pub fn set_top(
     requires by_index { (b : Book) × (states : List ℕ) × (starts : List ℕ) × (st : List Frame)
         × TopAsked b program.now.definitions.now cells.old records.now state height states starts st × (state < b.states)
         × PlansOver b program.now × Remembers b memory.old }
-    ensures { (b : Book) (states starts : List ℕ) (st : List Frame)
+    ensures cell { (b : Book) (states starts : List ℕ) (st : List Frame)
         → TopAsked b program.now.definitions.now cells.old records.now state height states starts st → state < b.states
         → PlansOver b program.now → Remembers b memory.old
-        → TopSet b memory.new.slots.now memory.new.lists cells.old cells.new records.now state kind states starts st }
+        → TopSet b memory.new.slots.now memory.new.lists.now cells.old cells.new records.now state kind states starts st }
+    ensures kept { MemoryKept memory.old memory.new }
 {
     let slot = planned(program, state, kind, memory);
-    let n = memory.lists[17 * slot] as usize;
+    // The code needs but a `&`. After one, the proof knows no more of a slice in a struct that is lent than its length.
+    let lists = &mut *memory.lists;
+    let n = lists[17 * slot] as usize;
     let from = 17 * slot + 1;
-    set_cell(
-        program.definitions,
-        &memory.lists,
-        from,
-        n,
-        height,
-        cells,
-        records,
-    );
+    set_cell(program.definitions, lists, from, n, height, cells, records);
 }

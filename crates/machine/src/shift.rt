@@ -1,6 +1,6 @@
 // The shift.
 // The contract asks that the arrays hold some book and a configuration of its machine, and says its statement of all that they hold.
-ghost use Rattle.std.specs.Prelude.{List};
+ghost use Rattle.std.specs.Prelude.{◌≡◌, List};
 ghost use Rattle.grammar.specs.Data.Book.{Book as Lines};
 ghost use Rattle.grammar.specs.Evaluator.Tree.{Token};
 ghost use Rattle.grammar.specs.Evaluator.Machine.{Config};
@@ -28,9 +28,10 @@ pub fn shift(
     requires room { RoomOver stacks.old rows.old }
     requires by_index { (b : Lines) × (ks : List Token) × (c : Config) × BookOver b program.now
         × PoisedOver b ks c stacks.old rows.old top × Shifts b c state kind value }
-    ensures { (b : Lines) (ks : List Token) (c : Config) → BookOver b program.now
+    ensures moved { (b : Lines) (ks : List Token) (c : Config) → BookOver b program.now
         → PoisedOver b ks c stacks.old rows.old top → Shifts b c state kind value
         → MovedOver b ks c stacks.new rows.new result }
+    ensures cells { stacks.new.cells ≡ stacks.old.cells }
 {
     if top.rows == Book::MAX_ROWS {
         return Err(Refusal::TooMany);

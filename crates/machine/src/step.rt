@@ -5,6 +5,7 @@ ghost use Rattle.grammar.specs.Limits.{PAGE_WORDS};
 ghost use Rattle.grammar.specs.Data.Book.{Book};
 ghost use Rattle.grammar.specs.Evaluator.Tree.{Token};
 ghost use Rattle.grammar.specs.Evaluator.Machine.{Config};
+ghost use Rattle.plans.specs.Programs.{MemoryKept};
 ghost use Rattle.machine.specs.Programs.{RunOver, MovesOver, PoisedOver, ToldOver, UnderwayOver, SteppedOver};
 ghost use Rattle.machine.specs.Running.{Facing, Names};
 ghost use Rattle.stack.specs.declared.action.Action.TheVariants.{Due};
@@ -43,9 +44,10 @@ pub fn advance(
     requires room { RoomOver stacks.old rows.old }
     requires moves_in { (b : Book) × (ks : List Token) × (c : Config) × MovesOver b program.now × PoisedOver b ks c stacks.old rows.old top
         × Facing b c state kind value × Names b c (Due due) }
-    ensures { (b : Book) (ks : List Token) (c : Config) → MovesOver b program.now → PoisedOver b ks c stacks.old rows.old top
+    ensures told { (b : Book) (ks : List Token) (c : Config) → MovesOver b program.now → PoisedOver b ks c stacks.old rows.old top
         → Facing b c state kind value → Names b c (Due due)
         → ToldOver b ks c stacks.new rows.new result }
+    ensures cells { stacks.new.cells ≡ stacks.old.cells }
 {
     match due {
         Move::Shift => Ok(Some(shift(top, state, kind, value, program, stacks, rows)?)),
@@ -67,9 +69,10 @@ pub fn step(
     requires rows_long { length rows.old ≡ PAGE_WORDS }
     requires run_in { (b : Book) × (ks : List Token) × RunOver b ks program.now tokens.now × Message b ks
         × UnderwayOver b ks stacks.old rows.old memory.old top }
-    ensures { (b : Book) (ks : List Token) → RunOver b ks program.now tokens.now → Message b ks
+    ensures stepped { (b : Book) (ks : List Token) → RunOver b ks program.now tokens.now → Message b ks
         → UnderwayOver b ks stacks.old rows.old memory.old top
         → SteppedOver b ks top stacks.new rows.new memory.new result }
+    ensures kept { MemoryKept memory.old memory.new }
 {
     let depth = top.depth;
     let at = 2 * top.position;

@@ -41,9 +41,10 @@ fn message_run(
 {
     slots[..32 * book.states as usize].fill(0);
     // All arrays stand here, in front: what is made further down is cleared twice.
+    let mut lists = [0u8; 17 * PLANS + 1];
     let mut memory = Memory {
         slots,
-        lists: [0; 17 * PLANS + 1],
+        lists: &mut lists,
     };
     let mut stacks = Stacks {
         states: [0; Book::MAX_STACK + 1],

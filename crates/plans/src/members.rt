@@ -21,7 +21,7 @@ ghost use Rattle.plans.specs.Lines.{LinesIn};
 ghost use Rattle.plans.specs.LinesAdded.{Added};
 ghost use Rattle.plans.specs.Places.{PlacesIn, FrontFree};
 ghost use Rattle.plans.specs.Found.{FoundIn, FrontsFound, ItemLines};
-ghost use Rattle.plans.specs.Programs.{CheckOver, PlansOver};
+ghost use Rattle.plans.specs.Programs.{PlansWith};
 
 use super::program::Program;
 use attributes::masks::{front_set, reach_with};
@@ -83,11 +83,13 @@ fn add(found: &mut [u64], line: usize)
 
 // The definition in a line, if its item has the dot in front and reaches the terminal.
 fn front_line(program: &Program<'_>, line: usize, first: usize, terminal: u32, found: &mut [u64])
-    requires { ((b : Book) × (masks : List ℕ) × (L : List ℕ) × CheckOver b program.now masks
+    requires { ((b : Book) × (owned : List ℕ) × (masks : List ℕ) × (L : List ℕ)
+        × CheckHeld b program.now.definitions.now program.now.rules.now owned masks
         × LooksIn b.rules program.now.rules.now L program.now.closures.now first × (line < grammar.definitions b)
         × MarksRoom b.rules program.now.nullables.now program.now.reaches.now program.now.nullables.now)
         × (first + 32 ≤ length program.now.closures.now) × (terminal < 32) × (length found.old ≡ 2) }
-    ensures { (b : Book) (F : Sets) (R begins masks L : List ℕ) → CheckOver b program.now masks
+    ensures { (b : Book) (F : Sets) (R begins owned masks L : List ℕ)
+        → CheckHeld b program.now.definitions.now program.now.rules.now owned masks
         → LooksIn b.rules program.now.rules.now L program.now.closures.now first → line < grammar.definitions b
         → SuffixesIn b.rules F program.now.nullables.now begins → ReachesIn b.rules F R program.now.reaches.now
         → FrontsFound b F R terminal L line found.old → FrontsFound b F R terminal L (line + 1) found.new }
@@ -113,11 +115,13 @@ fn front_line(program: &Program<'_>, line: usize, first: usize, terminal: u32, f
 
 // The definitions whose items have the dot in front and reach the terminal, where none is found before.
 fn front_lines(program: &Program<'_>, first: usize, terminal: u32, found: &mut [u64])
-    requires { ((b : Book) × (masks : List ℕ) × (L : List ℕ) × CheckOver b program.now masks
+    requires { ((b : Book) × (owned : List ℕ) × (masks : List ℕ) × (L : List ℕ)
+        × CheckHeld b program.now.definitions.now program.now.rules.now owned masks
         × LooksIn b.rules program.now.rules.now L program.now.closures.now first × (program.now.lines ≡ grammar.definitions b)
         × MarksRoom b.rules program.now.nullables.now program.now.reaches.now program.now.nullables.now × PlacesIn b 0 program.now.places.now)
         × (first + 32 ≤ length program.now.closures.now) × (terminal < 32) × (length found.old ≡ 2) }
-    ensures { (b : Book) (F : Sets) (R begins masks L : List ℕ) → CheckOver b program.now masks
+    ensures { (b : Book) (F : Sets) (R begins owned masks L : List ℕ)
+        → CheckHeld b program.now.definitions.now program.now.rules.now owned masks
         → LooksIn b.rules program.now.rules.now L program.now.closures.now first → program.now.lines ≡ grammar.definitions b
         → SuffixesIn b.rules F program.now.nullables.now begins → ReachesIn b.rules F R program.now.reaches.now → PlacesIn b 0 program.now.places.now
         → FrontsFound b F R terminal L 0 found.old → FrontsFound b F R terminal L program.now.lines found.new }
@@ -147,12 +151,13 @@ fn item_lines(definitions: &[u32], lines: usize, place: usize, first: usize, fou
 
 // The definitions of the item of kernel line i, if it reaches the terminal.
 fn kernel_line(program: &Program<'_>, i: usize, terminal: u32, found: &mut [u64])
-    requires { ((b : Book) × (masks : List ℕ) × CheckOver b program.now masks
-        × (program.now.lines ≡ grammar.definitions b) × ItemLinesIn b program.now.kernels.now × (i < length b.kernels)
+    requires { ((b : Book) × (rules : List ℕ) × (owned : List ℕ) × (masks : List ℕ)
+        × CheckHeld b program.now.definitions.now rules owned masks × (program.now.lines ≡ grammar.definitions b)
+        × ItemLinesIn b program.now.kernels.now × (i < length b.kernels)
         × MarksRoom b.rules program.now.nullables.now program.now.reaches.now program.now.nullables.now × PlacesIn b 0 program.now.places.now)
         × (terminal < 32) × (length found.old ≡ 2) }
-    ensures { (b : Book) (F : Sets) (R begins masks : List ℕ) (items : List Core) → Ordered b
-        → CheckOver b program.now masks → program.now.lines ≡ grammar.definitions b
+    ensures { (b : Book) (F : Sets) (R begins rules owned masks : List ℕ) (items : List Core) → Ordered b
+        → CheckHeld b program.now.definitions.now rules owned masks → program.now.lines ≡ grammar.definitions b
         → ItemLinesIn b program.now.kernels.now → i < length b.kernels
         → SuffixesIn b.rules F program.now.nullables.now begins → ReachesIn b.rules F R program.now.reaches.now
         → PlacesIn b 0 program.now.places.now → FoundIn b F R terminal items found.old
@@ -185,12 +190,13 @@ fn kernel_line(program: &Program<'_>, i: usize, terminal: u32, found: &mut [u64]
 
 // Those of the kernel lines from `from` up to `to`, the last line first.
 fn kernel_lines(program: &Program<'_>, from: usize, to: usize, terminal: u32, found: &mut [u64])
-    requires { ((b : Book) × (masks : List ℕ) × CheckOver b program.now masks
-        × (program.now.lines ≡ grammar.definitions b) × ItemLinesIn b program.now.kernels.now × (to ≤ length b.kernels)
+    requires { ((b : Book) × (rules : List ℕ) × (owned : List ℕ) × (masks : List ℕ)
+        × CheckHeld b program.now.definitions.now rules owned masks × (program.now.lines ≡ grammar.definitions b)
+        × ItemLinesIn b program.now.kernels.now × (to ≤ length b.kernels)
         × MarksRoom b.rules program.now.nullables.now program.now.reaches.now program.now.nullables.now × PlacesIn b 0 program.now.places.now)
         × (from ≤ to) × (terminal < 32) × (length found.old ≡ 2) }
-    ensures { (b : Book) (F : Sets) (R begins masks : List ℕ) (items : List Core) → Ordered b
-        → CheckOver b program.now masks → program.now.lines ≡ grammar.definitions b
+    ensures { (b : Book) (F : Sets) (R begins rules owned masks : List ℕ) (items : List Core) → Ordered b
+        → CheckHeld b program.now.definitions.now rules owned masks → program.now.lines ≡ grammar.definitions b
         → ItemLinesIn b program.now.kernels.now → to ≤ length b.kernels
         → SuffixesIn b.rules F program.now.nullables.now begins → ReachesIn b.rules F R program.now.reaches.now
         → PlacesIn b 0 program.now.places.now → FoundIn b F R terminal items found.old
@@ -203,8 +209,8 @@ fn kernel_lines(program: &Program<'_>, from: usize, to: usize, terminal: u32, fo
 
 // The definitions whose items are in the partial state of a state and a terminal, where none is found before.
 pub fn members(program: &Program<'_>, state: usize, terminal: u32, found: &mut [u64])
-    requires { ((b : Book) × PlansOver b program.now × (state < b.states)) × (terminal < 32) × (found.old ≡ 0 ∷ 0 ∷ []) }
-    ensures { (b : Book) → PlansOver b program.now → state < b.states
+    requires { ((b : Book) × (owned : List ℕ) × PlansWith b program.now owned × (state < b.states)) × (terminal < 32) × (found.old ≡ 0 ∷ 0 ∷ []) }
+    ensures { (b : Book) (owned : List ℕ) → PlansWith b program.now owned → state < b.states
         → LinesIn b (listed (partial_at b (sets_of b.rules) (reach_sets b.rules (sets_of b.rules)) state terminal)) found.new }
 {
     let bounds = program.bounds;

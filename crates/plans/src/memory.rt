@@ -8,7 +8,7 @@ ghost use Rattle.grammar.specs.Formulas.PartialLaws.{partial_at};
 ghost use Rattle.grammar.specs.Formulas.FormulaCheck.{listed};
 ghost use Rattle.plans.specs.Lines.{LinesIn};
 ghost use Rattle.plans.specs.Plans.{PlansIn, PlanTold};
-ghost use Rattle.plans.specs.Programs.{CheckOver, PlansOver, Remembers};
+ghost use Rattle.plans.specs.Programs.{CheckOver, PlansOver, Remembers, MemoryKept};
 
 use super::members::members;
 use super::planning::plan;
@@ -47,8 +47,9 @@ fn plan_next(
 // the number of its lines, which follow. Most partial states have no item with a definition; their plans have no lines, and stand in slot 0.
 pub fn planned(program: &Program<'_>, state: usize, terminal: u32, memory: &mut Memory<'_>) -> usize
     requires { ((b : Book) × PlansOver b program.now × (state < b.states) × Remembers b memory.old) × (terminal < 32) }
-    ensures { (b : Book) → PlansOver b program.now → state < b.states → Remembers b memory.old
-        → PlanTold b memory.new.slots.now memory.new.lists state terminal result }
+    ensures plan { (b : Book) → PlansOver b program.now → state < b.states → Remembers b memory.old
+        → PlanTold b memory.new.slots.now memory.new.lists.now state terminal result }
+    ensures kept { MemoryKept memory.old memory.new }
 {
     let place = 32 * state + terminal as usize;
     if let Some(slot) = memory.slots[place].checked_sub(1) {
@@ -60,12 +61,5 @@ pub fn planned(program: &Program<'_>, state: usize, terminal: u32, memory: &mut 
         memory.slots[place] = 1;
         return 0;
     }
-    plan_next(
-        program,
-        &found,
-        state,
-        terminal,
-        memory.slots,
-        &mut memory.lists,
-    )
+    plan_next(program, &found, state, terminal, memory.slots, memory.lists)
 }

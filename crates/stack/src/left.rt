@@ -37,8 +37,9 @@ pub fn put_left(
 ) -> Top
     requires rows_long { length rows.old ≡ PAGE_WORDS }
     requires left_asked { (b : Lines) × (ks : List Token) × (c : Config) × LeftAskedOver b ks c program.now stacks.old rows.old top rule }
-    ensures { (b : Lines) (ks : List Token) (c : Config) → LeftAskedOver b ks c program.now stacks.old rows.old top rule
+    ensures goes { (b : Lines) (ks : List Token) (c : Config) → LeftAskedOver b ks c program.now stacks.old rows.old top rule
         → GoesOver b ks c stacks.new rows.new result }
+    ensures cells { stacks.new.cells ≡ stacks.old.cells }
 {
     let place = 10 * rule as usize;
     let owner = word(program.rules, place);
@@ -46,11 +47,13 @@ pub fn put_left(
     let below = top.depth - size;
     let mut values = [0u32; Book::MAX_OWNED as usize];
     node_values(
-        program,
+        program.definitions,
+        program.spans,
         rule as usize,
         size as u32,
         top.depth,
-        stacks,
+        &stacks.cells,
+        &stacks.records,
         &mut values,
     );
     let start = start_of(&stacks.starts, below, size, top.position as u32);

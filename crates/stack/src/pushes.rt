@@ -52,9 +52,27 @@ pub fn push_node(
         program.now stacks.old rows.old stacks.new rows.new result }
 {
     let below = top.depth - size;
-    node_record(program, rule as usize, values, &mut stacks.records, below);
+    node_record(
+        program.definitions,
+        program.spans,
+        rule as usize,
+        values,
+        &mut stacks.records,
+        below,
+    );
     stacks.states[below + 1] = target;
     stacks.starts[below] = start;
-    node_row(rows, top.rows, rule, start, owner, below, program, stacks);
+    node_row(
+        rows,
+        top.rows,
+        rule,
+        start,
+        owner,
+        below,
+        program.down,
+        &stacks.cells,
+        program.up,
+        &stacks.records,
+    );
     top.reduced(size)
 }

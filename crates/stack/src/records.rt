@@ -7,10 +7,8 @@ ghost use Rattle.stack.specs.NodeValues.{NodeAsked, NodeValues};
 ghost use Rattle.stack.specs.Records.{Stored};
 ghost use Rattle.stack.specs.PutValues.{Putting, lines_put, left_record};
 
-use super::stacks::Stacks;
 use cells::values::value;
 use items::words::word;
-use plans::program::Program;
 
 // The record of symbol `height` has no values.
 fn clear_record(records: &mut [u32], height: usize)
@@ -32,50 +30,44 @@ pub fn token_record(records: &mut [u32], height: usize, value: u32)
 
 // The synthesized values of a rule's left side, whose right side are the top `size` symbols of `height`: one for each line of the rule, in their order.
 pub fn node_values(
-    program: &Program<'_>,
+    definitions: &[u32],
+    spans: &[u32],
     rule: usize,
     size: u32,
     height: usize,
-    stacks: &Stacks,
+    cells: &[u32],
+    records: &[u32],
     values: &mut [u32],
 )
-    requires room { Room height stacks.now.cells stacks.now.records × (size ≤ height) × (length values.old ≡ MAX_OWNED) }
-    requires node_asked { (b : Book) × NodeAsked b program.now.definitions.now program.now.spans.now rule size }
-    ensures { (b : Book) → NodeAsked b program.now.definitions.now program.now.spans.now rule size
-        → NodeValues b rule (height - size) stacks.now.cells stacks.now.records
-        (left_record program.now.definitions.now program.now.spans.now values.new rule) }
+    requires room { Room height cells.now records.now × (size ≤ height) × (length values.old ≡ MAX_OWNED) }
+    requires node_asked { (b : Book) × NodeAsked b definitions.now spans.now rule size }
+    ensures { (b : Book) → NodeAsked b definitions.now spans.now rule size
+        → NodeValues b rule (height - size) cells.now records.now
+        (left_record definitions.now spans.now values.new rule) }
 {
-    let definitions = program.definitions;
-    let first = word(program.spans, rule);
-    let count = word(program.spans, rule + 1) - first;
+    let first = word(spans, rule);
+    let count = word(spans, rule + 1) - first;
     for i in 0..count {
-        values[i] = value(
-            definitions,
-            first + i,
-            size,
-            height,
-            &stacks.cells,
-            &stacks.records,
-        );
+        values[i] = value(definitions, first + i, size, height, cells, records);
     }
 }
 
 // The values of a rule's lines, each in the word of its attribute in the record of symbol `height`.
 fn put_values(
-    program: &Program<'_>,
+    definitions: &[u32],
+    spans: &[u32],
     rule: usize,
     values: &[u32],
     records: &mut [u32],
     height: usize,
 )
-    requires { (33 * height + 33 ≤ length records.old) × Putting program.now.definitions.now program.now.spans.now values.now rule }
+    requires { (33 * height + 33 ≤ length records.old) × Putting definitions.now spans.now values.now rule }
     ensures { records.new
-        ≡ lines_put program.now.definitions.now program.now.spans.now values.now rule (33 * height + 1) records.old }
+        ≡ lines_put definitions.now spans.now values.now rule (33 * height + 1) records.old }
 {
-    let definitions = program.definitions;
     let place = 33 * height + 1;
-    let first = word(program.spans, rule);
-    let count = word(program.spans, rule + 1) - first;
+    let first = word(spans, rule);
+    let count = word(spans, rule + 1) - first;
     for i in 0..count {
         let k = word(definitions, 49 * (first + i) + 2);
         records[place + k] = values[i];
@@ -84,16 +76,17 @@ fn put_values(
 
 // The record of symbol `height` is that of a rule's left side.
 pub fn node_record(
-    program: &Program<'_>,
+    definitions: &[u32],
+    spans: &[u32],
     rule: usize,
     values: &[u32],
     records: &mut [u32],
     height: usize,
 )
-    requires { (33 * height + 33 ≤ length records.old) × Putting program.now.definitions.now program.now.spans.now values.now rule }
-    ensures { Stored (33 * height) (left_record program.now.definitions.now program.now.spans.now values.now rule)
+    requires { (33 * height + 33 ≤ length records.old) × Putting definitions.now spans.now values.now rule }
+    ensures { Stored (33 * height) (left_record definitions.now spans.now values.now rule)
         records.old 33 records.new }
 {
     clear_record(records, height);
-    put_values(program, rule, values, records, height);
+    put_values(definitions, spans, rule, values, records, height);
 }

@@ -5,10 +5,8 @@ ghost use Rattle.book.specs.Layout.{write_at};
 ghost use Rattle.stack.specs.Lists.{Gathers, gathered};
 ghost use Rattle.stack.specs.Page.{token_stored, node_stored};
 
-use super::stacks::Stacks;
 use book::Book;
 use items::words::word;
-use plans::program::Program;
 
 // The words of `source` that the list of `owner` names, into the rows from `place` on.
 fn gather(lists: &[u32], owner: usize, source: &[u32], from: usize, rows: &mut [u32], place: usize)
@@ -43,32 +41,20 @@ pub fn node_row(
     start: u32,
     owner: usize,
     height: usize,
-    program: &Program<'_>,
-    stacks: &Stacks,
+    down: &[u32],
+    cells: &[u32],
+    up: &[u32],
+    records: &[u32],
 )
-    requires { (length rows.old ≡ PAGE_WORDS) × (row < MAX_ROWS) × (height ≤ MAX_STACK) × Gathers program.now.down.now owner stacks.now.cells (16 * height)
-        × Gathers program.now.up.now owner stacks.now.records (33 * height + 1) }
-    ensures { rows.new ≡ node_stored row rule start (gathered program.now.down.now owner stacks.now.cells (16 * height))
-        (gathered program.now.up.now owner stacks.now.records (33 * height + 1)) rows.old }
+    requires { (length rows.old ≡ PAGE_WORDS) × (row < MAX_ROWS) × (height ≤ MAX_STACK) × Gathers down.now owner cells.now (16 * height)
+        × Gathers up.now owner records.now (33 * height + 1) }
+    ensures { rows.new ≡ node_stored row rule start (gathered down.now owner cells.now (16 * height))
+        (gathered up.now owner records.now (33 * height + 1)) rows.old }
 {
     let place = Book::ROW_WORDS * row;
     rows[place..place + Book::ROW_WORDS].fill(0);
     rows[place] = rule;
     rows[place + 1] = start;
-    gather(
-        program.down,
-        owner,
-        &stacks.cells,
-        16 * height,
-        rows,
-        place + 2,
-    );
-    gather(
-        program.up,
-        owner,
-        &stacks.records,
-        33 * height + 1,
-        rows,
-        place + 6,
-    );
+    gather(down, owner, cells, 16 * height, rows, place + 2);
+    gather(up, owner, records, 33 * height + 1, rows, place + 6);
 }

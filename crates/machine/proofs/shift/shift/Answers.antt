@@ -10,13 +10,13 @@ use Rattle.machine.proofs.shift.shift.Goals.{Start}
 low : (c : Start) → ShiftLow c.requires.by_index.0 c.args.stacks.now.starts c.args.top c.args.state c.args.kind
 low c = let s = c.requires.by_index in shift-low s.3 s.4 s.5
 
-pub returns-then-top-eq-MAX_ROWS : goal.returns-then-top-eq-MAX_ROWS
+pub returns-then-top-eq-MAX_ROWS-clause-moved : goal.returns-then-top-eq-MAX_ROWS-clause-moved
 unfolding number_of
-returns-then-top-eq-MAX_ROWS c = λ b ks k B H X. record { tells = shift-rows B H.config_in X.action_is c.if-top-eq-MAX_ROWS.true }
+returns-then-top-eq-MAX_ROWS-clause-moved c = λ b ks k B H X. record { tells = shift-rows B H.config_in X.action_is c.if-top-eq-MAX_ROWS.true }
 
-pub returns-then-top-eq-MAX_STACK : goal.returns-then-top-eq-MAX_STACK
+pub returns-then-top-eq-MAX_STACK-clause-moved : goal.returns-then-top-eq-MAX_STACK-clause-moved
 unfolding number_of
-returns-then-top-eq-MAX_STACK c = λ b ks k B H X.
+returns-then-top-eq-MAX_STACK-clause-moved c = λ b ks k B H X.
     record { tells = shift-symbols B H.config_in X.action_is c.if-top-eq-MAX_ROWS.false c.if-top-eq-MAX_STACK.true }
 
 pub overflow_mul-target : goal.overflow_mul-target
@@ -39,8 +39,8 @@ push_token-requires-clause-depth_in_bounds c =
     let rows = room-left B H.config_in c.if-top-eq-MAX_ROWS.false in
     (omega (arith, l.depth_low, c.if-top-eq-MAX_STACK.false, c.requires.room.0.starts_long), rows, l.position_low, l.kind_low)
 
-pub returns : goal.returns
-returns c = λ b ks k B H X.
+pub returns-clause-moved : goal.returns-clause-moved
+returns-clause-moved c = λ b ks k B H X.
     record {
       tells = rw c.push_token.ensures.1
           (shift-told B H X c.requires.room.0 c.if-top-eq-MAX_ROWS.false c.if-top-eq-MAX_STACK.false c.push_token.ensures.0 refl);

@@ -27,8 +27,11 @@ bounds-program-state c = let (b, ks, R, M, U) = c.requires.run_in in
     let F = run-facing R M U c.word-state.ensures c.number-kind.ensures refl in
     omega (arith, F.state_there, F.kind_low, R.actions_in.long)
 
-pub returns-in_default : goal.returns-in_default
-returns-in_default c = λ b ks R M U.
+pub returns-in_default-clause-kept : goal.returns-in_default-clause-kept
+returns-in_default-clause-kept c = (refl, refl, refl, refl)
+
+pub returns-in_default-clause-stepped : goal.returns-in_default-clause-stepped
+returns-in_default-clause-stepped c = λ b ks R M U.
     run_none R M U c.word-state.ensures c.number-kind.ensures c.action_of-action.ensures c.in_default.is
 
 pub set_top-requires : goal.set_top-requires
@@ -54,7 +57,7 @@ pub advance-requires-clause-moves_in : goal.advance-requires-clause-moves_in
 advance-requires-clause-moves_in c = let (b, ks, R, M, U) = c.requires.run_in in
     let s = c.word-state.ensures in
     let k = c.number-kind.ensures in
-    let Q = run-set R M U s k c.set_top.ensures in (
+    let Q = run-set R M U s k c.set_top.ensures.cell in (
       b,
       ks,
       U.at,
@@ -64,9 +67,9 @@ advance-requires-clause-moves_in c = let (b, ks, R, M, U) = c.requires.run_in in
       run-due R M U s k c.action_of-action.ensures c.in-Due.is c.number-value.ensures Q,
     )
 
-pub returns : goal.returns
-returns c = λ b ks R M U.
+pub returns-clause-stepped : goal.returns-clause-stepped
+returns-clause-stepped c = λ b ks R M U.
     let s = c.word-state.ensures in
     let k = c.number-kind.ensures in
-    run-stepped R M U s k c.action_of-action.ensures c.in-Due.is c.number-value.ensures (run-set R M U s k c.set_top.ensures)
-    c.advance.ensures
+    run-stepped R M U s k c.action_of-action.ensures c.in-Due.is c.number-value.ensures (run-set R M U s k c.set_top.ensures.cell)
+    c.advance.ensures.told

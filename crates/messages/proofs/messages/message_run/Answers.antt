@@ -29,5 +29,5 @@ pub returns : goal.returns
 returns c = λ b t m. let (_, _, long) = c.requires.message in
     let sides = c.fill_sides.ensures b (asked-sides t.ready) in
     let places = c.mark_places.ensures b _ _ (places-asked t sides) (asked-formulas t.ready).definitions-counted (places-room t) (no_words 608) in
-    c.run.ensures b m.list (run_in t sides places m.tokens_are) (tokens-of t m)
+    c.run.ensures.answered b m.list (run_in t sides places m.tokens_are) (tokens-of t m)
     (plans-of t _ long (c.fill.ensures.after (λ y e. e)) (none-listed 255 (omega arith) (omega arith)))

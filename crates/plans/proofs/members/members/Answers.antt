@@ -13,11 +13,12 @@ use Rattle.plans.specs.MemoryLaws.{plans-check, plans-room}
 use Rattle.plans.proofs.members.members.Goals as goal
 
 pub front_lines-requires : goal.front_lines-requires
-front_lines-requires c = let (b, H, l) = c.requires.0 in
+front_lines-requires c = let (b, owned, H, l) = c.requires.0 in
     let F = H.formulas_held in
     let K = F.marks-held in (
       (
         b,
+        owned,
         _,
         closure_sets b (sets_of b.rules) c.args.state,
         plans-check H,
@@ -32,10 +33,12 @@ front_lines-requires c = let (b, H, l) = c.requires.0 in
     )
 
 pub kernel_lines-requires : goal.kernel_lines-requires
-kernel_lines-requires c = let (b, H, l) = c.requires.0 in
+kernel_lines-requires c = let (b, owned, H, l) = c.requires.0 in
     let lines = range H.formulas_held.marks-held l c.word-from.ensures c.word-to.ensures in (
       (
         b,
+        _,
+        owned,
         _,
         plans-check H,
         H.formulas_held.definitions-counted,
@@ -50,7 +53,7 @@ kernel_lines-requires c = let (b, H, l) = c.requires.0 in
     )
 
 pub returns : goal.returns
-returns c = λ b H l.
+returns c = λ b owned H l.
     let held = H.formulas_held in
     let K = held.marks-held in
     let F = sets_of b.rules in
@@ -67,7 +70,7 @@ returns c = λ b H l.
     let declared = FormulasHeld.declared held in
     found-lines limits declared held.ordered
     (found-state K l first last
-    (c.kernel_lines.ensures b F R H.begins _ _ held.ordered C e (item-lines K) (range K l first last).within N T H.places_in
+    (c.kernel_lines.ensures b F R H.begins _ owned _ _ held.ordered C e (item-lines K) (range K l first last).within N T H.places_in
     (fronts-found b F R a C e
-    (c.front_lines.ensures b F R H.begins _ closures C (state-looks K l) e N T H.places_in (none_found b F R a closures c.requires.2)))))
+    (c.front_lines.ensures b F R H.begins owned _ closures C (state-looks K l) e N T H.places_in (none_found b F R a closures c.requires.2)))))
     (listed-tell held.ordered limits declared c.args.state a)

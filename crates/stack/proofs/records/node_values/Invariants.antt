@@ -5,5 +5,5 @@ use Rattle.stack.specs.NodeValues.{NodeAsked}
 use Rattle.stack.proofs.records.node_values.Given as goal
 
 abbrev pub invariant-loop-i : goal.invariant-loop-i
-invariant-loop-i l = (b : Book) → NodeAsked b l.program.definitions.now l.program.spans.now l.rule l.size
-    → LeftBefore b l.rule (l.height - l.size) l.stacks.cells l.stacks.records l.program.definitions.now l.program.spans.now l.values l.i
+invariant-loop-i l = (b : Book) → NodeAsked b l.definitions l.spans l.rule l.size
+    → LeftBefore b l.rule (l.height - l.size) l.cells l.records l.definitions l.spans l.values l.i

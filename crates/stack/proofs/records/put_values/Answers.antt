@@ -11,7 +11,7 @@ loop-i-init c = putting-start
 
 pub loop-i-preserved : goal.loop-i-preserved
 loop-i-preserved c =
-    let turn : c.loop-i.i < line_count c.args.program.now.spans.now c.args.rule = omega (arith, c.loop-i-test.true, c.word.ensures, c.word-first.ensures) in
+    let turn : c.loop-i.i < line_count c.args.spans.now c.args.rule = omega (arith, c.loop-i-test.true, c.word.ensures, c.word-first.ensures) in
     let line : ℕ → ℕ = λ first. first + c.loop-i.i in
-    let attribute : c.word-k.result ≡ attribute_word c.args.program.now.definitions.now (line (get_or c.args.program.now.spans.now c.args.rule 0)) = c.word-k.ensures ∙ ap (λ n. attribute_word c.args.program.now.definitions.now (line n)) c.word-first.ensures in
+    let attribute : c.word-k.result ≡ attribute_word c.args.definitions.now (line (get_or c.args.spans.now c.args.rule 0)) = c.word-k.ensures ∙ ap (λ n. attribute_word c.args.definitions.now (line n)) c.word-first.ensures in
     putting-turn c.loop-i.invariant (turn) (attribute)

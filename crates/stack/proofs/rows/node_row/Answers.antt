@@ -12,7 +12,7 @@ use Rattle.stack.proofs.rows.node_row.Goals as goal
 
 pub returns : goal.returns
 returns c =
-    let values : List ℕ = gathered c.args.program.now.down.now c.args.owner c.args.stacks.now.cells (16 * c.args.height) in
+    let values : List ℕ = gathered c.args.down.now c.args.owner c.args.cells.now (16 * c.args.height) in
     let down : c.gather.new.rows
     ≡ write_at (10 * c.args.row + 2) values
     (set (set (cleared (10 * c.args.row) 10 c.args.rows.now) (10 * c.args.row) c.args.rule) (10 * c.args.row + 1) c.args.start) = c.gather.ensures

@@ -7,6 +7,7 @@
 #   make stack         how much stack the calls need
 #   make conformance   the stored cases through the two calls
 #   make prologues     whether compiled functions make their stack frames first (tests/check_prologues.py says why)
+#   make names         whether the library needs nothing of the C library but memset
 #
 # BASELINE=1 puts the baseline in the place of the engine.
 CFLAGS = -std=c11 -O2 -g -Wall -Wextra -Wconversion -Wshadow -Wpedantic -D_DEFAULT_SOURCE -Iinclude
@@ -26,7 +27,7 @@ endif
 BUILD = mkdir -p $(@D) && $(CC) $(CFLAGS) $(NAMES)
 HEADERS = include/message_book.h $(wildcard host/*.h bench/*.h bench/baseline/*.h)
 
-.PHONY: host trials bench differ stack conformance prologues books
+.PHONY: host trials bench differ stack conformance prologues names books
 host: $(OUT)/station $(OUT)/trials
 trials: host $(OUT)/station-sanitized $(OUT)/trials-sanitized
 	sh host/check.sh $(OUT)
@@ -40,6 +41,8 @@ conformance: $(OUT)/conformance
 	$< tests/vectors/*.txt
 prologues: target/staticlib/libengine.a
 	python3 tests/check_prologues.py $< $(wildcard $(DESK))
+names: target/staticlib/libengine.a
+	@names=$$(nm -u $< | awk 'NF == 2 { print $$2 }' | sort -u | xargs); echo "$< needs from outside: $$names"; test "$$names" = memset
 
 # The books of the benchmark, written anew by Python; they are kept in the repository.
 books:

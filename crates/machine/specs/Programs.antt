@@ -25,7 +25,7 @@ MovesOver b p = MovesIn b p.rules.now p.definitions.now p.spans.now p.down.now p
 abbrev pub PoisedOver : Book → List Token → Config → Stacks → List ℕ → Top → Type 0
 PoisedOver b ks c s rows top = Poised b ks c s.states s.cells s.records s.starts rows top
 
--- what a shift or a reduce tells, and what a move
+-- what a reduce tells, and what a move
 abbrev pub MovedOver : Book → List Token → Config → Stacks → List ℕ → Result Top Refusal → Type 0
 MovedOver b ks c s rows m = Moved b ks c s.states s.cells s.records s.starts rows m
 

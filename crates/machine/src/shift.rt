@@ -1,18 +1,17 @@
 // The shift.
 // The contract asks that the arrays hold some book and a configuration of its machine, and says its statement of all that they hold.
-ghost use Rattle.std.specs.Prelude.{◌≡◌, List};
+ghost use Rattle.std.specs.Prelude.{List, ℕ};
 ghost use Rattle.grammar.specs.Data.Book.{Book as Lines};
 ghost use Rattle.grammar.specs.Evaluator.Tree.{Token};
 ghost use Rattle.grammar.specs.Evaluator.Machine.{Config};
-ghost use Rattle.stack.specs.Programs.{RoomOver, BookOver};
-ghost use Rattle.machine.specs.Programs.{PoisedOver, MovedOver};
+ghost use Rattle.stack.specs.Pushes.{Stacks};
+ghost use Rattle.stack.specs.Standing.{BookIn};
+ghost use Rattle.machine.specs.Moving.{Poised, Moved};
 ghost use Rattle.machine.specs.ShiftMove.{Shifts};
 
 use book::Book;
 use book::refusal::Refusal;
-use plans::program::Program;
 use stack::pushes::push_token;
-use stack::stacks::Stacks;
 use stack::top::Top;
 
 // A shift: "push the token with its value".
@@ -21,17 +20,18 @@ pub fn shift(
     state: usize,
     kind: u32,
     value: u32,
-    program: &Program<'_>,
-    stacks: &mut Stacks,
+    table: &[u8],
+    states: &mut [u32],
+    records: &mut [u32],
+    starts: &mut [u32],
     rows: &mut [u32],
 ) -> Result<Top, Refusal>
-    requires room { RoomOver stacks.old rows.old }
-    requires by_index { (b : Lines) × (ks : List Token) × (c : Config) × BookOver b program.now
-        × PoisedOver b ks c stacks.old rows.old top × Shifts b c state kind value }
-    ensures moved { (b : Lines) (ks : List Token) (c : Config) → BookOver b program.now
-        → PoisedOver b ks c stacks.old rows.old top → Shifts b c state kind value
-        → MovedOver b ks c stacks.new rows.new result }
-    ensures cells { stacks.new.cells ≡ stacks.old.cells }
+    requires stacks { Stacks states.old records.old starts.old rows.old }
+    requires by_index { (b : Lines) × (ks : List Token) × (c : Config) × (rules definitions cells : List ℕ)
+        × BookIn b rules definitions table.now × Poised b ks c states.old cells records.old starts.old rows.old top × Shifts b c state kind value }
+    ensures { (b : Lines) (ks : List Token) (c : Config) (rules definitions cells : List ℕ) → BookIn b rules definitions table.now
+        → Poised b ks c states.old cells records.old starts.old rows.old top → Shifts b c state kind value
+        → Moved b ks c states.new cells records.new starts.new rows.new result }
 {
     if top.rows == Book::MAX_ROWS {
         return Err(Refusal::TooMany);
@@ -39,6 +39,6 @@ pub fn shift(
     if top.depth == Book::MAX_STACK {
         return Err(Refusal::TooDeep);
     }
-    let target = program.table[64 * state + kind as usize] as u32;
-    Ok(push_token(top, target, kind, value, stacks, rows))
+    let target = table[64 * state + kind as usize] as u32;
+    Ok(push_token(top, target, kind, value, states, records, starts, rows))
 }

@@ -50,7 +50,17 @@ pub fn advance(
     ensures cells { stacks.new.cells ≡ stacks.old.cells }
 {
     match due {
-        Move::Shift => Ok(Some(shift(top, state, kind, value, program, stacks, rows)?)),
+        Move::Shift => Ok(Some(shift(
+            top,
+            state,
+            kind,
+            value,
+            program.table,
+            &mut stacks.states,
+            &mut stacks.records,
+            &mut stacks.starts,
+            rows,
+        )?)),
         Move::Reduce(rule) => Ok(Some(reduce(top, rule, program, stacks, rows)?)),
         Move::Accept => Ok(None),
     }

@@ -1,5 +1,4 @@
--- A book that is taken in the arrays of a program, a configuration of its machine in the stacks and the rows, and what a push does to these.
--- Assumes nothing.
+-- A book that is taken in the arrays of a program, and a configuration of its machine in the stacks and the rows. Assumes nothing.
 use Rattle.std.specs.Prelude.{ℕ, ◌+◌, ◌*◌, ◌≡◌, List, length}
 use Rattle.std.proofs.Common.{arith}
 use Rattle.grammar.specs.Limits.{PAGE_WORDS}
@@ -11,7 +10,6 @@ use Rattle.stack.specs.declared.stacks.Stacks.{Stacks}
 use Rattle.stack.specs.declared.top.Top.{Top}
 use Rattle.stack.specs.LeftMove.{LeftAsked}
 use Rattle.stack.specs.Pushes as pushes
-use Rattle.stack.specs.Pushes.{TokenPushed, NodePushed}
 use Rattle.stack.specs.Standing.{BookIn, LeftIn, GoesOn}
 
 -- what every move reads, and what a reduce reads of left sides
@@ -30,17 +28,6 @@ pub room-over : (s : Stacks) {rows : List ℕ} → length s.states ≡ 129 → l
     → length rows ≡ PAGE_WORDS → RoomOver s rows
 room-over s a b c d e =
     (record { starts_long = d; states_long = omega arith; synthesized_long = omega arith; rows_long = e }, omega arith)
-
--- a token: the cells stay
-abbrev pub TokenPushedOver : Top → ℕ → ℕ → ℕ → Stacks → List ℕ → Stacks → List ℕ → Top → Type 0
-TokenPushedOver top target kind value s rows s' rows' next =
-    TokenPushed top target kind value s.states s.records s.starts rows s'.states s'.records s'.starts rows' next × (s'.cells ≡ s.cells)
-
--- the left side of a rule
-abbrev pub NodePushedOver : Top → ℕ → ℕ → ℕ → ℕ → ℕ → List ℕ → Program → Stacks → List ℕ → Stacks → List ℕ → Top → Type 0
-NodePushedOver top target rule size owner start fresh p s rows s' rows' next =
-    NodePushed top target rule size owner start fresh p.down.now s.cells p.up.now s.states s.records s.starts rows s'.states s'.records s'.starts rows' next
-    × (s'.cells ≡ s.cells)
 
 -- a reduce of rule P is due, and there is room for its row and its left side
 abbrev pub LeftAskedOver : Book → List Token → Config → Program → Stacks → List ℕ → Top → ℕ → Type 0

@@ -59,6 +59,21 @@ pub fn put_left(
     let start = start_of(&stacks.starts, below, size, top.position as u32);
     let target = program.table[64 * word(&stacks.states, below) + (32 + owner)] as u32;
     push_node(
-        top, target, rule, size, owner, start, &values, program, stacks, rows,
+        top,
+        target,
+        rule,
+        size,
+        owner,
+        start,
+        program.definitions,
+        program.spans,
+        &values,
+        program.down,
+        &stacks.cells,
+        program.up,
+        &mut stacks.states,
+        &mut stacks.records,
+        &mut stacks.starts,
+        rows,
     )
 }

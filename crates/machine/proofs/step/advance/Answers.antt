@@ -2,9 +2,9 @@ use Rattle.std.proofs.lemmas.Result.{err_from_is_err_and}
 use Rattle.machine.specs.Running.{due-accept, due-shift, due-reduce}
 use Rattle.machine.proofs.step.advance.Goals as goal
 
-pub shift-requires-clause-by_index : goal.shift-requires-clause-by_index
-shift-requires-clause-by_index c = let (b, ks, k, R, H, F, N) = c.requires.moves_in in
-    (b, ks, k, R.book_in, H, due-shift N F c.in-Shift.is)
+pub shift-requires : goal.shift-requires
+shift-requires c = let (b, ks, k, R, H, F, N) = c.requires.moves_in in
+    record { stacks = c.requires.room.0; by_index = (b, ks, k, _, _, _, R.book_in, H, due-shift N F c.in-Shift.is) }
 
 pub reduce-requires-clause-book_in : goal.reduce-requires-clause-book_in
 reduce-requires-clause-book_in c = let (b, ks, k, R, H, F, N) = c.requires.moves_in in
@@ -12,12 +12,12 @@ reduce-requires-clause-book_in c = let (b, ks, k, R, H, F, N) = c.requires.moves
 
 pub returns-in_ok-shift-in-Shift-clause-told : goal.returns-in_ok-shift-in-Shift-clause-told
 returns-in_ok-shift-in-Shift-clause-told c = λ b ks k R H F N.
-    record { tells = (c.in_ok-shift-in-Shift.ensures.moved b ks k R.book_in H (due-shift N F c.in-Shift.is)).tells }
+    record { tells = (c.in_ok-shift-in-Shift.ensures b ks k _ _ _ R.book_in H (due-shift N F c.in-Shift.is)).tells }
 
 pub returns-in_err-shift-in-Shift-clause-told : goal.returns-in_err-shift-in-Shift-clause-told
 returns-in_err-shift-in-Shift-clause-told c =
     let p = err_from_is_err_and c.from_residual.result c.from_residual.ensures.1 in
-    rw (p.1, p.2) (λ b ks k R H F N. record { tells = (c.in_err-shift-in-Shift.ensures.moved b ks k R.book_in H (due-shift N F c.in-Shift.is)).tells })
+    rw (p.1, p.2) (λ b ks k R H F N. record { tells = (c.in_err-shift-in-Shift.ensures b ks k _ _ _ R.book_in H (due-shift N F c.in-Shift.is)).tells })
 
 pub returns-in_ok-reduce-in-Reduce-clause-told : goal.returns-in_ok-reduce-in-Reduce-clause-told
 returns-in_ok-reduce-in-Reduce-clause-told c = λ b ks k R H F N.

@@ -81,15 +81,11 @@ push_node-requires c = let A = c.requires.left_asked.3 in
     let R = rooms (goal.at.push_node-requires c).Start in
     let long = c.node_values.auto.values in
     let putting = left-putting (left-asked A c.word-size.ensures c.word-owner.ensures) long in
-    record { rows_long = (c.requires.rows_long, putting); reducing = left-reducing A c.word-size.ensures c.word-owner.ensures R.0 R.1 }
-
-pub returns-clause-cells : goal.returns-clause-cells
-returns-clause-cells c = c.push_node.ensures.1
+    record { stacks = (R.0, putting); reducing = left-reducing A c.word-size.ensures c.word-owner.ensures R.0 R.1 }
 
 pub returns-clause-goes : goal.returns-clause-goes
 returns-clause-goes c = λ b ks k A.
     let R = rooms (goal.at.returns-clause-goes c).Start in
     let values = c.node_values.ensures b (left-asked A c.word-size.ensures c.word-owner.ensures) in
-    rw (returns-clause-cells c)
-    (left-pushed A c.word-size.ensures c.word-owner.ensures R.0 R.1 c.push_node.ensures.0 c.start_of-start.ensures values
-    (ap (λ n. get_or c.args.program.now.table.now (64 * n + (32 + c.word-owner.result)) 0) c.word.ensures))
+    left-pushed A c.word-size.ensures c.word-owner.ensures R.0 R.1 c.push_node.ensures c.start_of-start.ensures values
+    (ap (λ n. get_or c.args.program.now.table.now (64 * n + (32 + c.word-owner.result)) 0) c.word.ensures)

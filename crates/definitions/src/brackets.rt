@@ -100,7 +100,7 @@ fn bracket(source: &Source<'_>, at: usize, word: u32) -> BeginningRead
 }
 
 // How the expression at a position begins.
-pub(crate) fn any_begun(source: &Source<'_>, at: usize) -> BeginningRead
+pub fn any_begun(source: &Source<'_>, at: usize) -> BeginningRead
     ensures { Shows (begun (rest source.now.bytes.now at)) source.now.bytes.now result }
 {
     let a = source.mark(at, text::OPEN);

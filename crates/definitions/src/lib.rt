@@ -7,3 +7,5 @@ pub mod ended;
 pub mod expression;
 pub mod nodes;
 pub mod short;
+#[cfg(test)]
+mod tests;

@@ -112,7 +112,7 @@ fn short_number(source: &Source<'_>, at: usize) -> Option<BeginningRead>
 }
 
 // How the expression at a position begins.
-pub(crate) fn short_begun(source: &Source<'_>, at: usize) -> Option<BeginningRead>
+pub fn short_begun(source: &Source<'_>, at: usize) -> Option<BeginningRead>
     requires { at ≤ length source.now.bytes.now }
     ensures { IfSome result (λ read. Shows (begun (rest source.now.bytes.now at)) source.now.bytes.now read) }
 {
